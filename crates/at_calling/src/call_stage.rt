@@ -15,7 +15,6 @@ use crate::reading::Reading;
 use at_board::{Board, BoardSeat};
 use at_ledger::{Call, Reply, Targets};
 use at_object::Rest;
-use std::mem::{drop, replace};
 
 /// What a call's next turn goes on with.
 #[derive(Drop)]
@@ -33,14 +32,6 @@ pub(crate) enum CallStage {
 }
 
 impl CallStage {
-    /// Goes on with this.
-    pub(crate) fn become_next(&mut self, next: CallStage)
-        ensures { self.new ≡ next }
-    {
-        // A call drops what stood here: an assignment would write that out, variant by variant.
-        drop(replace(self, next));
-    }
-
     /// What a call begins with, by what it is. It makes no step.
     pub(crate) fn first(board: &Board, seat: &BoardSeat, rest: &Rest, call: &Call) -> CallStage
         requires board { IsOf seat.now board.now }

@@ -23,6 +23,7 @@ use crate::call_stage::CallStage;
 use at_board::{Board, BoardSeat};
 use at_ledger::{Call, Reply};
 use at_log::{At, Receipt};
+use at_machines::become_next;
 use at_object::{Rest, sent_after};
 use std::marker::Model;
 use std::snapshot::Snapshot;
@@ -149,7 +150,7 @@ impl Calling {
             (Some result) }
     {
         seat.known();
-        self.stage.become_next(CallStage::Refused);
+        become_next(&mut self.stage, CallStage::Refused);
         let answer = rest.refuse(reply);
         self.rest = Snapshot::of(rest);
         receipt_of(&self.call, answer)

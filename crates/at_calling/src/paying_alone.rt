@@ -21,7 +21,7 @@ use at_board::{Board, BoardSeat, Entry};
 use at_fold::Totals;
 use at_ledger::{Reply, Targets};
 use at_log::{At, Record};
-use at_machines::{Appending, Looking};
+use at_machines::{Appending, Looking, become_next};
 use at_single::covers;
 use std::marker::Model;
 use std::snapshot::Snapshot;
@@ -172,13 +172,15 @@ impl PayingAlone {
         let front = looked?;
         seat.known();
         if !covers(totals, self.from, &self.targets) {
-            self.stage.become_next(PayStage::Short);
+            become_next(&mut self.stage, PayStage::Short);
             return Some((Reply::Short, At::Front(front)));
         }
         // The front stays one, and what it covers stays covered, whatever others publish before this record.
         let rec = record_of(self.from, &self.targets, front);
-        self.stage
-            .become_next(PayStage::Append(Appending::start(seat, rec)));
+        become_next(
+            &mut self.stage,
+            PayStage::Append(Appending::start(seat, rec)),
+        );
         None
     }
 

@@ -26,6 +26,7 @@ use at_board::{Board, BoardSeat};
 use at_fold::Totals;
 use at_ledger::{Reply, Targets};
 use at_log::At;
+use at_machines::become_next;
 use at_shared::HelpTurn;
 use std::marker::Model;
 use std::snapshot::Snapshot;
@@ -190,7 +191,7 @@ impl PayingShared {
         seat.known();
         let helping = started?;
         let turning = Turning::start(board, seat, totals, &helping);
-        self.stage.become_next(ShareStage::Help(helping, turning));
+        become_next(&mut self.stage, ShareStage::Help(helping, turning));
         None
     }
 
@@ -224,11 +225,11 @@ impl PayingShared {
         self.totals = Snapshot::of(totals);
         seat.known();
         if let HelpTurn::Settled(answer) = helped? {
-            self.stage.become_next(ShareStage::Ended);
+            become_next(&mut self.stage, ShareStage::Ended);
             return Some(answer);
         }
         // The round of another request was published, and few are decided before this one: the next turn of helping begins.
-        turning.become_next(Turning::start(board, seat, totals, helping));
+        become_next(turning, Turning::start(board, seat, totals, helping));
         None
     }
 }

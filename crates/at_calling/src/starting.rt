@@ -22,7 +22,7 @@ use at_base::Counts;
 use at_board::{Board, BoardSeat};
 use at_fold::Totals;
 use at_ledger::Targets;
-use at_machines::{Asking, CollectingRows, Looking};
+use at_machines::{Asking, CollectingRows, Looking, become_next};
 use at_shared::Helping;
 use std::marker::Model;
 use std::snapshot::Snapshot;
@@ -171,7 +171,7 @@ impl Starting {
         let targets = self.targets.copy();
         // What is settled at the front stays so, whatever others publish before the request is announced.
         let asking = asking_at(seat, self.account, targets, &front);
-        self.stage.become_next(StartStage::Ask(asking));
+        become_next(&mut self.stage, StartStage::Ask(asking));
         None
     }
 
@@ -197,7 +197,7 @@ impl Starting {
         // Others may ask at once after each load of the rows. Whoever isn't found asked after this request was announced, and
         // waits less long.
         let collecting = CollectingRows::start(seat, self.account, asking.opened(slot, number));
-        self.stage.become_next(StartStage::Collect(collecting));
+        become_next(&mut self.stage, StartStage::Collect(collecting));
         None
     }
 

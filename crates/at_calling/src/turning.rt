@@ -18,10 +18,9 @@ use crate::turn_stage::TurnStage;
 use at_base::Decision;
 use at_board::{Board, BoardSeat};
 use at_fold::Totals;
-use at_machines::{Deciding, Looking};
+use at_machines::{Deciding, Looking, become_next};
 use at_shared::{HelpTurn, Helping, answer_in};
 use std::marker::Model;
-use std::mem::{drop, replace};
 use std::snapshot::Snapshot;
 
 /// A turn of helping in the making: a look, and where the request is unsettled at its front, one round.
@@ -78,14 +77,6 @@ impl Turning {
             was: Snapshot::of(totals),
             totals: Snapshot::of(totals),
         }
-    }
-
-    /// Goes on with this.
-    pub(crate) fn become_next(&mut self, next: Turning)
-        ensures { self.new ≡ next }
-    {
-        // A call drops what stood here: an assignment would write that out, field by field.
-        drop(replace(self, next));
     }
 
     /// Makes the next step of the turn of helping. Where the request is settled at the front of the look, it answers with the
@@ -191,12 +182,12 @@ impl Turning {
         let front = looked?;
         seat.known();
         if let Some((round, decision)) = helping.settled(totals) {
-            self.stage.become_next(TurnStage::Found);
+            become_next(&mut self.stage, TurnStage::Found);
             return Some(HelpTurn::Settled(answer_in(round, &decision)));
         }
         // What is proposed is fixed here. Others may publish and decide before the exchange, and the front stays one.
         let deciding = Deciding::start(board, seat, totals, helping, front);
-        self.stage.become_next(TurnStage::Decide(deciding));
+        become_next(&mut self.stage, TurnStage::Decide(deciding));
         None
     }
 

@@ -10,6 +10,42 @@ use Rattle.at_snapshot.specs.Collected.{IsCollecting}
 use Rattle.at_machines.specs.Appending.{AppendingTerms, publication_of}
 use Rattle.at_machines.specs.Collecting.{CollectingTerms}
 use Rattle.at_machines.specs.Loading.{LoadingTerms}
+use Rattle.at_machines.specs.declared.appending.Appending.TheInside as appending
+use Rattle.at_machines.specs.declared.collecting.Collecting.TheInside as collecting
+use Rattle.at_machines.specs.declared.loading_entry.LoadingEntry.TheInside as entry
+use Rattle.at_machines.specs.declared.loading_view.LoadingView.TheInside as view
+
+-- the terms of their fields
+abbrev pub loading_entry_of : entry.Inside → LoadingTerms
+loading_entry_of l = record {
+  knows = l.seat.value.knows;
+  process = l.process;
+  number = l.number;
+  loaded = l.loaded;
+}
+
+abbrev pub loading_view_of : view.Inside → LoadingTerms
+loading_view_of l = record {
+  knows = l.seat.value.knows;
+  process = l.process;
+  number = l.number;
+  loaded = l.loaded;
+}
+
+abbrev pub collecting_of : collecting.Inside → CollectingTerms
+collecting_of c = record {
+  start = c.start.value.knows;
+  mark = c.mark.value.knows;
+  loaded = c.loaded;
+}
+
+abbrev pub appending_of : appending.Inside → AppendingTerms
+appending_of a = record {
+  start = a.start.value.knows;
+  mark = a.mark.value.knows;
+  rec = a.rec;
+  stored = a.stored;
+}
 
 -- what a collect's type keeps: since the start the lengths of so many processes are loaded, in their order, and these are the numbers
 pub record IsCollectingSo (c : CollectingTerms) (counts : List ℕ) : Type 0 where

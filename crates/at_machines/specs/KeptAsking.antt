@@ -6,6 +6,18 @@ use Rattle.at_board.specs.declared.words.TheConstants.{REQUEST_WORDS}
 use Rattle.at_rows.specs.Asks.{MayAskFor}
 use Rattle.at_rows.specs.Storing.{IsStoringRequest}
 use Rattle.at_machines.specs.Asking.{AskingTerms, request_asked}
+use Rattle.at_machines.specs.declared.asking.Asking.TheInside.{Inside}
+
+-- the terms of its fields
+abbrev pub asking_of : Inside → AskingTerms
+asking_of a = record {
+  start = a.start.value.knows;
+  mark = a.mark.value.knows;
+  account = a.account;
+  targets = a.targets;
+  since = a.since;
+  stored = a.stored;
+}
 
 -- at the start the seat might ask for the request, and until that is announced so many of its words are stored since then, and
 -- nothing else has changed

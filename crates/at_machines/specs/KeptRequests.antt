@@ -5,6 +5,18 @@ use Rattle.at_board.specs.Steps.LoadRequestWord.{KnowsOf}
 use Rattle.at_board.specs.declared.words.TheConstants.{REQUEST_WORDS}
 use Rattle.at_rows.specs.Loading.{IsLoaded}
 use Rattle.at_machines.specs.LoadingRequest.{LoadingRequestTerms}
+use Rattle.at_machines.specs.declared.loading_request.LoadingRequest.TheInside.{Inside}
+
+-- the terms of its fields
+abbrev pub loading_request_of : Inside → LoadingRequestTerms
+loading_request_of l = record {
+  start = l.start.value.knows;
+  mark = l.mark.value.knows;
+  account = l.account;
+  slot = l.slot;
+  number = l.number;
+  loaded = l.loaded;
+}
 
 -- at the start the seat knew of the request, and so many of its words are loaded since then, and nothing else has changed
 pub record IsLoadingRequestSo (l : LoadingRequestTerms) (words : List ℕ) : Type 0 where

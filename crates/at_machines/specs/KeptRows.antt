@@ -11,10 +11,22 @@ use Rattle.at_rows.specs.Asks.{HasAsked}
 use Rattle.at_rows.specs.Collecting.{IsCollectingRows}
 use Rattle.at_rows.specs.OpenRequests.{request_of}
 use Rattle.at_rows.specs.declared.open_request.OpenRequest.{OpenRequest}
-use Rattle.at_machines.specs.LoadingRow.{LoadingRowTerms, row_turns}
+use Rattle.at_machines.specs.LoadingRow.{LoadingRowTerms, next_in_row, row_turns}
 use Rattle.at_machines.specs.LoadingRow.NextRowLoad.{nothing}
 use Rattle.at_machines.specs.declared.row_stage.RowStage.{RowStage}
+use Rattle.at_machines.specs.declared.loading_row.LoadingRow.TheInside.{Inside}
 use Rattle.at_machines.specs.declared.row_stage.RowStage.TheVariants.{Announced, Last, Ended}
+
+-- the terms of its fields
+abbrev pub loading_row_of : Inside → LoadingRowTerms
+loading_row_of r = record {
+  start = r.start.value.knows;
+  mark = r.mark.value.knows;
+  account = r.account;
+  slot = r.slot;
+  own = r.own;
+  next = next_in_row r.stage;
+}
 
 -- of a stage: nothing is loaded yet; or the announced word of another owner was, which counts the request that is loaded as the last
 abbrev pub IsRowStageSo : LoadingRowTerms → RowStage → Type 0

@@ -26,24 +26,15 @@ pub struct Appending {
 }
 
 impl Model for Appending {
-    ghost use Rattle.at_machines.specs.Kept.{IsAppendingSo};
     ghost use Rattle.at_machines.specs.Appending.{AppendingTerms};
 
     ghost Value = { AppendingTerms };
 
-    ghost view = { λ a. record {
-      start = a.start.value.knows;
-      mark = a.mark.value.knows;
-      rec = a.rec;
-      stored = a.stored;
-    } };
+    ghost use Rattle.at_machines.specs.Kept.{IsAppendingSo, appending_of};
 
-    ghost invariant = { λ a. IsAppendingSo (record {
-      start = a.start.value.knows;
-      mark = a.mark.value.knows;
-      rec = a.rec;
-      stored = a.stored;
-    }) };
+    ghost view = { appending_of };
+
+    ghost invariant = { λ a. IsAppendingSo (appending_of a) };
 }
 
 impl Appending {

@@ -30,28 +30,15 @@ pub struct Asking {
 }
 
 impl Model for Asking {
-    ghost use Rattle.at_machines.specs.KeptAsking.{IsAskingSo};
     ghost use Rattle.at_machines.specs.Asking.{AskingTerms};
 
     ghost Value = { AskingTerms };
 
-    ghost view = { λ a. record {
-      start = a.start.value.knows;
-      mark = a.mark.value.knows;
-      account = a.account;
-      targets = a.targets;
-      since = a.since;
-      stored = a.stored;
-    } };
+    ghost use Rattle.at_machines.specs.KeptAsking.{IsAskingSo, asking_of};
 
-    ghost invariant = { λ a. IsAskingSo (record {
-      start = a.start.value.knows;
-      mark = a.mark.value.knows;
-      account = a.account;
-      targets = a.targets;
-      since = a.since;
-      stored = a.stored;
-    }) };
+    ghost view = { asking_of };
+
+    ghost invariant = { λ a. IsAskingSo (asking_of a) };
 }
 
 impl Asking {

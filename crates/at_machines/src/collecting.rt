@@ -23,22 +23,15 @@ pub struct Collecting {
 }
 
 impl Model for Collecting {
-    ghost use Rattle.at_machines.specs.Kept.{IsCollectingSo};
     ghost use Rattle.at_machines.specs.Collecting.{CollectingTerms};
 
     ghost Value = { CollectingTerms };
 
-    ghost view = { λ c. record {
-      start = c.start.value.knows;
-      mark = c.mark.value.knows;
-      loaded = c.loaded;
-    } };
+    ghost use Rattle.at_machines.specs.Kept.{IsCollectingSo, collecting_of};
 
-    ghost invariant = { λ c. IsCollectingSo (record {
-      start = c.start.value.knows;
-      mark = c.mark.value.knows;
-      loaded = c.loaded;
-    }) c.counts };
+    ghost view = { collecting_of };
+
+    ghost invariant = { λ c. IsCollectingSo (collecting_of c) c.counts };
 }
 
 impl Collecting {

@@ -26,25 +26,16 @@ pub struct LoadingEntry {
 impl Model for LoadingEntry {
     ghost use Rattle.std.specs.Prelude.{◌≡◌, length};
     ghost use Rattle.at_board.specs.declared.words.TheConstants.{RECORD_WORDS};
-    ghost use Rattle.at_machines.specs.Kept.{IsLoadingSo};
     ghost use Rattle.at_machines.specs.Loading.{LoadingTerms};
 
     ghost Value = { LoadingTerms };
 
-    ghost view = { λ l. record {
-      knows = l.seat.value.knows;
-      process = l.process;
-      number = l.number;
-      loaded = l.loaded;
-    } };
+    ghost use Rattle.at_machines.specs.Kept.{IsLoadingSo, loading_entry_of};
+
+    ghost view = { loading_entry_of };
 
     ghost invariant = { λ l. (length l.words ≡ RECORD_WORDS)
-        × IsLoadingSo (record {
-          knows = l.seat.value.knows;
-          process = l.process;
-          number = l.number;
-          loaded = l.loaded;
-        }) 0 l.words };
+        × IsLoadingSo (loading_entry_of l) 0 l.words };
 }
 
 impl LoadingEntry {

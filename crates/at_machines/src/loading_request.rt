@@ -30,29 +30,16 @@ pub struct LoadingRequest {
 impl Model for LoadingRequest {
     ghost use Rattle.std.specs.Prelude.{◌≡◌, length};
     ghost use Rattle.at_board.specs.declared.words.TheConstants.{REQUEST_WORDS};
-    ghost use Rattle.at_machines.specs.KeptRequests.{IsLoadingRequestSo};
     ghost use Rattle.at_machines.specs.LoadingRequest.{LoadingRequestTerms};
 
     ghost Value = { LoadingRequestTerms };
 
-    ghost view = { λ l. record {
-      start = l.start.value.knows;
-      mark = l.mark.value.knows;
-      account = l.account;
-      slot = l.slot;
-      number = l.number;
-      loaded = l.loaded;
-    } };
+    ghost use Rattle.at_machines.specs.KeptRequests.{IsLoadingRequestSo, loading_request_of};
+
+    ghost view = { loading_request_of };
 
     ghost invariant = { λ l. (length l.words ≡ REQUEST_WORDS)
-        × IsLoadingRequestSo (record {
-          start = l.start.value.knows;
-          mark = l.mark.value.knows;
-          account = l.account;
-          slot = l.slot;
-          number = l.number;
-          loaded = l.loaded;
-        }) l.words };
+        × IsLoadingRequestSo (loading_request_of l) l.words };
 }
 
 impl LoadingRequest {

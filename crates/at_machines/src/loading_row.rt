@@ -32,28 +32,15 @@ pub(crate) struct LoadingRow {
 }
 
 impl Model for LoadingRow {
-    ghost use Rattle.at_machines.specs.KeptRows.{IsLoadingRowSo};
-    ghost use Rattle.at_machines.specs.LoadingRow.{LoadingRowTerms, next_in_row};
+    ghost use Rattle.at_machines.specs.LoadingRow.{LoadingRowTerms};
 
     ghost Value = { LoadingRowTerms };
 
-    ghost view = { λ r. record {
-      start = r.start.value.knows;
-      mark = r.mark.value.knows;
-      account = r.account;
-      slot = r.slot;
-      own = r.own;
-      next = next_in_row r.stage;
-    } };
+    ghost use Rattle.at_machines.specs.KeptRows.{IsLoadingRowSo, loading_row_of};
 
-    ghost invariant = { λ r. IsLoadingRowSo (record {
-      start = r.start.value.knows;
-      mark = r.mark.value.knows;
-      account = r.account;
-      slot = r.slot;
-      own = r.own;
-      next = next_in_row r.stage;
-    }) r.stage };
+    ghost view = { loading_row_of };
+
+    ghost invariant = { λ r. IsLoadingRowSo (loading_row_of r) r.stage };
 }
 
 impl LoadingRow {

@@ -26,25 +26,16 @@ pub struct LoadingView {
 impl Model for LoadingView {
     ghost use Rattle.std.specs.Prelude.{◌≡◌, length};
     ghost use Rattle.at_board.specs.declared.words.TheConstants.{RECORD_WORDS};
-    ghost use Rattle.at_machines.specs.Kept.{IsLoadingSo};
     ghost use Rattle.at_machines.specs.Loading.{LoadingTerms};
 
     ghost Value = { LoadingTerms };
 
-    ghost view = { λ l. record {
-      knows = l.seat.value.knows;
-      process = l.process;
-      number = l.number;
-      loaded = l.loaded;
-    } };
+    ghost use Rattle.at_machines.specs.Kept.{IsLoadingSo, loading_view_of};
+
+    ghost view = { loading_view_of };
 
     ghost invariant = { λ l. (length l.view ≡ l.seat.value.knows.book.processes)
-        × IsLoadingSo (record {
-          knows = l.seat.value.knows;
-          process = l.process;
-          number = l.number;
-          loaded = l.loaded;
-        }) RECORD_WORDS l.view };
+        × IsLoadingSo (loading_view_of l) RECORD_WORDS l.view };
 }
 
 impl LoadingView {

@@ -1,7 +1,5 @@
 //! Where a look in the making stands.
 
-ghost use Rattle.std.specs.Prelude.{◌≡◌};
-
 use crate::catching_up::CatchingUp;
 use crate::snapping::Snapping;
 
@@ -12,13 +10,4 @@ pub(crate) enum LookStage {
     Snap(Snapping),
     /// Counting what the snapshot counts, until nothing is left.
     CatchUp(CatchingUp),
-}
-
-impl LookStage {
-    /// Goes on with this.
-    pub(crate) fn become_next(&mut self, next: LookStage)
-        ensures { self.new ≡ next }
-    {
-        *self = next;
-    }
 }

@@ -11,6 +11,7 @@ ghost use Rattle.at_machines.specs.Looking.{IsWithin, IsWithinOneMore, MakesLook
 
 use crate::catching_up::CatchingUp;
 use crate::look_stage::LookStage;
+use crate::next_stage::become_next;
 use crate::snapping::Snapping;
 use at_base::Counts;
 use at_board::{Board, BoardSeat};
@@ -128,7 +129,7 @@ impl Looking {
                 let front = snapped?;
                 let catching = CatchingUp::start(board, seat, totals, front.copy());
                 let is_ended = catching.is_ended();
-                self.stage.become_next(LookStage::CatchUp(catching));
+                become_next(&mut self.stage, LookStage::CatchUp(catching));
                 if is_ended { Some(front) } else { None }
             }
             LookStage::CatchUp(catching) => {

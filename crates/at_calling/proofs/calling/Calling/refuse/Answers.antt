@@ -35,7 +35,7 @@ returns c =
     subst (λ (q : Rest). Leaves b t seat q 0 0 r) (sym now_is)
     (Leaves-refused c.args.board.now t so seat c.requires.mark c.requires.board c.args.reply c.requires.stage r refl refl refl) in
     let was = was-refused c.args.board.now t so seat c.requires.mark c.requires.board c.args.reply c.requires.stage in
-    subst (λ (x : Receipt). TakesCallTurn b t (calling_next (calling_of c.self.inside) c.become_next.new.self c.self.inside.mark.value
+    subst (λ (x : Receipt). TakesCallTurn b t (calling_next (calling_of c.self.inside) c.become_next.new.stage c.self.inside.mark.value
     c.of.result.value) seat seat now (Some x)) (sym receipt)
     (subst (λ (k : CallStage). TakesCallTurn b t (calling_next (calling_of c.self.inside) k c.self.inside.mark.value
     c.of.result.value) seat seat now (Some r)) (sym c.become_next.ensures)

@@ -284,7 +284,7 @@ returns-in_err-answer-clause-turned c =
 pub returns-clause-turned : goal.returns-clause-turned
 returns-clause-turned c =
     goes_on (goal.at.returns-clause-turned c).After-known c.of.result.value c.of.ensures c.of-2.result.value c.of-2.ensures
-    c.become_next-2.new.self
+    c.become_next-2.new.stage
 
 pub returns-in-Settled-clause-turned : goal.returns-in-Settled-clause-turned
 returns-in-Settled-clause-turned c =

@@ -113,7 +113,7 @@ start-collecting-requires c =
 
 -- the rows come next
 rows_next : (c : After-become_next)
-    → c.become_next.new.self
+    → c.become_next.new.stage
     ≡ Collect (starting_rows c.turn-announced.new.seat.knows c.in-Ask.asking.account
     (opened (slot_of_start (the_view c.self.inside) c.self.invariant) c.in_ok-number.number c.in-Ask.asking.targets c.in-Ask.asking.since))
 rows_next c =

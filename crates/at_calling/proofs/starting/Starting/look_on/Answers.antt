@@ -81,7 +81,7 @@ invariant_of-self-2 c =
     let turns : ℕ = c.turn-looked.new.self.turns in
     let so : IsLookingToAsk t c.in-Look.looking = subst (IsStartStageSo t) c.in-Look.is c.self.invariant.stage_so in
     let stage : StartStage = Ask (starting_to_ask w t.account ts (place front)) in
-    let stage_is : c.become_next.new.self ≡ stage =
+    let stage_is : c.become_next.new.stage ≡ stage =
     c.become_next.ensures ∙ ap (λ (a : AskingTerms). Ask a) c.asking_at-asking.ensures in
     let few : IsWithin t.start.book.processes t.was (sum front) turns =
     subst (λ (b : BookTerms). IsWithin b.processes t.was (sum front) turns) (book first)

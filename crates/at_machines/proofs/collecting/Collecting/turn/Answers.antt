@@ -5,7 +5,7 @@ use Rattle.at_board.specs.Steps.LoadLength.{LoadsLength}
 use Rattle.at_board.specs.declared.knowledge.Knowledge.{Knowledge}
 use Rattle.at_snapshot.specs.Collected.{IsCollect, collect_of}
 use Rattle.at_machines.proofs.CollectingLaws.{IsCollect-IsCollectingSo, IsCollectingSo-turn}
-use Rattle.at_machines.specs.Kept.{IsCollectingSo}
+use Rattle.at_machines.specs.Kept.{IsCollectingSo, collecting_of}
 use Rattle.at_machines.specs.Collecting.{CollectingTerms, collecting_after}
 use Rattle.at_machines.proofs.collecting.Collecting.turn.Goals.{After-copy, After-load_length-count, After-of}
 use Rattle.at_machines.proofs.collecting.Collecting.turn.Goals as goal
@@ -72,17 +72,9 @@ pub returns-clause-counts : goal.returns-clause-counts
 returns-clause-counts c = (collected c).1
 
 -- one load more
-after : (c : After-of) → collecting_after (record {
-  start = c.self.inside.start.value.knows;
-  mark = c.self.inside.mark.value.knows;
-  loaded = c.self.inside.loaded;
-}) c.of.result.value.knows ≡ collecting_after c.args.self.now c.load_length-count.new.seat.knows
+after : (c : After-of) → collecting_after (collecting_of c.self.inside) c.of.result.value.knows ≡ collecting_after c.args.self.now c.load_length-count.new.seat.knows
 after c =
-    let inside : CollectingTerms = record {
-      start = c.self.inside.start.value.knows;
-      mark = c.self.inside.mark.value.knows;
-      loaded = c.self.inside.loaded;
-    } in
+    let inside : CollectingTerms = (collecting_of c.self.inside) in
     ap (λ (s : SeatTerms). collecting_after inside s.knows) c.of.ensures
     ∙ ap (λ (t : CollectingTerms). collecting_after t c.load_length-count.new.seat.knows) c.self.view_is
 
