@@ -21,6 +21,7 @@ LARGEST|book,1\nprocesses,1\nlimits,4,4\naccount,0,18446744073709551615,0\naccou
 REALISTIC|book,1\nprocesses,3\nlimits,100,20\naccount,0,500000,0\naccount,1,120000,1\naccount,2,75000,2\naccount,3,300000,0 1\naccount,4,0,\n
 NAMED|book,2\nprocesses,ann,bob\nlimits,10,10\naccount,ann-cash,100,ann\naccount,joint,50,ann bob\naccount,shop,0,\n
 HOUSEHOLD|book,2\nprocesses,ann,bob\nlimits,100,20\naccount,ann-cash,500,ann\naccount,bob-cash,120,bob\naccount,joint,300,ann bob\naccount,shop,0,\n
+JOINT|book,1\nprocesses,2\nlimits,4,1\naccount,0,10,0 1\naccount,1,0,\n
 CROSSED|book,1\nprocesses,2\nlimits,4,4\naccount,0,0,0\naccount,1,10,1\n
 USUAL|transfer,0,1,30\nread,0\nread,1\n
 PAYS_THIRTY|transfer,0,1,30\n
@@ -163,6 +164,11 @@ verify book 1 0|12|report: line 8: not legal\n|ONE|USUAL|journal 3\n0 1 transfer
 verify book 1 0|12|report: line 1: not legal\n|ONE|USUAL|EMPTY
 verify book 2 0 1|12|report: line 2: not legal\n|CROSSED|transfer,0,1,10\n|transfer,1,0,10\n|journal 2\n0 1 transfer 0 1 10 done\n1 1 transfer 1 0 10 done\nbalances 2\n0 0\n1 10\ntotal 10\n
 verify book 2 0 1|0|verified 2\n|NAMED|pay,ann-cash,shop,30,joint,20\nread,shop\n|EMPTY|journal 2\nann 1 pay ann-cash shop 30 joint 20 done\nann 2 read shop 30\nbalances 3\nann-cash 50\njoint 70\nshop 30\ntotal 150\n
+verify book 1 0|12|report: line 2: not legal\n|ONE|USUAL|journal 3\n
+verify book 1 0|12|report: line 1: not legal\n|ONE|USUAL|balances 2\n0 70\n1 30\ntotal 100\n
+verify book 2 0 1|12|report: line 2: not legal\n|CROSSED|read,0\n|read,1\n|journal 2\n0 1 read 1 10\n1 1 read 1 10\nbalances 2\n0 0\n1 10\ntotal 10\n
+verify book 2 0 1|0|verified 2\n|JOINT|transfer,0,1,11\ntransfer,0,1,1\n|EMPTY|journal 2\n0 1 transfer 0 1 11 short\n0 2 transfer 0 1 1 full\nbalances 2\n0 10\n1 0\ntotal 10\n
+verify book 2 0 1|12|report: line 3: not legal\n|JOINT|transfer,0,1,11\ntransfer,0,1,1\n|EMPTY|journal 2\n0 1 transfer 0 1 11 short\n0 2 transfer 0 1 1 done\nbalances 2\n0 9\n1 1\ntotal 10\n
 verify|2|USAGE
 verify book|2|USAGE|ONE
 verify book 0|2|files: wanted 1, given 0\n|ONE|EMPTY

@@ -1,4 +1,4 @@
-//! Worked rows, orders of delivery, and messages that never become valid.
+//! Worked rows, among them messages that never become valid.
 
 ghost use Rattle.std.specs.Prelude.{◌≡◌, length, IfSome};
 
@@ -203,68 +203,4 @@ fn worked_rows(rt: HostRuntime) {
     for (name, messages, shown) in CASES {
         assert!(rt; lead_to(rt.alloc(), messages, shown), "{name}");
     }
-}
-
-/// Six messages. The last is never valid: account 1 holds 5 at its `deps`.
-const SIX: &[Sent] = &[
-    FIRST,
-    NEEDS,
-    (0, 1, (0, 1, 40), [1, 0]),
-    (1, 1, (1, 2, 45), [2, 1]),
-    (0, 2, (0, 3, 50), [2, 1]),
-    (1, 2, (1, 0, 6), [3, 2]),
-];
-
-/// Delivers the six messages in one of their 720 orders.
-fn deliver_in_order(node: &mut Node, alloc: Global, order: usize) -> Result<Shown, AllocError>
-    requires processes { node.old.book.processes ≡ 2 }
-    requires accounts { length node.old.book.accounts ≡ 4 }
-{
-    let mut left = Vec::from_slice(alloc, SIX)?;
-    let mut order = order;
-    while !left.is_empty() {
-        let count = left.len();
-        let message = left.remove(order % count);
-        order /= count;
-        deliver(node, &message)?;
-    }
-    Ok(shown_by(node))
-}
-
-/// Whether a new node ends as all do, after the six messages in this order.
-fn ends_alike(alloc: Global, order: usize) -> bool {
-    match new_node(alloc) {
-        Some(mut node) => {
-            deliver_in_order(&mut node, alloc, order) == Ok(([3, 2], [0, 5, 95, 100]))
-        }
-        None => false,
-    }
-}
-
-#[test]
-fn all_orders_end_alike(rt: HostRuntime) {
-    for order in 0..720 {
-        assert!(rt; ends_alike(rt.alloc(), order), "{order}");
-    }
-}
-
-/// Whether the node tells new messages from those that it was given before.
-fn tells_new(node: &mut Node) -> bool
-    requires processes { node.old.book.processes ≡ 2 }
-    requires accounts { length node.old.book.accounts ≡ 4 }
-{
-    deliver(node, &NEEDS) == Ok(true)
-        && deliver(node, &FIRST) == Ok(true)
-        && deliver(node, &NEEDS) == Ok(false)
-        && deliver(node, &(0, 0, (0, 1, 1), [0, 0])) == Ok(false)
-        && shown_by(node) == BOTH
-}
-
-#[test]
-fn tells_new_from_repeated(rt: HostRuntime) {
-    let told = match new_node(rt.alloc()) {
-        Some(mut node) => tells_new(&mut node),
-        None => false,
-    };
-    assert!(rt; told);
 }

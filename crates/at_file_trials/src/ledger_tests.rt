@@ -3,10 +3,7 @@
 ghost use Rattle.std.specs.Prelude.{◌≡◌, ◌<◌, length, IfSome};
 ghost use Rattle.at_ledger.specs.Call.{AreTargetsOn};
 
-use at_ledger::{
-    ACCOUNTS_MAX, Book, BookBuilder, BookError, BookFault, Call, Draft, DraftAccount, Reply, State,
-    Targets,
-};
+use at_ledger::{Book, Call, Draft, DraftAccount, Reply, State, Targets};
 use std::alloc::{AllocError, Global};
 
 /// An account of a draft: its opening and its owners.
@@ -307,109 +304,4 @@ fn does_each_call(rt: HostRuntime) {
         None => false,
     };
     assert!(rt; done);
-}
-
-/// The processes, rooms and accounts of a draft, and its first fault.
-type Judged = (u64, (u64, u64), &'static [Account], Option<BookError>);
-
-/// An account that no process owns.
-const ONE: &[Account] = &[(0, &[])];
-
-const ALL: &[u64] = &[0, 1, 2, 3, 4, 5, 6, 7, 8];
-
-const EIGHT: &[u64] = &[0, 1, 2, 3, 4, 5, 6, 7];
-
-const JUDGED: &[Judged] = &[
-    (0, (0, 0), ONE, Some(BookError::NoProcess)),
-    (17, (0, 0), ONE, Some(BookError::TooManyProcesses)),
-    (16, (4_096, 1_024), ONE, None),
-    (1, (0, 1), ONE, Some(BookError::RoomOutOfRange)),
-    (1, (4_097, 1), ONE, Some(BookError::RoomOutOfRange)),
-    (1, (1, 0), ONE, Some(BookError::RoomOutOfRange)),
-    (1, (1, 1_025), ONE, Some(BookError::RoomOutOfRange)),
-    (9, (1, 1_024), &[], Some(BookError::NoAccount)),
-    (
-        2,
-        (1, 1_024),
-        &[(0, &[2, 1]), (0, &[1, 0])],
-        Some(BookError::OwnerOutOfRange { account: 0 }),
-    ),
-    (
-        9,
-        (1, 1_024),
-        &[(0, &[1, 0])],
-        Some(BookError::OwnersNotRising { account: 0 }),
-    ),
-    (
-        9,
-        (1, 1_024),
-        &[(0, ALL)],
-        Some(BookError::TooManyOwners { account: 0 }),
-    ),
-    (
-        9,
-        (1, 1_024),
-        &[(1, EIGHT), (u64::MAX, &[0, 1])],
-        Some(BookError::RoundsOverLimit { account: 1 }),
-    ),
-    (
-        9,
-        (1, 1_024),
-        &[(1, EIGHT), (u64::MAX, &[0])],
-        Some(BookError::TotalOverLimit { account: 1 }),
-    ),
-];
-
-/// Why there is no book of the draft.
-fn fault_of(alloc: Global, draft: &Draft) -> Result<Option<BookError>, AllocError> {
-    match Book::new(alloc, draft) {
-        Ok(_) => Ok(None),
-        Err(BookFault::Bad(error)) => Ok(Some(error)),
-        Err(BookFault::NoMemory) => Err(AllocError),
-    }
-}
-
-/// Whether the draft has this first fault.
-fn is_judged_so(alloc: Global, case: &Judged) -> bool {
-    let (processes, rooms, accounts, want) = case;
-    match draft_with(alloc, *processes, *rooms, accounts) {
-        Ok(draft) => fault_of(alloc, &draft) == Ok(*want),
-        Err(_) => false,
-    }
-}
-
-#[test]
-fn names_the_first_fault(rt: HostRuntime) {
-    for case in JUDGED {
-        assert!(rt; is_judged_so(rt.alloc(), case), "{:?}", case.3);
-    }
-}
-
-/// Fills the builder. Whether it is full then and not before, and refuses one account more.
-fn is_filled(builder: &mut BookBuilder) -> bool {
-    for _ in 0..ACCOUNTS_MAX {
-        if builder.is_full() || builder.add(0, &[0]).is_err() {
-            return false;
-        }
-    }
-    builder.is_full() && builder.add(1, &[1]) == Err(BookFault::Bad(BookError::TooManyAccounts))
-}
-
-/// How many accounts the fullest book has.
-fn most_accounts(alloc: Global) -> Option<u32> {
-    let Ok(mut builder) = BookBuilder::new(alloc, 1, 1, 1) else {
-        return None;
-    };
-    if !is_filled(&mut builder) {
-        return None;
-    }
-    match builder.finish() {
-        Ok(book) => Some(book.accounts()),
-        Err(_) => None,
-    }
-}
-
-#[test]
-fn counts_the_accounts(rt: HostRuntime) {
-    assert!(rt; most_accounts(rt.alloc()) == Some(1_024));
 }

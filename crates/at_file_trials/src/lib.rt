@@ -1,5 +1,5 @@
-//! Tests of numbers and packed words, of the ledger, of the message-passing form, of shelves and sinks, and of the crates that
-//! read files, print texts, judge reports, walk orders and tell kinds, by their public names. There is nothing else here.
+//! Tests of numbers and packed words, of the ledger, of the message-passing form, of shelves and sinks, and of the crate that walks
+//! orders, by their public names. There is nothing else here. What is read, printed and verified is looked at over the built program.
 #![tactic(auto)]
 
 #[cfg(test)]
@@ -9,24 +9,10 @@ mod broadcast_tests;
 #[cfg(test)]
 mod device_tests;
 #[cfg(test)]
-mod files_tests;
-#[cfg(test)]
 mod io_tests;
-#[cfg(test)]
-mod kinds_tests;
 #[cfg(test)]
 mod ledger_tests;
 #[cfg(test)]
-mod message_tests;
-#[cfg(test)]
-mod node_tests;
-#[cfg(test)]
 mod orders_tests;
 #[cfg(test)]
-mod replay_tests;
-#[cfg(test)]
-mod report_tests;
-#[cfg(test)]
 mod test_files;
-#[cfg(test)]
-mod verify_tests;

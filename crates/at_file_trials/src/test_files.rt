@@ -15,9 +15,6 @@ pub(crate) const ONE_PROCESS: &[u8] =
 pub(crate) const TWO_OWNERS: &[u8] =
     b"book,1\nprocesses,2\nlimits,4,4\naccount,0,100,0\naccount,1,0,1\n";
 
-pub(crate) const NAMED: &[u8] =
-    b"book,2\nprocesses,ann,bob\nlimits,10,10\naccount,ann-cash,100,ann\naccount,joint,50,ann bob\naccount,shop,0,\n";
-
 /// A book that was read, and its names. What holds one has a call where it drops it, and not the drop of each field, so
 /// that its proof is short.
 pub(crate) struct BookFile {

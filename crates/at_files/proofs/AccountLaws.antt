@@ -27,6 +27,7 @@ use Rattle.at_files.specs.declared.book_fault.BookWhy.{BookWhy}
 use Rattle.at_files.specs.declared.book_fault.BookWhy.TheVariants as why
 use Rattle.at_files.specs.Limits.{most_name_bytes}
 use Rattle.at_files.specs.Results.{and_then}
+use Rattle.at_files.proofs.Faults.{Err≢Ok}
 use Rattle.at_files.proofs.NameLaws.{decimal-AreNames, decimals_below-more, has_name-decimals_below, known_version, position_of-Some}
 use Rattle.at_files.proofs.OwnerLaws.{pieces_of-some}
 use Rattle.at_files.proofs.FieldLaws.{length-has_shape, first-has_shape, four_fields, field_of-number_at}
@@ -275,8 +276,8 @@ with_account_record-adds b fields whole are h = by (nat_le most_accounts (length
     by : (full shape named : Bool) → has_shape (codes "account") 4 fields ≡ shape → (b.names.version == 2) ≡ named
         → (if full then Err (why.Book TooManyAccounts)
         else if shape then (if named then with_named_record b fields else with_plain_record b fields) else Err why.Shape) ≡ Ok whole → Adds b fields whole
-    by true shape named e f is = absurd (cc)
-    by false false named e f is = absurd (cc)
+    by true shape named e f is = absurd (Err≢Ok _ _ is)
+    by false false named e f is = absurd (Err≢Ok _ _ is)
     by false true true e f is = with_named_record-adds b fields whole e are (eqb-true b.names.version 2 f) is
     by false true false e f is = with_plain_record-adds b fields whole e are (first f) is
 

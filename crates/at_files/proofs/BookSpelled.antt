@@ -15,6 +15,7 @@ use Rattle.at_files.specs.declared.book_fault.BookWhy.{BookWhy}
 use Rattle.at_files.specs.declared.book_fault.BookWhy.TheVariants as why
 use Rattle.at_files.specs.declared.book_fault.BadBook.{BadBook}
 use Rattle.at_files.specs.Results.{and_then}
+use Rattle.at_files.proofs.Faults.{Err≢Ok}
 use Rattle.at_files.proofs.NameLaws.{length-decimals_below}
 use Rattle.at_files.proofs.FieldLaws.{length-has_shape, first-has_shape, two_fields, three_fields, field_of-number_at}
 use Rattle.at_files.proofs.AccountLaws.{Adds, and_then-leads, with_name-added, with_account_record-adds}
@@ -90,10 +91,10 @@ version_of-spelled fields version h =
 
     by : (shape one two : Bool) → has_shape (codes "book") 2 fields ≡ shape → bytes_eq (field_of fields 1) (codes "1") ≡ one → bytes_eq (field_of fields 1) (codes "2") ≡ two
         → (if shape then (if one then Ok 1 else if two then Ok 2 else Err why.Version) else Err why.Shape) ≡ Ok version → fields ≡ codes "book" ∷ decimal version ∷ []
-    by false one two e f g is = absurd (cc)
+    by false one two e f g is = absurd (Err≢Ok _ _ is)
     by true true two e f g is = let same : 1 ≡ version = cc in rw (← same, decimal_digit 1 (omega arith)) (whole (codes "1") e f)
     by true false true e f g is = let same : 2 ≡ version = cc in rw (← same, decimal_digit 2 (omega arith)) (whole (codes "2") e g)
-    by true false false e f g is = absurd (cc)
+    by true false false e f g is = absurd (Err≢Ok _ _ is)
 
 -- processes that were named are those of the fields
 with_process-spelled : (names more : List (List ℕ)) (name : List ℕ) → with_process names name ≡ Ok more → more ≡ names ++ name ∷ []
@@ -157,13 +158,13 @@ whole_records : (version own_room request_room : ℕ) (processes names : List (L
 whole_records version own_room request_room processes names accounts whole first second third records is next last later all = rw (is, next, last, later, all) refl
 
 pub book_of_records-spelled : (records : List Fields) (b : NamedBook) → book_of_records records ≡ Ok b → records ≡ records_of_book b.book b.names
-book_of_records-spelled [] b h = absurd (cc)
+book_of_records-spelled [] b h = absurd (Err≢Ok _ _ h)
 book_of_records-spelled (first ∷ []) b h =
-    absurd (let goes = and_then-goes 1 (version_of first) (λ version. processes_from version []) b h in let wrong = goes.later in cc)
+    absurd (let goes = and_then-goes 1 (version_of first) (λ version. processes_from version []) b h in Err≢Ok _ _ goes.later)
 book_of_records-spelled (first ∷ second ∷ []) b h =
     absurd (let goes = and_then-goes 1 (version_of first) (λ version. processes_from version (second ∷ [])) b h in
     let next = and_then-goes 2 (processes_of goes.value second) (λ processes. limits_from goes.value processes []) b goes.later in
-    let wrong = next.later in cc)
+    Err≢Ok _ _ next.later)
 book_of_records-spelled (first ∷ second ∷ third ∷ records) b h =
     let version = and_then-goes 1 (version_of first) (λ version. processes_from version (second ∷ third ∷ records)) b h in
     let known = version_of-known first version.value version.is in

@@ -10,6 +10,10 @@ use Rattle.at_files.specs.declared.book_fault.BookWhy.TheVariants.{Book}
 use Rattle.at_files.specs.declared.book_fault.ReadBookFault.{ReadBookFault}
 use Rattle.at_files.specs.declared.book_fault.ReadBookFault.TheVariants.{Bad}
 
+-- a fault is no value. It is stated over plain variables, since `cc` looks at all that is known where it is called
+pub Err≢Ok : {A E : Type 0} (e : E) (x : A) → ◌≡◌ {A = Result A E} (Err e) (Ok x) → ⊥
+Err≢Ok e x h = cc
+
 pub Bad-same : {T : Type 0} (x b : BadBook) → ◌≡◌ {A = Result T ReadBookFault} (Err (Bad x)) (Err (Bad b)) → x ≡ b
 Bad-same x b h = cc
 

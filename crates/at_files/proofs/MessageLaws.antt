@@ -18,6 +18,7 @@ use Rattle.at_files.specs.declared.messages.MessagesWhy.TheVariants.{Shape, TooM
 use Rattle.at_files.specs.declared.spelled.BadRecord.{BadRecord}
 use Rattle.at_files.specs.declared.spelled.ReadFault.{ReadFault}
 use Rattle.at_files.specs.declared.spelled.ReadFault.TheVariants.{Bad, NoMemory}
+use Rattle.at_files.proofs.Faults.{Err≢Ok}
 use Rattle.at_files.proofs.AccountLaws.{pieces-numbers_of}
 use Rattle.at_files.proofs.BookAccepted.{Fits64, numbers_of-decimals}
 use Rattle.at_files.proofs.DeliveryLaws.{ok_where_both}
@@ -93,7 +94,7 @@ message_spelled-reads b fields m h = by (has_shape (codes "send") (b.processes +
         → (fields ≡ fields_of_message m) × IsSent b m
     by true e is =
         message_read-IsSent b fields m (number_at fields 1) (number_at fields 2) (number_at fields 3) (numbers_of (drop 4 fields)) e refl refl refl refl is
-    by false e is = absurd (cc)
+    by false e is = absurd (Err≢Ok _ _ is)
 
 send_shape : (b : BookTerms) (m : Message) → length m.deps ≡ b.processes → has_shape (codes "send") (b.processes + 4) (fields_of_message m) ≡ true
 unfolding field_at

@@ -14,6 +14,7 @@ use Rattle.at_files.specs.Records.{Fields, before, field_of, number_at, has_shap
 use Rattle.at_files.specs.Payments.{transfer_of, read_of, plain_call_of, named_transfer, named_read, named_pay, named_call_of, has_amounts, is_pay, target_of, targets_spelled, call_of, fields_of_call, fields_of_targets, IsCallOfVersion, HasAmounts}
 use Rattle.at_files.specs.declared.payments_fault.PaymentsWhy.{PaymentsWhy}
 use Rattle.at_files.specs.declared.payments_fault.PaymentsWhy.TheVariants.{Shape, UnknownAccount}
+use Rattle.at_files.proofs.Faults.{Err≢Ok}
 use Rattle.at_files.proofs.NameLaws.{decimal-AreNames, known_version, position_of-Some}
 use Rattle.at_files.proofs.FieldLaws.{both_tests, length-has_shape, first-has_shape, two_fields, four_fields, field_of-number_at, number_at-lt}
 
@@ -226,7 +227,7 @@ named_call_of-spelled names fields call second h = by (has_shape (codes "transfe
     by false true d _ shape _ is = named_read-spelled names fields call (position_of names.accounts (field_of fields 1)) shape refl is
     by false false true _ _ pay is =
         named_pay-spelled names fields call (position_of names.accounts (field_of fields 1)) (has_amounts (drop 2 fields)) (targets_spelled names.accounts (drop 2 fields)) second pay refl refl is
-    by false false false _ _ _ is = absurd (cc)
+    by false false false _ _ _ is = absurd (Err≢Ok _ _ is)
 
 call_of-spelled : (names : NameList) (fields : Fields) (call : Call) → AreNames names.version names.accounts → call_of names fields ≡ Ok call → Spelled names fields call
 call_of-spelled names fields call are h = by (names.version == 2) refl h

@@ -1,4 +1,2 @@
 pub mod SmallBoardLaws
 pub mod AskedLaws
-pub mod Announced
-pub mod Closing

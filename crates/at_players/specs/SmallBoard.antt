@@ -1,9 +1,7 @@
 -- Seats of small boards, and what players ask for.
-use Rattle.std.specs.Prelude.{◌≡◌, ℕ, ◌+◌, ◌<◌, ◌≤◌, ◌⊎◌, true, List, [], ◌∷◌, length, replicate, slice_index, slice_index_or, Some, None}
+use Rattle.std.specs.Prelude.{◌≡◌, ℕ, ◌<◌, ◌⊎◌, true, List, [], ◌∷◌, length, replicate, slice_index_or, Some, None}
 use Rattle.at_base.specs.declared.decision.Decision.{Decision}
-use Rattle.at_ledger.specs.Account.{is_single}
-use Rattle.at_ledger.specs.Book.{BookTerms, account_of, is_owner, HasSlot}
-use Rattle.at_history.specs.Fronts.{IsFront}
+use Rattle.at_ledger.specs.Book.{BookTerms}
 use Rattle.at_history.specs.Publications.{count_of}
 use Rattle.at_history.specs.declared.request.Request.{Request}
 use Rattle.at_board.specs.Ends.Opening.{starting_seat}
@@ -32,31 +30,6 @@ pub record HasWon (b : BookTerms) (v : Knowledge) (slot : ℕ) : Type 0 where
   pub blank : (own_part v).stored ≡ replicate (record_width b) 0
   pub published : (own_part v).published ≡ 0
   pub counted : count_of v.first v.seen ≡ 0
-
--- the process owns the account after that of its number alone
-pub record HasOwnAccount (b : BookTerms) (process : ℕ) : Type 0 where
-  pub account_in : process + 1 < length b.accounts
-  pub single : is_single (account_of b (process + 1)) ≡ true
-  pub owner : is_owner b process (process + 1) ≡ true
-
--- the process may play: it shares account 0 by its own number with others, which covers the payment, and has its own account
-pub record MayPlay (b : BookTerms) (process : ℕ) : Type 0 where
-  pub slot : HasSlot b process 0 process
-  pub covered : 7 ≤ (account_of b 0).opening
-  pub owner : HasOwnAccount b process
-
--- all four processes may play
-pub record MayAllPlay (b : BookTerms) : Type 0 where
-  pub zero : MayPlay b 0
-  pub one : MayPlay b 1
-  pub two : MayPlay b 2
-  pub three : MayPlay b 3
-
--- the seat of a new board, of a process that may play
-pub record IsNewPlayer (board : BoardTerms) (seat : SeatTerms) : Type 0 where
-  pub id : seat.board ≡ board.id
-  pub new : seat.knows ≡ starting_seat board.book seat.knows.first
-  pub player : MayPlay board.book seat.knows.first
 
 -- the seat of a process on a new board, which has made no step
 abbrev pub new_seat : BoardTerms → ℕ → SeatTerms
@@ -99,9 +72,3 @@ pub record IsIdle (board : BoardTerms) (seat : SeatTerms) : Type 0 where
   pub one_part : length seat.knows.parts ≡ 1
   pub free : (own_part seat.knows).held ≡ None
   pub blank : (own_part seat.knows).stored ≡ replicate (record_width board.book) 0
-
--- the counts are a front of what the seat has seen, with all records of its own
-pub record IsOwnFront (b : BookTerms) (v : Knowledge) (view : List ℕ) : Type 0 where
-  pub front : IsFront b.processes view v.seen
-  pub own : slice_index view v.first ≡ (own_part v).published
-  pub counted : count_of v.first v.seen ≡ (own_part v).published

@@ -291,34 +291,6 @@ impl Pair {
     }
 }
 
-impl Four {
-    /// The end of the board.
-    pub fn close(self, alloc: Global) -> Option<BoardEnd>
-        requires four { self.board.book.processes ≡ 4 }
-        requires zero { IsFreeSeat self.board 0 self.zero }
-        requires one { IsFreeSeat self.board 1 self.one }
-        requires two { IsFreeSeat self.board 2 self.two }
-        requires three { IsFreeSeat self.board 3 self.three }
-        ensures { IfSome result (λ e. e.book ≡ self.board.book) }
-    {
-        let Ok(mut seats) = Vec::with_capacity(alloc, 4) else {
-            return None;
-        };
-        let Four {
-            board,
-            zero,
-            one,
-            two,
-            three,
-        } = self;
-        seats.push_reserved(zero);
-        seats.push_reserved(one);
-        seats.push_reserved(two);
-        seats.push_reserved(three);
-        Some(board.close(seats))
-    }
-}
-
 /// Whether a record of a closed board begins with these words.
 pub fn has_record(end: &BoardEnd, p: u32, i: u32, words: &[u64]) -> bool
     requires process { p < end.now.book.processes }

@@ -1,7 +1,6 @@
 //! The first record of a process on a new board, word by word.
 
 ghost use Rattle.std.specs.Prelude.{◌≡◌, ◌<◌, IsTrue, [], ◌∷◌};
-ghost use Rattle.at_board.specs.Counting.{exchanged};
 ghost use Rattle.at_board.specs.Ends.Opening.{starting_seat};
 ghost use Rattle.at_history.specs.Publications.{count_of};
 ghost use Rattle.at_history.specs.Sound.{IsSoundOwn};
@@ -42,19 +41,4 @@ pub fn pay(board: &Board, seat: &mut BoardSeat)
     board.store_record_word(seat, 1, TO_ACCOUNT_1);
     board.store_record_word(seat, 3, 30);
     board.publish(seat);
-}
-
-/// The words of the accounts and of the amount of the first record of a process, which its seat tells another.
-pub fn told_words(board: &Board, seat: &mut BoardSeat, other: &mut BoardSeat) -> (u64, u64)
-    requires seat { IsIdle board.now seat.old }
-    requires other { IsIdle board.now other.old }
-    requires published { 0 < count_of seat.old.knows.first seat.old.knows.seen }
-    ensures seat { seat.new ≡ exchanged seat.old 1 }
-    ensures other { IsIdle board.now other.new × (other.new.knows.first ≡ other.old.knows.first) }
-{
-    let note = board.note(seat);
-    board.learn(other, note);
-    let accounts = board.load_record_word(other, seat.process(), 0, 1);
-    let amount = board.load_record_word(other, seat.process(), 0, 3);
-    (accounts, amount)
 }

@@ -3,9 +3,7 @@
 ghost use Rattle.std.specs.Prelude.{◌≡◌, ◌<◌, ◌∷◌, [], length};
 ghost use Rattle.at_board.specs.Ends.Opening.{starting_seat};
 ghost use Rattle.at_board.specs.Knowledge.Parts.{asking_on, own_part};
-ghost use Rattle.at_board.specs.Knowledge.Seats.{IsOf};
-ghost use Rattle.at_ledger.specs.Account.{slots_of};
-ghost use Rattle.at_ledger.specs.Book.{account_of, HasSlot};
+ghost use Rattle.at_ledger.specs.Book.{HasSlot};
 ghost use Rattle.at_players.specs.Found.{HasFoundOldest, HasGained};
 ghost use Rattle.at_players.specs.SmallBoard.{IsIdle};
 ghost use Rattle.at_rows.specs.Asks.{HasAsked, HasLoadedNothing, MayAskFor, asked_for, opened};
@@ -78,18 +76,4 @@ pub fn find_oldest(
     board.book().known();
     let asked = collect_rows(board, seat, 0, own);
     oldest(&asked, done)
-}
-
-/// The amount of the first request of a slot of account 0, where it is announced.
-pub fn first_amount(board: &Board, seat: &mut BoardSeat, slot: u32) -> Option<u64>
-    requires board { IsOf seat.old board.now }
-    requires account { 0 < length board.now.book.accounts }
-    requires slot { slot < slots_of (account_of board.now.book 0) }
-    ensures board { IsOf seat.new board.now }
-{
-    let count = board.load_announced(seat, 0, slot);
-    if count == 0 {
-        return None;
-    }
-    Some(board.load_request_word(seat, 0, slot, 0, 1))
 }

@@ -1,7 +1,6 @@
 pub mod Accounts
 pub mod FirstRecord
 pub mod Lists
-pub mod Moving
 pub mod NewReady
 pub mod ObjectCalls
 pub mod OneTarget

@@ -2,9 +2,8 @@
 use Rattle.std.proofs.Common.{◌≡◌, ℕ, refl, sym, subst}
 use Rattle.at_board.specs.Knowledge.Seats.{BoardTerms, SeatTerms}
 use Rattle.at_fold.specs.Sums.{TotalSums}
-use Rattle.at_players.specs.SmallBoard.{HasOwnAccount, IsIdle, IsNewPlayer, MayPlay, new_seat}
+use Rattle.at_players.specs.SmallBoard.{IsIdle, new_seat}
 use Rattle.at_trials.specs.SmallFold.{IsNewTotals}
-use Rattle.at_trials.specs.SmallScan.{IsPublisher}
 use Rattle.at_trials.specs.SmallShared.{MayCall}
 
 pub MayCall-new : (board : BoardTerms) (seat : SeatTerms) (t : TotalSums) (p : ℕ) → seat ≡ new_seat board p → IsNewTotals t board.book
@@ -15,19 +14,6 @@ MayCall-new board seat t p is new =
       counted = new.counted (new_seat board p).knows.seen;
       free = refl;
     })
-
--- the seat of a process that publishes
-pub IsPublisher-new : (board : BoardTerms) (seat : SeatTerms) (p : ℕ) → seat ≡ new_seat board p → HasOwnAccount board.book p → IsPublisher board seat
-IsPublisher-new board seat p is owner =
-    subst (λ (s : SeatTerms). IsPublisher board s) (sym is) (record {
-      of_board = record { id = refl; book = refl };
-      owner = owner;
-    })
-
--- the seat of a process that may play
-pub IsNewPlayer-new : (board : BoardTerms) (seat : SeatTerms) (p : ℕ) → seat ≡ new_seat board p → MayPlay board.book p → IsNewPlayer board seat
-IsNewPlayer-new board seat p is player =
-    subst (λ (s : SeatTerms). IsNewPlayer board s) (sym is) (record { id = refl; new = refl; player = player })
 
 -- a seat between two records
 pub MayCall-idle : (board : BoardTerms) (seat : SeatTerms) (t : TotalSums) → IsIdle board seat → IsNewTotals t board.book → MayCall board seat t

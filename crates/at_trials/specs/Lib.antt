@@ -1,4 +1,3 @@
-pub mod Machines
 pub mod ObjectCalls
 pub mod Players
 pub mod SmallFold

@@ -1,29 +1,18 @@
-//! Processes that propose: one after another, eight at once, and two that race.
+//! Processes that propose: one after another, and eight at once.
 
-ghost use Rattle.std.specs.Prelude.{◌≡◌, ◌^◌, ◌<◌, All, IfSome};
+ghost use Rattle.std.specs.Prelude.{◌^◌, ◌<◌, All, IfSome};
 ghost use Rattle.at_agree.specs.Council.{IsSize};
 ghost use Rattle.at_agree.specs.Voices.{MayProposeValue};
 
 use at_agree::{Council, Voice, agree};
 use std::alloc::Global;
-use std::sync::atomic::{AtomicU64, Ordering};
-use std::thread::{Threads, join_mut, yield_now};
+use std::thread::Threads;
 
 /// What eight processes propose.
 const VALUES: &[u64] = &[11, 22, 33, 0, 4_294_967_295, 44, 44, 55];
 
-/// How often eight processes agree, and how often two race.
+/// How often eight processes agree.
 const AGREEMENTS: u32 = 50;
-
-const RACES: u32 = 300;
-
-/// What each of two processes proposes.
-const ZERO: u64 = 100;
-
-const ONE: u64 = 200;
-
-/// How often a process looks whether the other is there before it goes on without it.
-const LOOKS: u32 = 1_000_000;
 
 /// A voice. What holds one has a call where it drops it, and not the drop of each field; so it is of a `Session`.
 struct Speaker {
@@ -125,81 +114,6 @@ fn agree_always<R: Threads + Sync>(rt: &R, alloc: Global) -> bool {
     true
 }
 
-/// Waits until both processes are there, or a while where not.
-fn meet(gate: &AtomicU64) {
-    gate.fetch_add(1, Ordering::SeqCst);
-    for look in 0..LOOKS {
-        if gate.load(Ordering::SeqCst) == 2 {
-            return;
-        }
-        if look % 1_024 == 1_023 {
-            yield_now();
-        }
-    }
-}
-
-/// Proposes beside the other process, once that is there too.
-fn race(council: &Council, gate: &AtomicU64, voice: &mut Voice, value: u64) -> u64
-    requires voice { MayProposeValue council.now voice.old }
-    requires value { value < 2 ^ 32 }
-{
-    meet(gate);
-    council.propose(voice, value)
-}
-
-/// Two processes propose at once. The value of the first one, if both get one answer.
-fn race_both<R: Threads>(
-    rt: &R,
-    council: &Council,
-    zero: &mut Voice,
-    one: &mut Voice,
-) -> Option<u64>
-    requires zero { MayProposeValue council.now zero.old }
-    requires one { MayProposeValue council.now one.old }
-{
-    let gate = &AtomicU64::new(0);
-    let (a, b) = join_mut(
-        rt,
-        &mut || race(council, gate, zero, ZERO),
-        &mut || race(council, gate, one, ONE),
-    );
-    (a == b).then_some(a)
-}
-
-/// The last two of the voices propose at once.
-fn race_last<R: Threads>(rt: &R, council: &Council, voices: &mut Vec<Voice>) -> Option<u64>
-    requires { All (MayProposeValue council.now) voices.old.items }
-{
-    match last_voice(council, voices) {
-        Some(mut one) => match last_voice(council, voices) {
-            Some(mut zero) => race_both(rt, council, &mut zero.voice, &mut one.voice),
-            None => None,
-        },
-        None => None,
-    }
-}
-
-/// Two processes of a new council propose at once.
-fn winner<R: Threads>(rt: &R, alloc: Global) -> Option<u64> {
-    match new_session(alloc, 2) {
-        Some(mut session) => race_last(rt, &session.council, &mut session.voices),
-        None => None,
-    }
-}
-
-/// Whether each of two processes was first in some race, if each race had one answer.
-fn winners<R: Threads>(rt: &R, alloc: Global) -> Option<(bool, bool)> {
-    let (mut zero, mut one) = (false, false);
-    for _race in 0..RACES {
-        match winner(rt, alloc)? {
-            ZERO => zero = true,
-            ONE => one = true,
-            _ => return None,
-        }
-    }
-    Some((zero, one))
-}
-
 #[test]
 fn three_voices_in_turn(rt: HostRuntime) {
     let answered = match new_session(rt.alloc(), 3) {
@@ -212,14 +126,4 @@ fn three_voices_in_turn(rt: HostRuntime) {
 #[test]
 fn eight_values_fifty_times(rt: HostRuntime) {
     assert!(rt; agree_always(&rt, rt.alloc()));
-}
-
-/// Each race has one answer. Who is first is up to the threads: where one of them never was, a line says so.
-#[test]
-fn two_voices_race(rt: HostRuntime) {
-    let winners = winners(&rt, rt.alloc());
-    assert!(rt; winners.is_some());
-    if winners != Some((true, true)) {
-        let _ = println!(rt; "in {RACES} races one of two processes was never first");
-    }
 }

@@ -1,23 +1,20 @@
-//! Records are appended on a small board, and totals of their process, or of one that has learned of them, count them.
+//! A record is appended on a small board, and totals of its process, or of one that has learned of it, count it.
 
-ghost use Rattle.std.specs.Prelude.{◌≡◌, ◌+◌, ◌<◌, [], IfSome, IsTrue, length, replicate, slice_set, ◌∷◌};
+ghost use Rattle.std.specs.Prelude.{◌≡◌, ◌<◌, [], IfSome, IsTrue, length, replicate, ◌∷◌};
 ghost use Rattle.at_board.specs.Counting.{raised, stepped};
 ghost use Rattle.at_board.specs.Ends.Opening.{starting_seat};
 ghost use Rattle.at_board.specs.Knowledge.Seats.{IsOf};
 ghost use Rattle.at_fold.specs.HasCounted.{HasCounted};
 ghost use Rattle.at_history.specs.Sound.{IsSoundOwn};
 ghost use Rattle.at_players.specs.SmallBoard.{IsNewPair, IsNewSingle, new_seat};
-ghost use Rattle.at_trials.specs.SmallFold.{CountsAll, HasOnlyFirst, HasOnlyRecord, IsNewTotals};
+ghost use Rattle.at_trials.specs.SmallFold.{CountsAll, HasOnlyFirst, IsNewTotals};
 
 use crate::payers::{may_pay, pay};
 use at_base::{Counts, Decision};
 use at_board::{Board, BoardSeat, pack_targets};
 use at_fold::Totals;
 use at_ledger::Targets;
-use at_log::Entry;
-use at_players::boards::{Account, Pair, Single, new_pair, new_single, slot_on};
-use at_players::crowd::look;
-use at_players::rounds::settle;
+use at_players::boards::{Account, Pair, Single, new_pair, new_single};
 use std::alloc::Global;
 
 /// Account 0 of the only process, and two of nobody.
@@ -25,12 +22,6 @@ const PAID_OUT: &[Account] = &[(100, &[0]), (0, &[]), (0, &[])];
 
 /// An account of each process.
 const OWN: &[Account] = &[(100, &[0]), (0, &[1])];
-
-/// Account 0 of process 0, and account 1 of both.
-const ONE_SHARED: &[Account] = &[(100, &[0]), (0, &[0, 1])];
-
-/// Account 0 of both processes, and account 1 of nobody.
-const SHARED: &[Account] = &[(100, &[0, 1]), (0, &[])];
 
 /// Totals for the board that have counted nothing.
 pub(crate) fn new_totals(alloc: Global, board: &Board) -> Option<Totals>
@@ -139,18 +130,6 @@ fn pays_and_tells(
     let note = board.note(seat);
     board.learn(other, note);
     found == 0
-}
-
-/// New totals count the first record of the seat's process.
-fn counts_first(totals: &mut Totals, seat: &BoardSeat, entry: &Entry)
-    requires counted { HasCounted totals.old seat.now.knows.book seat.now.knows.seen }
-    requires new { totals.old.upto ≡ replicate seat.now.knows.book.processes 0 }
-    requires paid { HasOnlyRecord seat.now.knows entry.now }
-    ensures counted { HasCounted totals.new seat.now.knows.book seat.now.knows.seen }
-    ensures upto { totals.new.upto ≡ slice_set totals.old.upto seat.now.knows.first 1 }
-{
-    seat.known();
-    totals.count_own(seat, entry);
 }
 
 /// How many requests of a slot are decided, and how the first was.
@@ -280,103 +259,6 @@ fn tells_on(alloc: Global, pair: &mut Pair) -> bool
 fn a_told_record_is_counted(rt: HostRuntime) {
     let is_right = match new_pair(rt.alloc(), 4, OWN) {
         Some(mut pair) => tells_on(rt.alloc(), &mut pair),
-        None => false,
-    };
-    assert!(rt; is_right);
-}
-
-/// Whether process 0 counts its own record as it publishes it, and has no round of account 1, which it shares.
-fn counts_own(board: &Board, seat: &mut BoardSeat, totals: &mut Totals) -> bool
-    requires seat { seat.old ≡ new_seat board.now 0 }
-    requires new { IsNewTotals totals.old board.now.book }
-{
-    let targets = Targets::one(1, 40);
-    if !may_pay(board.book(), seat.process(), 2, &targets) {
-        return false;
-    }
-    let entry = pay(board, seat, targets);
-    counts_first(totals, seat, &entry);
-    counts_one(totals) && said_of_shared(totals, board, seat, 1) == Some((0, (0, None), (0, None)))
-}
-
-/// A process counts its own record.
-fn counts_on(alloc: Global, pair: &mut Pair) -> bool
-    requires { IsNewPair pair.old }
-{
-    match new_totals(alloc, &pair.board) {
-        Some(mut totals) => counts_own(&pair.board, &mut pair.zero, &mut totals),
-        None => false,
-    }
-}
-
-#[test]
-fn an_own_record_is_counted(rt: HostRuntime) {
-    let is_right = match new_pair(rt.alloc(), 4, ONE_SHARED) {
-        Some(mut pair) => counts_on(rt.alloc(), &mut pair),
-        None => false,
-    };
-    assert!(rt; is_right);
-}
-
-/// The decision that process 0's first request succeeds, before anything is published.
-const FIRST: Decision = Decision {
-    ok: true,
-    slot: 0,
-    number: 0,
-    place: 0,
-};
-
-/// Whether process 0 asks to pay 7 to account 1, decides it in the first round of account 0 and publishes that as the only record.
-fn begins(board: &Board, seat: &mut BoardSeat) -> bool
-    requires two { board.now.book.processes ≡ 2 }
-    requires seat { seat.old ≡ new_seat board.now 0 }
-    ensures accounts { IsTrue result → 1 < length board.now.book.accounts }
-    ensures board { IsTrue result → IsOf seat.new board.now }
-    ensures one { IsTrue result → HasOnlyFirst board.now.book seat.new.knows.seen }
-{
-    let Some(slot) = slot_on(board.book(), 0, seat.process()) else {
-        return false;
-    };
-    if board.book().accounts() < 2 || board.book().opening(0) < 7 {
-        return false;
-    }
-    let (_word, has_round) = settle(board, seat, slot);
-    let published = seat.published();
-    let others = look(board, seat, 1);
-    has_round && published == 1 && others == 0
-}
-
-/// Whether totals that catch up with the record of a round tell what it has decided, and the balances after it.
-fn counts_a_round(board: &Board, seat: &mut BoardSeat, totals: &mut Totals) -> bool
-    requires two { board.now.book.processes ≡ 2 }
-    requires seat { seat.old ≡ new_seat board.now 0 }
-    requires new { IsNewTotals totals.old board.now.book }
-{
-    if !begins(board, seat) {
-        return false;
-    }
-    catches_up(board, seat, totals);
-    let said = said_of_shared(totals, board, seat, 0);
-    counts_one(totals)
-        && said == Some((1, (1, Some((0, FIRST))), (0, None)))
-        && balance(totals, board, seat, 0) == 93
-        && balance(totals, board, seat, 1) == 7
-}
-
-/// A round is decided and published on the account that two processes share, and new totals catch up.
-fn decides_on(alloc: Global, pair: &mut Pair) -> bool
-    requires { IsNewPair pair.old }
-{
-    match new_totals(alloc, &pair.board) {
-        Some(mut totals) => counts_a_round(&pair.board, &mut pair.zero, &mut totals),
-        None => false,
-    }
-}
-
-#[test]
-fn a_published_round_is_counted(rt: HostRuntime) {
-    let is_right = match new_pair(rt.alloc(), 4, SHARED) {
-        Some(mut pair) => decides_on(rt.alloc(), &mut pair),
         None => false,
     };
     assert!(rt; is_right);

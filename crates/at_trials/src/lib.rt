@@ -1,6 +1,6 @@
 //! Tests of the crates that share a board, over the players of at_players; of the asset transfer object by its own calls, scenes of
-//! whole calls, four threads at once, and a closing for which there was no memory; of the crates over it that make jobs and
-//! agreements; and of the state machines of single steps. There is nothing else here.
+//! whole calls, four threads at once, and a closing for which there was no memory; of the crate over it that makes
+//! agreements; and of replays by turns. There is nothing else here.
 #![tactic(auto)]
 
 #[cfg(test)]
@@ -10,29 +10,17 @@ mod agree_trials;
 #[cfg(test)]
 mod board_trials;
 #[cfg(test)]
-mod call_trials;
-#[cfg(test)]
-mod callers;
-#[cfg(test)]
 mod calls;
 #[cfg(test)]
 mod closings;
 #[cfg(test)]
 mod credit_trials;
 #[cfg(test)]
-mod crowd_trials;
-#[cfg(test)]
 mod fold_trials;
 #[cfg(test)]
 mod late_trials;
 #[cfg(test)]
-mod loads;
-#[cfg(test)]
 mod log_trials;
-#[cfg(test)]
-mod machine_trials;
-#[cfg(test)]
-mod movers;
 #[cfg(test)]
 mod object_calls;
 #[cfg(test)]
@@ -58,11 +46,7 @@ mod scenes;
 #[cfg(test)]
 mod schedule_trials;
 #[cfg(test)]
-mod share_trials;
-#[cfg(test)]
 mod shared_trials;
-#[cfg(test)]
-mod sharers;
 #[cfg(test)]
 mod single_trials;
 #[cfg(test)]
@@ -72,10 +56,6 @@ mod stopping_trials;
 #[cfg(test)]
 mod three_owners_trials;
 #[cfg(test)]
-mod traffic_trials;
-#[cfg(test)]
 mod turn_journals;
 #[cfg(test)]
 mod whole_trials;
-#[cfg(test)]
-mod worker_trials;

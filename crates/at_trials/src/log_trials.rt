@@ -1,37 +1,19 @@
 //! A record is appended on a small board, and another process loads it through a note.
 
-ghost use Rattle.std.specs.Prelude.{◌≡◌, ◌+◌, ◌<◌, [], ◌∷◌};
+ghost use Rattle.std.specs.Prelude.{◌≡◌, ◌<◌};
 ghost use Rattle.at_board.specs.Counting.{exchanged, raised};
-ghost use Rattle.at_board.specs.Ends.Opening.{starting_seat};
 ghost use Rattle.at_board.specs.Knowledge.Seats.{IsOf};
 ghost use Rattle.at_history.specs.Publications.{count_of};
-ghost use Rattle.at_history.specs.Sound.{IsSoundOwn};
-ghost use Rattle.at_players.specs.SmallBoard.{IsNewPair, IsNewSingle};
+ghost use Rattle.at_players.specs.SmallBoard.{IsNewPair};
 
 use crate::payers::{may_pay, pay};
 use at_board::{Board, BoardSeat};
 use at_ledger::Targets;
-use at_log::{Entry, Record, load_entry, load_view, room};
-use at_players::boards::{Account, Pair, Single, new_pair, new_single};
-
-/// Account 0 of the only process, and two of nobody.
-const PAID_OUT: &[Account] = &[(100, &[0]), (0, &[]), (0, &[])];
+use at_log::{Entry, Record, load_entry, load_view};
+use at_players::boards::{Account, Pair, new_pair};
 
 /// An account of each process.
 const OWN: &[Account] = &[(100, &[0]), (100, &[1])];
-
-/// The only process pays, in nine steps.
-fn pays_alone(board: &Board, seat: &mut BoardSeat, targets: Targets)
-    requires board { seat.old.board ≡ board.now.id }
-    requires new { seat.old.knows ≡ starting_seat board.now.book seat.old.knows.first }
-    requires pays { IsSoundOwn board.now.book seat.old.knows.first [] 0 targets }
-    requires alone { board.now.book.processes ≡ 1 }
-    ensures board { IsOf seat.new board.now }
-    ensures steps { seat.new.steps ≡ raised seat.old.steps 9 }
-    ensures exchanges { seat.new.exchanges ≡ seat.old.exchanges }
-{
-    let _entry = pay(board, seat, targets);
-}
 
 /// The first record of a process, which its seat tells the other: in a step with an exchange of each, and nine more of the other.
 fn told_record(board: &Board, seat: &mut BoardSeat, other: &mut BoardSeat) -> Record
@@ -49,40 +31,6 @@ fn told_record(board: &Board, seat: &mut BoardSeat, other: &mut BoardSeat) -> Re
     let entry = load_entry(board, other, process, 0);
     let view = load_view(board, other, process, 0);
     Record { entry, view }
-}
-
-/// 60 to account 1 and 40 to account 2.
-fn sixty_and_forty() -> Targets
-    ensures { result ≡ (1, 60) ∷ (2, 40) ∷ [] }
-{
-    let mut targets = Targets::one(1, 60);
-    targets.push(2, 40);
-    targets
-}
-
-/// Whether the only process pays 60 and 40, and has room for three more records then.
-fn appends(single: &mut Single) -> bool
-    requires { IsNewSingle single.old }
-{
-    let targets = sixty_and_forty();
-    if room(&single.board, &single.seat) != 4 {
-        return false;
-    }
-    if !may_pay(single.board.book(), single.seat.process(), 3, &targets) {
-        return false;
-    }
-    pays_alone(&single.board, &mut single.seat, targets);
-    single.seat.published() == 1 && room(&single.board, &single.seat) == 3
-}
-
-/// The only process of a board pays two targets.
-#[test]
-fn a_record_is_appended(rt: HostRuntime) {
-    let is_right = match new_single(rt.alloc(), 4, PAID_OUT) {
-        Some(mut single) => appends(&mut single),
-        None => false,
-    };
-    assert!(rt; is_right);
 }
 
 /// The record by which process 0 pays 1 to account 1, as process 1 loads it after a note.

@@ -1,4 +1,5 @@
 use Rattle.std.proofs.Common.{◌≡◌, ◌+◌, ◌<◌, List, [], ◌∷◌, ◌++◌, length, get_or, sym, ap, subst, ◌∙◌, append_assoc, arith}
+use Rattle.std.proofs.lemmas.Grind.{common_steps}
 use Rattle.std.proofs.Math.Seq.{get_or-append_seam}
 use Rattle.std.proofs.lemmas.List.{length-append}
 use Rattle.at_board.proofs.EndLaws.Closed.{Gathers-first, Gathers-more, next_seat}
@@ -92,3 +93,6 @@ loop-other-preserved c =
             (Gathers-more board done v other c.loop-other.invariant.3.2 free c.into_seat-next.ensures.one_part long.first long.second),
       ),
     )
+
+pub returns-clause-seats : goal.returns-clause-seats
+returns-clause-seats c = grind (arith, common_steps)

@@ -1,4 +1,5 @@
 use Rattle.std.proofs.Common.{◌≡◌, ◌+◌, ◌-◌, ◌<◌, [], sym, ap, subst, ◌∙◌, arith}
+use Rattle.std.proofs.lemmas.Grind.{common_steps}
 use Rattle.at_ledger.specs.Book.{BookTerms}
 use Rattle.at_board.proofs.EndLaws.Cuts.{IsSeat-starting, Ruled-cut, first_part-rest_view, new_seats-more, other_parts-rest_view, rest_view, rest_view-last}
 use Rattle.at_board.proofs.WordLaws.Addresses.{index_of-below}
@@ -63,3 +64,9 @@ loop-process-preserved c =
       cut.3 ∙ c.loop-process.invariant.2,
       cut.4 ∙ (λ t. (other_parts (c.loop-process.invariant.3 t).0, [])) ∙ (λ t. (other_parts-rest_view b p t, [])),
     )
+
+pub returns : goal.returns
+returns c = grind (arith, common_steps)
+
+pub loop-process-init : goal.loop-process-init
+loop-process-init c = grind (arith, common_steps)

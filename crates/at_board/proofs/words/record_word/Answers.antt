@@ -1,4 +1,5 @@
-use Rattle.std.proofs.Common.{sym, subst}
+use Rattle.std.proofs.Common.{sym, subst, arith}
+use Rattle.std.proofs.lemmas.Grind.{common_steps}
 use Rattle.at_ledger.specs.Call.{AreTargetsOn}
 use Rattle.at_history.specs.Entries.{targets_of}
 use Rattle.at_board.proofs.WordLaws.Packed.{ArePacked-IsForm, AreTargetsOn-ArePacked}
@@ -8,3 +9,9 @@ pub pack_targets-requires : goal.pack_targets-requires
 pack_targets-requires c =
     subst (AreTargetsOn 1024) (sym c.targets-targets.ensures)
     (AreTargetsOn-ArePacked (targets_of c.args.entry.now) (ArePacked-IsForm c.args.entry.now c.requires.form))
+
+pub returns-in-0 : goal.returns-in-0
+returns-in-0 c = grind (arith, common_steps)
+
+pub returns-in-2 : goal.returns-in-2
+returns-in-2 c = grind (arith, common_steps)

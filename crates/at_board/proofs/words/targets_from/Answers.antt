@@ -1,4 +1,5 @@
 use Rattle.std.proofs.Common.{◌≡◌, ◌*◌, ◌<◌, get_or, length, sym, ap, ◌∙◌, arith}
+use Rattle.std.proofs.lemmas.Grind.{common_steps}
 use Rattle.std.proofs.lemmas.List.{length-map}
 use Rattle.at_ledger.specs.Call.{TargetPair}
 use Rattle.at_board.specs.Words.Targets.{account_in, accounts_of}
@@ -24,3 +25,6 @@ returns c = λ ts packed word amounts.
     ap (λ w. account_in w (10 * m)) word ∙ account_in-targets_word (accounts_of ts) packed m (omega (arith, there, packed.few)) in
     c.loop-k.invariant.made m (omega (arith, within, c.loop-k.invariant.sized))
     ∙ (λ t. (account t, get_or (amounts t) m 0)))
+
+pub loop-k-preserved : goal.loop-k-preserved
+loop-k-preserved c = grind (arith, common_steps)

@@ -1,4 +1,5 @@
-use Rattle.std.proofs.Common.{◌∙◌, ◌+◌}
+use Rattle.std.proofs.Common.{◌∙◌, ◌+◌, arith}
+use Rattle.std.proofs.lemmas.Grind.{common_steps}
 use Rattle.at_files.proofs.Faults.{Err-same, at_line-stops, within_limits-bad}
 use Rattle.at_files.proofs.accounts.add_named_record.Goals as goal
 
@@ -22,3 +23,9 @@ returns-clause-bad c = λ b same.
       ← (rw (← c.begun.view_is) at c.requires.account),
       rw (c.number_at.ensures, c.field_of-2.ensures) at c.in-Ok.ensures.ok,
     ) (within_limits-bad (c.args.account + 4) _ _ _ b (rw c.deref.ensures.value at (c.add_terms.ensures.bad b same)))
+
+pub returns-clause-ok : goal.returns-clause-ok
+returns-clause-ok c = grind (arith, common_steps)
+
+pub add_terms-requires : goal.add_terms-requires
+add_terms-requires c = grind (arith, common_steps)

@@ -1,4 +1,5 @@
-use Rattle.std.proofs.Common.{◌+◌, Err, ap, sym, ◌∙◌}
+use Rattle.std.proofs.Common.{◌+◌, Err, ap, sym, ◌∙◌, arith}
+use Rattle.std.proofs.lemmas.Grind.{common_steps}
 use Rattle.at_ledger.specs.Draft.{terms_with}
 use Rattle.at_files.proofs.AccountLaws.{length-numbered, with_plain_record-built}
 use Rattle.at_files.proofs.Faults.{Bad-same, within_limits-bad}
@@ -29,3 +30,15 @@ returns-in-Err-add_terms-clause-bad c = λ b same.
       ← (rw (← c.begun.view_is) at c.requires.account),
       rw (c.number_at.ensures, c.number_at-2.ensures, c.in-Ok.ensures, c.field_of.ensures) at c.in-Ok-numbered_terms.ensures.ok,
     ) (within_limits-bad (c.args.account + 4) _ _ _ b (rw c.deref.ensures.value at (c.add_terms.ensures.bad b (c.in-Err-add_terms.is ∙ same))))
+
+pub returns-in_default-add-clause-bad : goal.returns-in_default-add-clause-bad
+returns-in_default-add-clause-bad c = grind (arith, common_steps)
+
+pub returns-clause-bad : goal.returns-clause-bad
+returns-clause-bad c = grind (arith, common_steps)
+
+pub overflow_add-account : goal.overflow_add-account
+overflow_add-account c = grind (arith, common_steps)
+
+pub add_terms-requires : goal.add_terms-requires
+add_terms-requires c = grind (arith, common_steps)

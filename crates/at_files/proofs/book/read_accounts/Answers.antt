@@ -1,4 +1,5 @@
 use Rattle.std.proofs.Common.{Err, ◌∙◌, ap, sym, arith}
+use Rattle.std.proofs.lemmas.Grind.{common_steps}
 use Rattle.at_files.proofs.BookWalk.{Added-more, Added-bad, Added-end, Added-full}
 use Rattle.at_files.proofs.Faults.{Bad-same, Err-same}
 use Rattle.at_files.proofs.book.read_accounts.Goals as goal
@@ -23,3 +24,9 @@ loop-account-preserved c =
 
 pub add_record-requires-clause-room : goal.add_record-requires-clause-room
 add_record-requires-clause-room c = c.loop-account-test.true
+
+pub loop-account-init : goal.loop-account-init
+loop-account-init c = grind (arith, common_steps)
+
+pub add_record-requires-clause-account : goal.add_record-requires-clause-account
+add_record-requires-clause-account c = grind (arith, common_steps)

@@ -1,4 +1,5 @@
-use Rattle.std.proofs.Common.{sym, ◌∙◌, Err, ap}
+use Rattle.std.proofs.Common.{sym, ◌∙◌, Err, ap, arith}
+use Rattle.std.proofs.lemmas.Grind.{common_steps}
 use Rattle.at_files.proofs.BookWalk.{AreNamesOf-limits_of}
 use Rattle.at_files.proofs.Faults.{Bad-same}
 use Rattle.at_files.proofs.book.read_limits.Goals as goal
@@ -9,3 +10,12 @@ returns-in-Ok-limits_of-clause-names c = AreNamesOf-limits_of c.args.version _ _
 pub returns-in-Err-clause-bad : goal.returns-in-Err-clause-bad
 returns-in-Err-clause-bad c = λ b same.
     rw (c.in-Ok.ensures.ok, c.if-not-found.false, sym c.limits_of.ensures ∙ c.in-Err.is) (ap Err (Bad-same _ b (ap Err (sym c.bad_book-in-Err.ensures) ∙ same)))
+
+pub returns-in-Ok-limits_of-clause-bad : goal.returns-in-Ok-limits_of-clause-bad
+returns-in-Ok-limits_of-clause-bad c = grind (arith, common_steps)
+
+pub returns-in-Ok-limits_of-clause-ok : goal.returns-in-Ok-limits_of-clause-ok
+returns-in-Ok-limits_of-clause-ok c = grind (arith, common_steps)
+
+pub returns-then-not-found-clause-bad : goal.returns-then-not-found-clause-bad
+returns-then-not-found-clause-bad c = grind (arith, common_steps)

@@ -1,4 +1,5 @@
-use Rattle.std.proofs.Common.{◌∙◌}
+use Rattle.std.proofs.Common.{◌∙◌, arith}
+use Rattle.std.proofs.lemmas.Grind.{common_steps}
 use Rattle.at_files.proofs.Faults.{Err-same}
 use Rattle.at_files.proofs.book.read_terms.Goals as goal
 
@@ -23,3 +24,6 @@ returns-clause-ok c =
 pub returns-clause-bad : goal.returns-clause-bad
 returns-clause-bad c = λ b same.
     rw (c.in-Ok.ensures.ok ∙ c.in-Ok-read_processes.ensures.ok ∙ c.in-Ok-read_limits.ensures.ok ∙ c.in_default.ensures.ok) (c.finish_book.ensures.bad b same)
+
+pub read_accounts-requires-clause-empty : goal.read_accounts-requires-clause-empty
+read_accounts-requires-clause-empty c = grind (arith, common_steps)

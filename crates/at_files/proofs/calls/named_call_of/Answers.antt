@@ -1,4 +1,5 @@
-use Rattle.std.proofs.Common.{refl, sym, ◌∙◌}
+use Rattle.std.proofs.Common.{refl, sym, ◌∙◌, arith}
+use Rattle.std.proofs.lemmas.Grind.{common_steps}
 use Rattle.at_files.proofs.calls.named_call_of.Goals as goal
 
 pub returns-then-has_shape : goal.returns-then-has_shape
@@ -12,3 +13,12 @@ returns-then-has_shape c =
       c.field_of-then-has_shape.ensures,
       sym c.has_shape.ensures ∙ c.if-has_shape.true,
     ) refl
+
+pub returns-then-has_shape-2 : goal.returns-then-has_shape-2
+returns-then-has_shape-2 c = grind (arith, common_steps)
+
+pub returns-then-is_pay : goal.returns-then-is_pay
+returns-then-is_pay c = grind (arith, common_steps)
+
+pub returns-else-is_pay : goal.returns-else-is_pay
+returns-else-is_pay c = grind (arith, common_steps)

@@ -1,4 +1,5 @@
 use Rattle.std.proofs.Common.{◌≡◌, nat_lt, true, false, refl, arith}
+use Rattle.std.proofs.lemmas.Grind.{common_steps}
 use Rattle.std.proofs.lemmas.Bool.Decides.{nat_tests}
 use Rattle.at_files.proofs.calls.transfer_of.Goals.{in_default-via-in-Some+in-Some+in_default, in_default-via-in-Some+in_default, in_default-via-in_default, else-from-via-then-from+else-to-from, else-from-via-else-from}
 use Rattle.at_files.proofs.calls.transfer_of.Goals as goal
@@ -34,3 +35,9 @@ returns-else-from c =
           let from_unknown : nat_lt c.in-Some-Some-Some.from c.args.accounts ≡ false = grind (arith, nat_tests) in
           rw (c.in-Some-Some-Some.is-0, c.in-Some-Some-Some.is-1, c.in-Some-Some-Some.is-2, from_unknown) refl
     ]
+
+pub overflow_cast-result : goal.overflow_cast-result
+overflow_cast-result c = grind (arith, common_steps)
+
+pub overflow_cast-result-then-to-from : goal.overflow_cast-result-then-to-from
+overflow_cast-result-then-to-from c = grind (arith, common_steps)

@@ -1,4 +1,5 @@
 use Rattle.std.proofs.Common.{◌≡◌, nat_lt, length, true, refl, arith}
+use Rattle.std.proofs.lemmas.Grind.{common_steps}
 use Rattle.std.proofs.lemmas.Bool.Decides.{nat_tests}
 use Rattle.std.specs.List.{slice_index}
 use Rattle.at_files.proofs.deliveries.delivery_to.Goals as goal
@@ -16,3 +17,18 @@ returns c =
     let sender : nat_lt c.args.sender (length c.args.counts.now) ≡ true = grind (arith, nat_tests) in
     let number : nat_lt c.args.number (slice_index c.args.counts.now c.args.sender) ≡ true = grind (arith, nat_tests) in
     rw (node, sender, number) refl
+
+pub get-requires : goal.get-requires
+get-requires c = grind (arith, common_steps)
+
+pub overflow_cast-sender : goal.overflow_cast-sender
+overflow_cast-sender c = grind (arith, common_steps)
+
+pub overflow_cast-result-3 : goal.overflow_cast-result-3
+overflow_cast-result-3 c = grind (arith, common_steps)
+
+pub overflow_cast-result-2 : goal.overflow_cast-result-2
+overflow_cast-result-2 c = grind (arith, common_steps)
+
+pub overflow_cast-result : goal.overflow_cast-result
+overflow_cast-result c = grind (arith, common_steps)

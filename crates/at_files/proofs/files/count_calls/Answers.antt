@@ -1,4 +1,5 @@
 use Rattle.std.proofs.Common.{◌<◌, ◌≤◌, length, arith}
+use Rattle.std.proofs.lemmas.Grind.{common_steps}
 use Rattle.at_files.proofs.FileLists.{file_few, sum_by-contents_of_more}
 use Rattle.at_files.proofs.files.count_calls.Goals as goal
 
@@ -21,3 +22,6 @@ loop-file-preserved c =
       counted = omega (arith, more, c.len.ensures, c.loop-file.invariant.counted);
       bound = omega (arith, few, c.len.ensures, c.loop-file.invariant.bound);
     }
+
+pub returns : goal.returns
+returns c = grind (arith, common_steps)

@@ -1,4 +1,5 @@
-use Rattle.std.proofs.Common.{Ok, Err, refl, sym, ◌∙◌, ap}
+use Rattle.std.proofs.Common.{Ok, Err, refl, sym, ◌∙◌, ap, arith}
+use Rattle.std.proofs.lemmas.Grind.{common_steps}
 use Rattle.std.proofs.lemmas.Bool.{not-false, not-true}
 use Rattle.at_files.proofs.Faults.{Bad-same}
 use Rattle.at_files.proofs.first_records.add_name.Goals as goal
@@ -15,3 +16,9 @@ returns-else-added c = record {
       rw (sym c.is_name.ensures ∙ c.if-not-is_name.false, not-false _ (sym c.in-Ok.ensures.added ∙ c.if-added.false))
       (ap Err (Bad-same _ b (ap Err (sym c.bad_book-else-added.ensures) ∙ same)));
 }
+
+pub returns-then-not-is_name-clause-bad : goal.returns-then-not-is_name-clause-bad
+returns-then-not-is_name-clause-bad c = grind (arith, common_steps)
+
+pub add-requires : goal.add-requires
+add-requires c = grind (arith, common_steps)

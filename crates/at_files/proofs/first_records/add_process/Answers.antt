@@ -1,4 +1,5 @@
 use Rattle.std.proofs.Common.{◌≡◌, nat_le, length, false, arith}
+use Rattle.std.proofs.lemmas.Grind.{common_steps}
 use Rattle.std.proofs.lemmas.Bool.Decides.{nat_tests}
 use Rattle.at_files.proofs.first_records.add_process.Goals as goal
 
@@ -15,3 +16,6 @@ returns-clause-bad c = λ b same.
     let few = c.if-len.false in
     let room : nat_le 16 (length c.args.names.now) ≡ false = grind (arith, nat_tests) in
     rw room (c.add_name.ensures.bad b same)
+
+pub returns-then-len-clause-bad : goal.returns-then-len-clause-bad
+returns-then-len-clause-bad c = grind (arith, common_steps)

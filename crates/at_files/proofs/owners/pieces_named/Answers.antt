@@ -1,4 +1,5 @@
 use Rattle.std.proofs.Common.{◌≡◌, ◌+◌, ◌==◌, [], ◌∷◌, ◌++◌, Err, refl, sym, ◌∙◌, ap, rules, tests, arith}
+use Rattle.std.proofs.lemmas.Grind.{common_steps}
 use Rattle.std.proofs.lemmas.List.{length_push}
 use Rattle.std.proofs.lemmas.Iterator.Splits.{YieldsList-from_slice_split}
 use Rattle.std.proofs.lemmas.Iterator.Consumers.{YieldsList-at, YieldsList-turn, YieldsList-end}
@@ -37,3 +38,18 @@ returns-clause-ok c =
     (λ x r q k. search (rules, tests))))
     c.loop-piece.yielded _ c.loop-piece.yielded_by _ _ c.in-None.is c.next.ensures.steps in
     AreNamed-end _ _ _ _ _ _ c.loop-piece.invariant (omega (arith, end.1))
+
+pub overflow_add-least : goal.overflow_add-least
+overflow_add-least c = grind (arith, common_steps)
+
+pub overflow_add-account : goal.overflow_add-account
+overflow_add-account c = grind (arith, common_steps)
+
+pub loop-piece-init : goal.loop-piece-init
+loop-piece-init c = grind (arith, common_steps)
+
+pub returns-clause-bad : goal.returns-clause-bad
+returns-clause-bad c = grind (arith, common_steps)
+
+pub returns-then-is_err-clause-bad : goal.returns-then-is_err-clause-bad
+returns-then-is_err-clause-bad c = grind (arith, common_steps)

@@ -1,4 +1,5 @@
 use Rattle.std.proofs.Common.{◌≡◌, nat_le, length, true, refl, arith, sym}
+use Rattle.std.proofs.lemmas.Grind.{common_steps}
 use Rattle.std.proofs.lemmas.Bool.Decides.{nat_tests}
 use Rattle.at_files.proofs.replay_payments.read_replay_payments.Goals as goal
 
@@ -11,3 +12,15 @@ returns-clause-ok c =
 
 pub returns-clause-pays : goal.returns-clause-pays
 returns-clause-pays c = record { pays = c.in-Ok.ensures.pays; few = omega (arith, sym c.len.ensures, c.if-len.false) }
+
+pub returns-then-len-clause-accepts : goal.returns-then-len-clause-accepts
+returns-then-len-clause-accepts c = grind (arith, common_steps)
+
+pub returns-then-len-clause-bad : goal.returns-then-len-clause-bad
+returns-then-len-clause-bad c = grind (arith, common_steps)
+
+pub returns-in-Err-clause-accepts : goal.returns-in-Err-clause-accepts
+returns-in-Err-clause-accepts c = grind (arith, common_steps)
+
+pub returns-in-Err-clause-bad : goal.returns-in-Err-clause-bad
+returns-in-Err-clause-bad c = grind (arith, common_steps)

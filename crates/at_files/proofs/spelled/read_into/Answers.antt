@@ -1,4 +1,5 @@
 use Rattle.std.proofs.Common.{Err, ◌∙◌, ap, arith}
+use Rattle.std.proofs.lemmas.Grind.{common_steps}
 use Rattle.at_files.proofs.SpelledWalk.{AreSpelled-start, AreSpelled-more, AreSpelled-end, AreSpelled-bad, AreSpelled-many, Bad-same}
 use Rattle.at_files.proofs.spelled.read_into.Goals as goal
 
@@ -21,3 +22,18 @@ returns-then-found-clause-bad g c = λ b same.
 
 pub returns-clause-ok : goal.returns-clause-ok
 returns-clause-ok g c = AreSpelled-end _ _ _ _ _ _ _ _ _ _ c.loop-line.invariant c.in-Ok-next.ensures.ok c.if-found.false
+
+pub returns-in_default-next-clause-bad : goal.returns-in_default-next-clause-bad
+returns-in_default-next-clause-bad c = grind (arith, common_steps)
+
+pub returns-clause-bad : goal.returns-clause-bad
+returns-clause-bad c = grind (arith, common_steps)
+
+pub returns-in_default-clause-bad : goal.returns-in_default-clause-bad
+returns-in_default-clause-bad c = grind (arith, common_steps)
+
+pub returns-then-not-found-clause-bad : goal.returns-then-not-found-clause-bad
+returns-then-not-found-clause-bad c = grind (arith, common_steps)
+
+pub overflow_add-result : goal.overflow_add-result
+overflow_add-result c = grind (arith, common_steps)

@@ -47,3 +47,36 @@ loop-buffer-preserved g c =
           c.loop-buffer.invariant.bytes told
           ∙ c.in-Ok.ensures.bytes (c.loop-buffer.invariant.files.as_told ∙ told);
     }
+
+pub read_some-requires : goal.read_some-requires
+read_some-requires c = grind (arith, common_steps)
+
+pub returns-clause-failed : goal.returns-clause-failed
+returns-clause-failed c = grind (arith, common_steps)
+
+pub returns-then-ended-clause-later : goal.returns-then-ended-clause-later
+returns-then-ended-clause-later c = grind (arith, common_steps)
+
+pub returns-in-Err-clause-too_long : goal.returns-in-Err-clause-too_long
+returns-in-Err-clause-too_long c = grind (arith, common_steps)
+
+pub returns-in-Err-clause-failed : goal.returns-in-Err-clause-failed
+returns-in-Err-clause-failed c = grind (arith, common_steps)
+
+pub returns-in-Err-clause-kept : goal.returns-in-Err-clause-kept
+returns-in-Err-clause-kept c = grind (arith, common_steps)
+
+pub returns-in-Err-clause-files : goal.returns-in-Err-clause-files
+returns-in-Err-clause-files c = grind (arith, common_steps)
+
+pub returns-then-ended-clause-kept : goal.returns-then-ended-clause-kept
+returns-then-ended-clause-kept c = grind (arith, common_steps)
+
+pub returns-in-Err-clause-later : goal.returns-in-Err-clause-later
+returns-in-Err-clause-later c = grind (arith, common_steps)
+
+pub returns-then-ended-clause-files : goal.returns-then-ended-clause-files
+returns-then-ended-clause-files c = grind (arith, common_steps)
+
+pub slice_bounds-read_some-end : goal.slice_bounds-read_some-end
+slice_bounds-read_some-end c = grind (arith, common_steps)

@@ -1,4 +1,5 @@
 use Rattle.std.proofs.Common.{◌≡◌, ◌+◌, ◌++◌, take, length, List, ℕ, arith, append_assoc}
+use Rattle.std.proofs.lemmas.Grind.{common_steps}
 use Rattle.std.specs.List.{slice_range}
 use Rattle.std.proofs.Math.Seq.{take-add}
 use Rattle.std.proofs.lemmas.List.{take_rest}
@@ -29,3 +30,24 @@ returns-clause-fault g c = tt
 
 pub returns-clause-prefix : goal.returns-clause-prefix
 returns-clause-prefix g c told = tt
+
+pub overflow_add-at : goal.overflow_add-at
+overflow_add-at c = grind (arith, common_steps)
+
+pub returns-in_default-clause-fault : goal.returns-in_default-clause-fault
+returns-in_default-clause-fault c = grind (arith, common_steps)
+
+pub returns-in_default-clause-later : goal.returns-in_default-clause-later
+returns-in_default-clause-later c = grind (arith, common_steps)
+
+pub returns-in_default-clause-prefix : goal.returns-in_default-clause-prefix
+returns-in_default-clause-prefix c = grind (arith, common_steps)
+
+pub loop-at-smaller : goal.loop-at-smaller
+loop-at-smaller c = grind (arith, common_steps)
+
+pub returns-in_default-clause-as_told : goal.returns-in_default-clause-as_told
+returns-in_default-clause-as_told c = grind (arith, common_steps)
+
+pub returns-clause-all : goal.returns-clause-all
+returns-clause-all c = grind (arith, common_steps)

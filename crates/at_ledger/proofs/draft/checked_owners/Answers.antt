@@ -18,3 +18,15 @@ loop-owner-preserved c = (
 
 pub returns-clause-good : goal.returns-clause-good
 returns-clause-good c = c.loop-owner.invariant.0 ∙ owners_fault-drop_all _ _ _ _ _ _ c.loop-owner-test.false
+
+pub returns-clause-ok : goal.returns-clause-ok
+returns-clause-ok c = grind (arith, common_steps)
+
+pub overflow_cast-owner : goal.overflow_cast-owner
+overflow_cast-owner c = grind (arith, common_steps)
+
+pub push-requires : goal.push-requires
+push-requires c = grind (arith, common_steps)
+
+pub overflow_add-least : goal.overflow_add-least
+overflow_add-least c = grind (arith, common_steps)

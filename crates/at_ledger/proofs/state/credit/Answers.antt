@@ -1,4 +1,5 @@
 use Rattle.std.proofs.Common.{◌<◌, length, sym, ◌∙◌, arith}
+use Rattle.std.proofs.lemmas.Grind.{common_steps}
 use Rattle.std.proofs.lemmas.List.Elements.{All-get_or}
 use Rattle.std.proofs.lemmas.List.Sums.{get_or-le-sum_by}
 use Rattle.at_ledger.proofs.Credited.{amount_of-drop_more, credited-drop_more, credited-drop_all, sum-set_more}
@@ -25,3 +26,12 @@ loop-i-preserved c =
 pub returns-clause-credited : goal.returns-clause-credited
 returns-clause-credited c =
     sym (credited-drop_all c.loop-i.balances c.args.targets.now c.loop-i.i (omega arith)) ∙ c.loop-i.invariant.0
+
+pub returns-clause-total : goal.returns-clause-total
+returns-clause-total c = grind (arith, common_steps)
+
+pub bounds-balances-to-in-loop-i : goal.bounds-balances-to-in-loop-i
+bounds-balances-to-in-loop-i c = grind (arith, common_steps)
+
+pub bounds-balances-to : goal.bounds-balances-to
+bounds-balances-to c = grind (arith, common_steps)

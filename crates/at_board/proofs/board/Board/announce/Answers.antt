@@ -1,4 +1,5 @@
 use Rattle.std.proofs.Common.{refl, ◌≡◌, ◌+◌, ℕ, sym, ap, subst, ◌∙◌, arith}
+use Rattle.std.proofs.lemmas.Grind.{common_steps}
 use Rattle.at_ledger.specs.Book.{BookTerms}
 use Rattle.at_board.proofs.KnowledgeLaws.Kept.{IsSeat-step, IsSeatOf-IsSeat}
 use Rattle.at_board.proofs.StepLaws.Announce.{Announces-played, Announces-same, HasCounts-announce, MayAnnounce-same, MayAnnounce-slot, announces_at, place-MayAnnounce}
@@ -98,3 +99,24 @@ returns-clause-announced c = λ k q asks.
 
 pub returns-clause-seat : goal.returns-clause-seat
 returns-clause-seat c = c.store.ensures.2.1
+
+pub index_mut-requires : goal.index_mut-requires
+index_mut-requires c = grind (arith, common_steps)
+
+pub returns-clause-exchanges : goal.returns-clause-exchanges
+returns-clause-exchanges c = grind (arith, common_steps)
+
+pub returns-clause-steps : goal.returns-clause-steps
+returns-clause-steps c = grind (arith, common_steps)
+
+pub overflow_add-count : goal.overflow_add-count
+overflow_add-count c = grind (arith, common_steps)
+
+pub returns-clause-board : goal.returns-clause-board
+returns-clause-board c = grind (arith, common_steps)
+
+pub announced-count-requires-clause-slot : goal.announced-count-requires-clause-slot
+announced-count-requires-clause-slot c = grind (arith, common_steps)
+
+pub own_slot-own-requires : goal.own_slot-own-requires
+own_slot-own-requires c = grind (arith, common_steps)

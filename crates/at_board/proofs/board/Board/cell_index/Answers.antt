@@ -1,4 +1,5 @@
 use Rattle.std.proofs.Common.{◌≡◌, ℕ, ◌+◌, ◌*◌, length, take, refl, sym, ap, subst, ◌∙◌, arith}
+use Rattle.std.proofs.lemmas.Grind.{common_steps}
 use Rattle.std.specs.List.{sum_by}
 use Rattle.std.proofs.lemmas.List.{take_all}
 use Rattle.at_ledger.specs.Book.{BookTerms}
@@ -53,3 +54,9 @@ returns c =
     let room = c.request_room-room.result in
     let n = c.self.inside.slots_start + slots + 6 * (slots * room) + c.first_slot.result * room + c.args.round in
     record { index = subst (λ (t : BookTerms). n ≡ index_of t (cell_of c.args.account c.args.round)) (ap (λ t. t.book) c.self.view_is) (index all).index }
+
+pub first_slot-slots-requires : goal.first_slot-slots-requires
+first_slot-slots-requires c = grind (arith, common_steps)
+
+pub first_slot-requires : goal.first_slot-requires
+first_slot-requires c = grind (arith, common_steps)

@@ -1,4 +1,5 @@
 use Rattle.std.proofs.Common.{sym, ap, subst, ◌∙◌, arith}
+use Rattle.std.proofs.lemmas.Grind.{common_steps}
 use Rattle.std.specs.Mem.Slots.{slots_items}
 use Rattle.at_ledger.specs.Book.{BookTerms}
 use Rattle.at_board.proofs.EndLaws.Closed.{IsEnd-Final, IsLast}
@@ -18,3 +19,12 @@ returns-clause-end c =
     let last : IsLast b c.gather-last.result.id c.gather-last.result.me.0 words slots =
     subst (λ (k : BookTerms). IsLast k c.gather-last.result.id c.gather-last.result.me.0 words slots) c.self.invariant.0 c.close_with.ensures.values.2 in
     IsEnd-Final b words slots c.gather-last.result.id c.gather-last.result.me.0 c.args.seats.items c.self.invariant.2 c.gather-last.ensures.seats all last
+
+pub gather-last-requires-clause-seats : goal.gather-last-requires-clause-seats
+gather-last-requires-clause-seats c = grind (arith, common_steps)
+
+pub returns-clause-book : goal.returns-clause-book
+returns-clause-book c = grind (arith, common_steps)
+
+pub invariant_of-result : goal.invariant_of-result
+invariant_of-result c = grind (arith, common_steps)

@@ -1,4 +1,5 @@
 use Rattle.std.proofs.Common.{refl, ◌≡◌, sym, ap, subst, ◌∙◌, arith}
+use Rattle.std.proofs.lemmas.Grind.{common_steps}
 use Rattle.at_base.specs.Decision.{word_of}
 use Rattle.at_base.specs.declared.decision.Decision.{Decision}
 use Rattle.at_ledger.specs.Book.{BookTerms, IsBegun}
@@ -84,3 +85,12 @@ returns-clause-decided c = λ d r may word.
 
 pub returns-clause-seat : goal.returns-clause-seat
 returns-clause-seat c = c.compare_exchange-found.ensures.2.1
+
+pub returns-clause-exchanges : goal.returns-clause-exchanges
+returns-clause-exchanges c = grind (arith, common_steps)
+
+pub returns-clause-steps : goal.returns-clause-steps
+returns-clause-steps c = grind (arith, common_steps)
+
+pub returns-clause-board : goal.returns-clause-board
+returns-clause-board c = grind (arith, common_steps)

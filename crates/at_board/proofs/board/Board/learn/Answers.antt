@@ -1,4 +1,5 @@
 use Rattle.std.proofs.Common.{◌≡◌, ◌<◌, length, sym, ap, subst, ◌∙◌, arith}
+use Rattle.std.proofs.lemmas.Grind.{common_steps}
 use Rattle.at_ledger.specs.Book.{BookTerms}
 use Rattle.at_board.proofs.StepLaws.Learn.{HasCounts-learned, IsSeat-learned, Learns-learned, learns}
 use Rattle.at_board.proofs.StepLaws.Note.{word_count-some}
@@ -82,3 +83,12 @@ returns-clause-learned c =
     let told = Learns-learned b c.seat.inside.seat.id c.note.inside.seat.id v w c.seat.inside.process c.seat.inside.published book note_book c.seat.invariant.1 c.note.invariant.1 met in
     subst (λ (t : Knowledge). Learns b t c.args.note.knows c.join_seat.new.seat.me.0) mine
     (subst (λ (t : Knowledge). Learns b v t c.join_seat.new.seat.me.0) theirs (subst (Learns b v w) after told))
+
+pub returns-clause-exchanges : goal.returns-clause-exchanges
+returns-clause-exchanges c = grind (arith, common_steps)
+
+pub returns-clause-board : goal.returns-clause-board
+returns-clause-board c = grind (arith, common_steps)
+
+pub returns-clause-steps : goal.returns-clause-steps
+returns-clause-steps c = grind (arith, common_steps)

@@ -1,4 +1,5 @@
 use Rattle.std.proofs.Common.{◌≡◌, sym, ap, ◌∙◌, arith}
+use Rattle.std.proofs.lemmas.Grind.{common_steps}
 use Rattle.at_ledger.specs.Book.{BookTerms}
 use Rattle.at_board.proofs.WordLaws.Addresses.{index_of-below}
 use Rattle.at_board.proofs.KnowledgeLaws.Records.{IsAddress-MayLoadWord}
@@ -38,3 +39,9 @@ returns-clause-word c =
     IsRecordWord-played c.args.self.now.book c.self.inside.table.shared.table_id.slots c.seat.inside.seat.me c.load.new.seat.me c.args.p c.args.i c.args.j
     c.record_index-index.result c.load.result c.args.seat.now.knows c.seat.inside.process c.seat.inside.published (book before) c.seat.invariant.1 (ap (λ s. s.knows) c.seat.view_is)
     c.requires.record c.record_index-index.ensures.index c.load.ensures.2
+
+pub invariant_of-seat : goal.invariant_of-seat
+invariant_of-seat c = grind (arith, common_steps)
+
+pub returns-clause-same : goal.returns-clause-same
+returns-clause-same c = grind (arith, common_steps)

@@ -1,4 +1,5 @@
 use Rattle.std.proofs.Common.{refl, ◌≡◌, sym, ap, subst, ◌∙◌, arith}
+use Rattle.std.proofs.lemmas.Grind.{common_steps}
 use Rattle.at_ledger.specs.Book.{BookTerms, IsBegun}
 use Rattle.at_board.proofs.KnowledgeLaws.Kept.{IsSeat-step, IsSeatOf-IsSeat}
 use Rattle.at_board.proofs.WordLaws.Addresses.{index_of-below}
@@ -78,3 +79,12 @@ returns-clause-told c =
 
 pub returns-clause-seat : goal.returns-clause-seat
 returns-clause-seat c = c.load.ensures.2.1
+
+pub returns-clause-steps : goal.returns-clause-steps
+returns-clause-steps c = grind (arith, common_steps)
+
+pub returns-clause-exchanges : goal.returns-clause-exchanges
+returns-clause-exchanges c = grind (arith, common_steps)
+
+pub returns-clause-board : goal.returns-clause-board
+returns-clause-board c = grind (arith, common_steps)

@@ -1,4 +1,5 @@
-use Rattle.std.proofs.Common.{◌∙◌}
+use Rattle.std.proofs.Common.{◌∙◌, arith}
+use Rattle.std.proofs.lemmas.Grind.{common_steps}
 use Rattle.at_board.proofs.EndLaws.Opening.{Ruled-new}
 use Rattle.at_board.proofs.board.Board.new.Goals as goal
 
@@ -6,3 +7,18 @@ pub of_words-requires : goal.of_words-requires
 of_words-requires c =
     Ruled-new c.of.result.value c.args.book.now c.as_slice.result.now c.word_count.result c.of.ensures c.word_count.ensures.count
     (c.as_slice.ensures.value ∙ c.in_ok-words.ensures.items_if_clones_equal (λ y e. e))
+
+pub returns-clause-few : goal.returns-clause-few
+returns-clause-few c = grind (arith, common_steps)
+
+pub deal-requires-clause-first : goal.deal-requires-clause-first
+deal-requires-clause-first c = grind (arith, common_steps)
+
+pub invariant_of-board : goal.invariant_of-board
+invariant_of-board c = grind (arith, common_steps)
+
+pub returns-clause-seats : goal.returns-clause-seats
+returns-clause-seats c = grind (arith, common_steps)
+
+pub same-copy : goal.same-copy
+same-copy c = grind (arith, common_steps)

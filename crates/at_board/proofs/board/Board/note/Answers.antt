@@ -1,4 +1,5 @@
 use Rattle.std.proofs.Common.{sym, ap, subst, ◌∙◌, arith}
+use Rattle.std.proofs.lemmas.Grind.{common_steps}
 use Rattle.at_board.proofs.StepLaws.Note.{IsNote-noted, notes, word_count-some}
 use Rattle.at_board.specs.Steps.Note.{IsNote}
 use Rattle.at_board.proofs.board.Board.note.Goals as goal
@@ -16,3 +17,12 @@ invariant_of-result c = (
   subst IsNote (sym (ap (λ m. m.0) c.split_seat.ensures.4))
       (IsNote-noted c.seat.inside.seat.me.0 c.seat.inside.process c.seat.inside.published c.seat.invariant.1),
 )
+
+pub invariant_of-seat : goal.invariant_of-seat
+invariant_of-seat c = grind (arith, common_steps)
+
+pub returns-clause-noted : goal.returns-clause-noted
+returns-clause-noted c = grind (arith, common_steps)
+
+pub returns-clause-same : goal.returns-clause-same
+returns-clause-same c = grind (arith, common_steps)

@@ -1,4 +1,5 @@
 use Rattle.std.proofs.Common.{refl, ◌≡◌, ◌+◌, ◌<◌, sym, ap, ◌∙◌, arith}
+use Rattle.std.proofs.lemmas.Grind.{common_steps}
 use Rattle.at_ledger.specs.Book.{BookTerms, log_room_of}
 use Rattle.at_board.proofs.KnowledgeLaws.Kept.{IsSeat-step, IsSeatOf, IsSeatOf-IsSeat}
 use Rattle.at_board.proofs.StepLaws.LogRoom.{published-MayEnter}
@@ -96,3 +97,9 @@ returns-clause-published c = λ x asked.
 
 pub returns-clause-seat : goal.returns-clause-seat
 returns-clause-seat c = c.store.ensures.2.1
+
+pub returns-clause-steps : goal.returns-clause-steps
+returns-clause-steps c = grind (arith, common_steps)
+
+pub returns-clause-exchanges : goal.returns-clause-exchanges
+returns-clause-exchanges c = grind (arith, common_steps)

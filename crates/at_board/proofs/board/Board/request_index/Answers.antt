@@ -1,4 +1,5 @@
 use Rattle.std.proofs.Common.{◌≡◌, ◌+◌, ◌*◌, length, take, sym, ap, subst, ◌∙◌, arith}
+use Rattle.std.proofs.lemmas.Grind.{common_steps}
 use Rattle.std.specs.List.{sum_by}
 use Rattle.std.proofs.lemmas.List.{take_all}
 use Rattle.at_ledger.specs.Book.{BookTerms}
@@ -67,3 +68,9 @@ returns c =
     record {
       index = subst (λ (t : BookTerms). start + requests * 6 + c.args.j ≡ index_of t x) (ap (λ t. t.book) c.self.view_is) (computed all).here;
     }
+
+pub overflow_add-slots : goal.overflow_add-slots
+overflow_add-slots c = grind (arith, common_steps)
+
+pub first_slot-requires : goal.first_slot-requires
+first_slot-requires c = grind (arith, common_steps)

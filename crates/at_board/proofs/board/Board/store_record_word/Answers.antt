@@ -1,4 +1,5 @@
 use Rattle.std.proofs.Common.{refl, ◌≡◌, sym, ap, subst, ◌∙◌, arith}
+use Rattle.std.proofs.lemmas.Grind.{common_steps}
 use Rattle.at_ledger.specs.Book.{BookTerms}
 use Rattle.at_board.proofs.KnowledgeLaws.Kept.{IsSeat-step, IsSeatOf-IsSeat, next_record}
 use Rattle.at_board.proofs.WordLaws.Addresses.{index_of-below}
@@ -74,3 +75,12 @@ returns-clause-stored c =
 
 pub returns-clause-seat : goal.returns-clause-seat
 returns-clause-seat c = c.store.ensures.2.1
+
+pub record_index-index-requires : goal.record_index-index-requires
+record_index-index-requires c = grind (arith, common_steps)
+
+pub returns-clause-exchanges : goal.returns-clause-exchanges
+returns-clause-exchanges c = grind (arith, common_steps)
+
+pub returns-clause-steps : goal.returns-clause-steps
+returns-clause-steps c = grind (arith, common_steps)

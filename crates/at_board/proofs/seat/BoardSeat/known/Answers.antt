@@ -1,4 +1,5 @@
-use Rattle.std.proofs.Common.{ap, subst}
+use Rattle.std.proofs.Common.{ap, subst, arith}
+use Rattle.std.proofs.lemmas.Grind.{common_steps}
 use Rattle.at_board.proofs.StepLaws.Forms.{FitsNext-IsSeat, SeesForms-IsSeat}
 use Rattle.at_board.specs.Knowledge.Records.{SeesForms}
 use Rattle.at_board.specs.Steps.Publish.{FitsNext}
@@ -13,3 +14,6 @@ pub returns-clause-next : goal.returns-clause-next
 returns-clause-next c =
     subst FitsNext (ap (λ s. s.knows) c.self.view_is)
     (FitsNext-IsSeat c.self.inside.seat.me.0 c.self.inside.process c.self.inside.published c.self.invariant.1)
+
+pub returns-clause-seat : goal.returns-clause-seat
+returns-clause-seat c = grind (arith, common_steps)

@@ -1,4 +1,5 @@
-use Rattle.std.proofs.Common.{sym, ◌∙◌}
+use Rattle.std.proofs.Common.{sym, ◌∙◌, arith}
+use Rattle.std.proofs.lemmas.Grind.{common_steps}
 use Rattle.at_files.proofs.NameSetLaws.{position_of-long, position_of-map}
 use Rattle.at_files.proofs.name_set.NameSet.position.Goals as goal
 
@@ -7,3 +8,6 @@ returns-in-Some-clause-position c = c.get_index_of.ensures.index ∙ rw (c.in-So
 
 pub returns-in-None-clause-position : goal.returns-in-None-clause-position
 returns-in-None-clause-position c = rw (← c.self.view_is) (sym (position_of-long _ c.args.text.now c.self.invariant c.in-None.ensures.none))
+
+pub returns-in-Some-clause-within : goal.returns-in-Some-clause-within
+returns-in-Some-clause-within c = grind (arith, common_steps)

@@ -1,4 +1,5 @@
 use Rattle.std.proofs.Common.{arith}
+use Rattle.std.proofs.lemmas.Grind.{common_steps}
 use Rattle.at_files.specs.Names.{AreNamesOf, plain_names}
 use Rattle.at_files.proofs.NameLaws.{AreNamesOf-plain_names}
 use Rattle.at_files.proofs.names.Names.plain.Goals as goal
@@ -13,3 +14,6 @@ pub returns-clause-names : goal.returns-clause-names
 returns-clause-names c =
     rw (c.in-Ok.ensures, c.in-Ok-plain_names.ensures, c.processes.ensures, c.accounts-accounts.ensures.count)
     (AreNamesOf-plain_names c.args.book.now (omega (arith, c.accounts-accounts.ensures.checked.begun.few_processes)) c.accounts-accounts.ensures.checked.begun.few_accounts)
+
+pub returns-clause-plain : goal.returns-clause-plain
+returns-clause-plain c = grind (arith, common_steps)

@@ -1,4 +1,5 @@
-use Rattle.std.proofs.Common.{◌∙◌}
+use Rattle.std.proofs.Common.{◌∙◌, arith}
+use Rattle.std.proofs.lemmas.Grind.{common_steps}
 use Rattle.at_files.proofs.NameLaws.{decimal-AreNames}
 use Rattle.at_files.proofs.names.Names.process.Goals as goal
 
@@ -7,3 +8,6 @@ returns-clause-plain c = λ first.
     c.name.ensures
     ∙ decimal-AreNames c.self.inside.version c.self.inside.processes c.args.process c.self.invariant.processes (rw (← c.self.view_is) at first)
     (rw (← c.self.view_is) at c.requires)
+
+pub name-requires : goal.name-requires
+name-requires c = grind (arith, common_steps)

@@ -1,4 +1,5 @@
-use Rattle.std.proofs.Common.{sym}
+use Rattle.std.proofs.Common.{sym, arith}
+use Rattle.std.proofs.lemmas.Grind.{common_steps}
 use Rattle.at_files.specs.Reading.{IsBetweenRecords}
 use Rattle.at_files.proofs.RecordLaws.{records_left-read, IsBetweenRecords-read}
 use Rattle.at_files.proofs.records.Records.next.Goals as goal
@@ -12,3 +13,6 @@ pub returns-clause-ok : goal.returns-clause-ok
 returns-clause-ok c =
     let is : IsBetweenRecords c.self.inside.reader = c.self.invariant c.if-self.false in
     records_left-read _ c.self.inside.reader c.read_byte_record.new.self _ _ _ c.if-self.false (sym c.self.view_is) is (c.in-Ok.ensures.reads is.trim is.ready)
+
+pub invariant_of-self : goal.invariant_of-self
+invariant_of-self c = grind (arith, common_steps)

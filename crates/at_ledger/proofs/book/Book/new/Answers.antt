@@ -1,4 +1,5 @@
-use Rattle.std.proofs.Common.{◌≡◌, Some, None, Err, sym, ap, ◌∙◌, get_or}
+use Rattle.std.proofs.Common.{◌≡◌, Some, None, Err, sym, ap, ◌∙◌, get_or, arith}
+use Rattle.std.proofs.lemmas.Grind.{common_steps}
 use Rattle.std.proofs.lemmas.List.{map_more}
 use Rattle.std.proofs.lemmas.Result.{err_from_is_err_and}
 use Rattle.at_ledger.specs.Draft.{terms_of, with_account}
@@ -37,3 +38,12 @@ returns-in-Err-finish-clause-bad c e is =
     book_fault-from_accounts c.args.draft.now _ (Some e) c.deref-account-items.ensures.value c.in-Ok.ensures.good
     (c.loop-account.invariant.0 ∙ (accounts_fault-drop_all_none c.loop-account.builder _ c.loop-account.account-index c.loop-account-test.false c.in-Err-finish.ensures.bad.1
     ∙ ap Some (sym c.in-Err-finish.ensures.bad.0 ∙ fault)))
+
+pub returns-in-Ok-finish-clause-ok : goal.returns-in-Ok-finish-clause-ok
+returns-in-Ok-finish-clause-ok c = grind (arith, common_steps)
+
+pub returns-in-Err-clause-bad : goal.returns-in-Err-clause-bad
+returns-in-Err-clause-bad c = grind (arith, common_steps)
+
+pub offset_bounds-account-items-account-index : goal.offset_bounds-account-items-account-index
+offset_bounds-account-items-account-index c = grind (arith, common_steps)

@@ -1,4 +1,5 @@
 use Rattle.std.proofs.Common.{◌≡◌, refl, ◌+◌, ◌<◌, length, get_or, ap, subst, sym, ◌∙◌, arith}
+use Rattle.std.proofs.lemmas.Grind.{common_steps}
 use Rattle.at_ledger.specs.Book.{BookTerms}
 use Rattle.at_board.specs.Knowledge.Seats.{SeatTerms}
 use Rattle.at_board.specs.Steps.Publish.{MayPublish, Publishes}
@@ -124,3 +125,36 @@ returns-else-self-processes-clause-board c =
       id = c.publish.ensures.board ∙ c.requires.board.id;
       book = ap (λ (v : Knowledge). v.book) (published done).same ∙ book (goal.at.After-publish done).After-processes;
     }
+
+pub returns-then-self-processes-clause-word : goal.returns-then-self-processes-clause-word
+returns-then-self-processes-clause-word c = grind (arith, common_steps)
+
+pub returns-else-self-processes-clause-after : goal.returns-else-self-processes-clause-after
+returns-else-self-processes-clause-after c = grind (arith, common_steps)
+
+pub store_record_word-requires-clause-word : goal.store_record_word-requires-clause-word
+store_record_word-requires-clause-word c = grind (arith, common_steps)
+
+pub returns-then-self-processes-clause-published : goal.returns-then-self-processes-clause-published
+returns-then-self-processes-clause-published c = grind (arith, common_steps)
+
+pub returns-then-self-processes-clause-publishes : goal.returns-then-self-processes-clause-publishes
+returns-then-self-processes-clause-publishes c = grind (arith, common_steps)
+
+pub overflow_add-self : goal.overflow_add-self
+overflow_add-self c = grind (arith, common_steps)
+
+pub overflow_add-self-else-self-processes : goal.overflow_add-self-else-self-processes
+overflow_add-self-else-self-processes c = grind (arith, common_steps)
+
+pub returns-then-self-processes-clause-ends : goal.returns-then-self-processes-clause-ends
+returns-then-self-processes-clause-ends c = grind (arith, common_steps)
+
+pub returns-then-self-processes-clause-after : goal.returns-then-self-processes-clause-after
+returns-then-self-processes-clause-after c = grind (arith, common_steps)
+
+pub overflow_add-processes : goal.overflow_add-processes
+overflow_add-processes c = grind (arith, common_steps)
+
+pub returns-else-self-processes-clause-word : goal.returns-else-self-processes-clause-word
+returns-else-self-processes-clause-word c = grind (arith, common_steps)

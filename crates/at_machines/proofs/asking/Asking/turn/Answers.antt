@@ -1,4 +1,5 @@
 use Rattle.std.proofs.Common.{◌≡◌, ℕ, ◌+◌, ◌<◌, length, get_or, ap, subst, sym, ◌∙◌, arith}
+use Rattle.std.proofs.lemmas.Grind.{common_steps}
 use Rattle.at_ledger.specs.Book.{BookTerms, HasSlot}
 use Rattle.at_history.specs.declared.request.Request.{Request}
 use Rattle.at_board.specs.Knowledge.Parts.{asking_on, own_part}
@@ -154,3 +155,18 @@ returns-else-self-lt-REQUEST_WORDS-clause-board c =
       id = c.announce.ensures.board ∙ c.requires.board.id;
       book = ap (λ (v : Knowledge). v.book) (told done (before at).may.0 (mine at)).same ∙ book at;
     }
+
+pub returns-then-self-lt-REQUEST_WORDS-clause-word : goal.returns-then-self-lt-REQUEST_WORDS-clause-word
+returns-then-self-lt-REQUEST_WORDS-clause-word c = grind (arith, common_steps)
+
+pub returns-else-self-lt-REQUEST_WORDS-clause-after : goal.returns-else-self-lt-REQUEST_WORDS-clause-after
+returns-else-self-lt-REQUEST_WORDS-clause-after c = grind (arith, common_steps)
+
+pub returns-else-self-lt-REQUEST_WORDS-clause-word : goal.returns-else-self-lt-REQUEST_WORDS-clause-word
+returns-else-self-lt-REQUEST_WORDS-clause-word c = grind (arith, common_steps)
+
+pub overflow_add-self-else-self-lt-REQUEST_WORDS : goal.overflow_add-self-else-self-lt-REQUEST_WORDS
+overflow_add-self-else-self-lt-REQUEST_WORDS c = grind (arith, common_steps)
+
+pub returns-then-self-lt-REQUEST_WORDS-clause-after : goal.returns-then-self-lt-REQUEST_WORDS-clause-after
+returns-then-self-lt-REQUEST_WORDS-clause-after c = grind (arith, common_steps)

@@ -1,4 +1,5 @@
 use Rattle.std.proofs.Common.{◌≡◌, ℕ, ◌+◌, List, Some, get_or, set, refl, sym, ap, subst, ◌∙◌, arith}
+use Rattle.std.proofs.lemmas.Grind.{common_steps}
 use Rattle.at_ledger.specs.Book.{BookTerms}
 use Rattle.at_board.specs.Knowledge.Seats.{SeatTerms}
 use Rattle.at_board.specs.declared.knowledge.Knowledge.{Knowledge}
@@ -120,3 +121,57 @@ returns-clause-same c = c.turn.ensures.same
 
 pub returns-clause-ends : goal.returns-clause-ends
 returns-clause-ends c = c.answer.ensures.ends
+
+pub counted-upto-requires : goal.counted-upto-requires
+counted-upto-requires c = grind (arith, common_steps)
+
+pub returns-clause-knows : goal.returns-clause-knows
+returns-clause-knows c = grind (arith, common_steps)
+
+pub returns-in_err-entry-clause-word : goal.returns-in_err-entry-clause-word
+returns-in_err-entry-clause-word c = grind (arith, common_steps)
+
+pub returns-clause-upto : goal.returns-clause-upto
+returns-clause-upto c = grind (arith, common_steps)
+
+pub count-requires-clause-next : goal.count-requires-clause-next
+count-requires-clause-next c = grind (arith, common_steps)
+
+pub invariant_of-self : goal.invariant_of-self
+invariant_of-self c = grind (arith, common_steps)
+
+pub returns-clause-left : goal.returns-clause-left
+returns-clause-left c = grind (arith, common_steps)
+
+pub returns-clause-part : goal.returns-clause-part
+returns-clause-part c = grind (arith, common_steps)
+
+pub at-requires-clause-process : goal.at-requires-clause-process
+at-requires-clause-process c = grind (arith, common_steps)
+
+pub returns-in_err-entry-clause-part : goal.returns-in_err-entry-clause-part
+returns-in_err-entry-clause-part c = grind (arith, common_steps)
+
+pub returns-in_err-entry-clause-upto : goal.returns-in_err-entry-clause-upto
+returns-in_err-entry-clause-upto c = grind (arith, common_steps)
+
+pub returns-in_err-entry-clause-knows : goal.returns-in_err-entry-clause-knows
+returns-in_err-entry-clause-knows c = grind (arith, common_steps)
+
+pub returns-in_err-entry-clause-whole : goal.returns-in_err-entry-clause-whole
+returns-in_err-entry-clause-whole c = grind (arith, common_steps)
+
+pub turn-requires-clause-left : goal.turn-requires-clause-left
+turn-requires-clause-left c = grind (arith, common_steps)
+
+pub turn-requires-clause-mark : goal.turn-requires-clause-mark
+turn-requires-clause-mark c = grind (arith, common_steps)
+
+pub returns-clause-totals : goal.returns-clause-totals
+returns-clause-totals c = grind (arith, common_steps)
+
+pub returns-clause-counts : goal.returns-clause-counts
+returns-clause-counts c = grind (arith, common_steps)
+
+pub returns-in_err-entry-clause-left : goal.returns-in_err-entry-clause-left
+returns-in_err-entry-clause-left c = grind (arith, common_steps)

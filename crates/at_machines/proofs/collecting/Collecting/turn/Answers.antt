@@ -1,4 +1,5 @@
 use Rattle.std.proofs.Common.{◌≡◌, ◌+◌, ℕ, set, ap, subst, sym, ◌∙◌, arith}
+use Rattle.std.proofs.lemmas.Grind.{common_steps}
 use Rattle.at_ledger.specs.Book.{BookTerms, IsBook}
 use Rattle.at_board.specs.Knowledge.Seats.{SeatTerms}
 use Rattle.at_board.specs.Steps.LoadLength.{LoadsLength}
@@ -89,3 +90,18 @@ returns-then-self-processes-clause-steps c = c.load_length-count.ensures.steps
 
 pub returns-clause-steps : goal.returns-clause-steps
 returns-clause-steps c = c.load_length-count.ensures.steps
+
+pub returns-then-self-processes-clause-load : goal.returns-then-self-processes-clause-load
+returns-then-self-processes-clause-load c = grind (arith, common_steps)
+
+pub returns-clause-load : goal.returns-clause-load
+returns-clause-load c = grind (arith, common_steps)
+
+pub set-requires : goal.set-requires
+set-requires c = grind (arith, common_steps)
+
+pub overflow_add-self : goal.overflow_add-self
+overflow_add-self c = grind (arith, common_steps)
+
+pub load_length-count-requires-clause-process : goal.load_length-count-requires-clause-process
+load_length-count-requires-clause-process c = grind (arith, common_steps)

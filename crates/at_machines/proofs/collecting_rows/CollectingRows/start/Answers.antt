@@ -1,4 +1,5 @@
-use Rattle.std.proofs.Common.{[], sym, subst}
+use Rattle.std.proofs.Common.{[], sym, subst, arith}
+use Rattle.std.proofs.lemmas.Grind.{common_steps}
 use Rattle.at_board.specs.Knowledge.Seats.{SeatTerms}
 use Rattle.at_machines.proofs.CollectingRowsLaws.{IsCollectingRowsSo-start, SeesRequest-start}
 use Rattle.at_machines.specs.KeptRows.{IsCollectingRowsSo}
@@ -14,3 +15,6 @@ invariant_of-result c =
     subst (λ (s : SeatTerms). IsCollectingRowsSo s.knows c.start.result c.empty.result 0) (sym c.of.ensures)
     (subst (λ list. IsCollectingRowsSo v c.start.result list 0) (sym c.empty.ensures)
     (subst (λ (r : LoadingRowTerms). IsCollectingRowsSo v r [] 0) (sym c.start.ensures) (IsCollectingRowsSo-start v c.args.account c.args.own c.known.ensures.seat c.requires)))
+
+pub returns : goal.returns
+returns c = grind (arith, common_steps)

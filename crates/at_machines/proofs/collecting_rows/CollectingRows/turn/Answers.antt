@@ -1,4 +1,5 @@
 use Rattle.std.proofs.Common.{◌≡◌, ◌≢◌, ◌+◌, ◌-◌, ◌*◌, ◌<◌, ◌≤◌, List, true, false, refl, ap, subst, sym, ◌∙◌, arith}
+use Rattle.std.proofs.lemmas.Grind.{common_steps}
 use Rattle.at_ledger.specs.Account.{slots_of}
 use Rattle.at_ledger.specs.Book.{BookTerms, account_of}
 use Rattle.at_board.specs.declared.knowledge.Knowledge.{Knowledge}
@@ -235,3 +236,45 @@ returns-clause-most c =
     let next = (goal.at.After-start last).After-slot-next in
     let add = (goal.at.After-slot-next next).After-add in
     most (goal.at.After-add add).After-turn
+
+pub start-requires-clause-account : goal.start-requires-clause-account
+start-requires-clause-account c = grind (arith, common_steps)
+
+pub returns-clause-after : goal.returns-clause-after
+returns-clause-after c = grind (arith, common_steps)
+
+pub returns-then-next-slots-clause-after : goal.returns-then-next-slots-clause-after
+returns-then-next-slots-clause-after c = grind (arith, common_steps)
+
+pub invariant_of-self-then-next-slots : goal.invariant_of-self-then-next-slots
+invariant_of-self-then-next-slots c = grind (arith, common_steps)
+
+pub returns-in_err-found-clause-candidates : goal.returns-in_err-found-clause-candidates
+returns-in_err-found-clause-candidates c = grind (arith, common_steps)
+
+pub returns-in_err-found-clause-few : goal.returns-in_err-found-clause-few
+returns-in_err-found-clause-few c = grind (arith, common_steps)
+
+pub returns-in_err-found-clause-own : goal.returns-in_err-found-clause-own
+returns-in_err-found-clause-own c = grind (arith, common_steps)
+
+pub overflow_add-next : goal.overflow_add-next
+overflow_add-next c = grind (arith, common_steps)
+
+pub returns-in_err-found-clause-turns : goal.returns-in_err-found-clause-turns
+returns-in_err-found-clause-turns c = grind (arith, common_steps)
+
+pub turn-requires-clause-mark : goal.turn-requires-clause-mark
+turn-requires-clause-mark c = grind (arith, common_steps)
+
+pub returns-in_err-found-clause-collected : goal.returns-in_err-found-clause-collected
+returns-in_err-found-clause-collected c = grind (arith, common_steps)
+
+pub add-requires-clause-room : goal.add-requires-clause-room
+add-requires-clause-room c = grind (arith, common_steps)
+
+pub returns-in_err-found-clause-after : goal.returns-in_err-found-clause-after
+returns-in_err-found-clause-after c = grind (arith, common_steps)
+
+pub returns-in_err-found-clause-rows : goal.returns-in_err-found-clause-rows
+returns-in_err-found-clause-rows c = grind (arith, common_steps)

@@ -1,4 +1,5 @@
-use Rattle.std.proofs.Common.{◌≡◌, ◌<◌, length, sym, ap, subst, ◌∙◌}
+use Rattle.std.proofs.Common.{◌≡◌, ◌<◌, length, sym, ap, subst, ◌∙◌, arith}
+use Rattle.std.proofs.lemmas.Grind.{common_steps}
 use Rattle.at_history.specs.Fronts.{prefix_of}
 use Rattle.at_history.specs.Rounds.{rounds}
 use Rattle.at_board.specs.Knowledge.Seats.{SeatTerms}
@@ -34,3 +35,9 @@ invariant_of-result c =
     (subst (λ (s : SeatTerms). IsDecidingSo v s.knows c.of-3.result.value c.of-4.result.value front a r stage) (sym c.of-2.ensures)
     (subst (λ (t : TotalSums). IsDecidingSo v v t c.of-4.result.value front a r stage) (sym c.of-3.ensures)
     (subst (λ (t : HelpingTerms). IsDecidingSo v v c.args.totals.now t front a r stage) (sym c.of-4.ensures) so)))
+
+pub proposal-proposal-requires-clause-totals : goal.proposal-proposal-requires-clause-totals
+proposal-proposal-requires-clause-totals c = grind (arith, common_steps)
+
+pub returns : goal.returns
+returns c = grind (arith, common_steps)

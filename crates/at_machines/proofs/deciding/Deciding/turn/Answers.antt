@@ -1,4 +1,5 @@
 use Rattle.std.proofs.Common.{◌≡◌, ◌≢◌, false, get_or, true, refl, sym, ap, subst, ◌∙◌, arith}
+use Rattle.std.proofs.lemmas.Grind.{common_steps}
 use Rattle.std.specs.Prelude.{slice_set}
 use Rattle.at_board.specs.Knowledge.Parts.{SeesDecision, own_part}
 use Rattle.at_board.specs.Knowledge.Seats.{SeatTerms}
@@ -294,3 +295,87 @@ invariant_of-self-then-not-published c =
         subst (λ (t : AppendingTerms). HasLoadedDecided i.start.value.knows t.start i.helping.value i.front d t.rec) (sym is) so.stage_so.2,
       );
     }
+
+pub returns-in-Proposing-clause-left : goal.returns-in-Proposing-clause-left
+returns-in-Proposing-clause-left c = grind (arith, common_steps)
+
+pub returns-else-not-published-clause-ends : goal.returns-else-not-published-clause-ends
+returns-else-not-published-clause-ends c = grind (arith, common_steps)
+
+pub returns-else-not-published-clause-after : goal.returns-else-not-published-clause-after
+returns-else-not-published-clause-after c = grind (arith, common_steps)
+
+pub returns-in_err-targets-in-Loading-clause-exchanges : goal.returns-in_err-targets-in-Loading-clause-exchanges
+returns-in_err-targets-in-Loading-clause-exchanges c = grind (arith, common_steps)
+
+pub returns-in_err-targets-in-Loading-clause-left : goal.returns-in_err-targets-in-Loading-clause-left
+returns-in_err-targets-in-Loading-clause-left c = grind (arith, common_steps)
+
+pub returns-in_ok-targets-in-Loading-clause-after : goal.returns-in_ok-targets-in-Loading-clause-after
+returns-in_ok-targets-in-Loading-clause-after c = grind (arith, common_steps)
+
+pub returns-then-not-published-clause-left : goal.returns-then-not-published-clause-left
+returns-then-not-published-clause-left c = grind (arith, common_steps)
+
+pub returns-in_err-targets-in-Loading-clause-after : goal.returns-in_err-targets-in-Loading-clause-after
+returns-in_err-targets-in-Loading-clause-after c = grind (arith, common_steps)
+
+pub invariant_of-self-in-Publishing : goal.invariant_of-self-in-Publishing
+invariant_of-self-in-Publishing c = grind (arith, common_steps)
+
+pub returns-then-not-published-clause-exchanges : goal.returns-then-not-published-clause-exchanges
+returns-then-not-published-clause-exchanges c = grind (arith, common_steps)
+
+pub returns-in_ok-targets-in-Loading-clause-left : goal.returns-in_ok-targets-in-Loading-clause-left
+returns-in_ok-targets-in-Loading-clause-left c = grind (arith, common_steps)
+
+pub returns-else-not-published-clause-exchanges : goal.returns-else-not-published-clause-exchanges
+returns-else-not-published-clause-exchanges c = grind (arith, common_steps)
+
+pub returns-in-Proposing-clause-exchanges : goal.returns-in-Proposing-clause-exchanges
+returns-in-Proposing-clause-exchanges c = grind (arith, common_steps)
+
+pub returns-in-Proposing-clause-after : goal.returns-in-Proposing-clause-after
+returns-in-Proposing-clause-after c = grind (arith, common_steps)
+
+pub returns-then-not-published-clause-after : goal.returns-then-not-published-clause-after
+returns-then-not-published-clause-after c = grind (arith, common_steps)
+
+pub returns-in_ok-targets-in-Loading-clause-exchanges : goal.returns-in_ok-targets-in-Loading-clause-exchanges
+returns-in_ok-targets-in-Loading-clause-exchanges c = grind (arith, common_steps)
+
+pub turn-published-requires-clause-left : goal.turn-published-requires-clause-left
+turn-published-requires-clause-left c = grind (arith, common_steps)
+
+pub returns-in_err-targets-in-Loading-clause-counted : goal.returns-in_err-targets-in-Loading-clause-counted
+returns-in_err-targets-in-Loading-clause-counted c = grind (arith, common_steps)
+
+pub returns-in_err-targets-in-Loading-clause-upto : goal.returns-in_err-targets-in-Loading-clause-upto
+returns-in_err-targets-in-Loading-clause-upto c = grind (arith, common_steps)
+
+pub returns-in_ok-targets-in-Loading-clause-ends : goal.returns-in_ok-targets-in-Loading-clause-ends
+returns-in_ok-targets-in-Loading-clause-ends c = grind (arith, common_steps)
+
+pub turn-loaded-requires-clause-left : goal.turn-loaded-requires-clause-left
+turn-loaded-requires-clause-left c = grind (arith, common_steps)
+
+pub returns-in_err-targets-in-Loading-clause-decided : goal.returns-in_err-targets-in-Loading-clause-decided
+returns-in_err-targets-in-Loading-clause-decided c = grind (arith, common_steps)
+
+pub turn-loaded-requires-clause-mark : goal.turn-loaded-requires-clause-mark
+turn-loaded-requires-clause-mark c = grind (arith, common_steps)
+
+pub propose-decision-requires-clause-proposal : goal.propose-decision-requires-clause-proposal
+propose-decision-requires-clause-proposal c = grind (arith, common_steps)
+
+pub returns-else-not-published-clause-steps : goal.returns-else-not-published-clause-steps
+returns-else-not-published-clause-steps c = grind (arith, common_steps)
+
+pub unreachable-requires : goal.unreachable-requires
+unreachable-requires c = grind (arith, common_steps)
+
+pub returns-else-not-published-clause-waits : goal.returns-else-not-published-clause-waits
+returns-else-not-published-clause-waits c = grind (arith, common_steps)
+
+pub turn-published-requires-clause-mark : goal.turn-published-requires-clause-mark
+turn-published-requires-clause-mark c = grind (arith, common_steps)

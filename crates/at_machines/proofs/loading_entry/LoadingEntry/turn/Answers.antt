@@ -1,4 +1,5 @@
 use Rattle.std.proofs.Common.{◌≡◌, ◌+◌, length, set, ap, subst, sym, ◌∙◌, arith, zero-add}
+use Rattle.std.proofs.lemmas.Grind.{common_steps}
 use Rattle.std.proofs.lemmas.List.{length-set}
 use Rattle.at_history.specs.BoardState.{publication_at}
 use Rattle.at_history.specs.Publications.{publications_of}
@@ -37,3 +38,15 @@ returns-clause-entry c =
     let forms : SeesForms before.knows = subst SeesForms c.requires.mark c.known-2.ensures.records in
     c.entry_of.ensures entry (forms before.process before.number after.record_seen)
     (ap (λ j. set c.self.inside.words j w) loaded ∙ entry_words-IsLoadingSo (loading_after before) (set c.self.inside.words before.loaded w) sized all after)
+
+pub bounds-self-inside-j : goal.bounds-self-inside-j
+bounds-self-inside-j c = grind (arith, common_steps)
+
+pub load_record_word-requires-clause-record : goal.load_record_word-requires-clause-record
+load_record_word-requires-clause-record c = grind (arith, common_steps)
+
+pub returns-then-self-lt-RECORD_WORDS-clause-after : goal.returns-then-self-lt-RECORD_WORDS-clause-after
+returns-then-self-lt-RECORD_WORDS-clause-after c = grind (arith, common_steps)
+
+pub returns-clause-after : goal.returns-clause-after
+returns-clause-after c = grind (arith, common_steps)

@@ -1,4 +1,5 @@
 use Rattle.std.proofs.Common.{◌≡◌, ◌+◌, length, set, ap, subst, sym, ◌∙◌, arith}
+use Rattle.std.proofs.lemmas.Grind.{common_steps}
 use Rattle.std.proofs.lemmas.List.{length-set}
 use Rattle.at_history.specs.declared.request.Request.{Request}
 use Rattle.at_board.specs.Knowledge.Seats.{SeatTerms}
@@ -84,3 +85,21 @@ returns-clause-request c =
     → set c.self.inside.words t.loaded c.load_request_word.result ≡ request_words r → x ≡ opened t.slot t.number r.targets r.since) is c.request_from.ensures.request in
     LoadsRequest-IsLoadingRequestSo b (request_after l w) (set c.self.inside.words l.loaded c.load_request_word.result) x
     (after_book at) (omega (arith, length-set c.self.inside.words l.loaded c.load_request_word.result, c.self.invariant.0)) all (kept at) told
+
+pub returns-clause-after : goal.returns-clause-after
+returns-clause-after c = grind (arith, common_steps)
+
+pub returns-then-self-lt-REQUEST_WORDS-clause-after : goal.returns-then-self-lt-REQUEST_WORDS-clause-after
+returns-then-self-lt-REQUEST_WORDS-clause-after c = grind (arith, common_steps)
+
+pub request_from-requires : goal.request_from-requires
+request_from-requires c = grind (arith, common_steps)
+
+pub bounds-self-inside-j : goal.bounds-self-inside-j
+bounds-self-inside-j c = grind (arith, common_steps)
+
+pub returns-clause-load : goal.returns-clause-load
+returns-clause-load c = grind (arith, common_steps)
+
+pub returns-then-self-lt-REQUEST_WORDS-clause-load : goal.returns-then-self-lt-REQUEST_WORDS-clause-load
+returns-then-self-lt-REQUEST_WORDS-clause-load c = grind (arith, common_steps)

@@ -1,4 +1,5 @@
 use Rattle.std.proofs.Common.{◌≡◌, ◌-◌, Some, ap, subst, sym, ◌∙◌, arith}
+use Rattle.std.proofs.lemmas.Grind.{common_steps}
 use Rattle.at_board.specs.Steps.LoadAnnounced.{LoadsAnnounced}
 use Rattle.at_board.specs.declared.knowledge.Knowledge.{Knowledge}
 use Rattle.at_rows.proofs.Laws.Rows.{KnowsOf-LoadsAnnounced}
@@ -56,3 +57,51 @@ returns-in_ok-found-in-Last-clause-row c =
     let first = (goal.at.returns-in_ok-found-in-Last-clause-row c).After-self in
     LoadsRow-IsLoadingRowSo-other c.args.board.now.book c.args.self.now c.in-Last.loading c.turn-last.new.seat.knows c.in_ok-found-in-Last.found (book first)
     (before first (Last c.in-Last.loading) c.in-Last.is) c.in_ok-found-in-Last.ensures.request
+
+pub returns-then-count-eq0-clause-turns : goal.returns-then-count-eq0-clause-turns
+returns-then-count-eq0-clause-turns c = grind (arith, common_steps)
+
+pub invariant_of-self-in-Last : goal.invariant_of-self-in-Last
+invariant_of-self-in-Last c = grind (arith, common_steps)
+
+pub returns-then-slot-self-clause-turns : goal.returns-then-slot-self-clause-turns
+returns-then-slot-self-clause-turns c = grind (arith, common_steps)
+
+pub returns-else-count-eq0-clause-after : goal.returns-else-count-eq0-clause-after
+returns-else-count-eq0-clause-after c = grind (arith, common_steps)
+
+pub invariant_of-self : goal.invariant_of-self
+invariant_of-self c = grind (arith, common_steps)
+
+pub returns-in_ok-found-in-Last-clause-after : goal.returns-in_ok-found-in-Last-clause-after
+returns-in_ok-found-in-Last-clause-after c = grind (arith, common_steps)
+
+pub returns-in_err-found-in-Last-clause-after : goal.returns-in_err-found-in-Last-clause-after
+returns-in_err-found-in-Last-clause-after c = grind (arith, common_steps)
+
+pub returns-then-count-eq0-clause-after : goal.returns-then-count-eq0-clause-after
+returns-then-count-eq0-clause-after c = grind (arith, common_steps)
+
+pub returns-then-slot-self-clause-after : goal.returns-then-slot-self-clause-after
+returns-then-slot-self-clause-after c = grind (arith, common_steps)
+
+pub invariant_of-self-then-count-eq0 : goal.invariant_of-self-then-count-eq0
+invariant_of-self-then-count-eq0 c = grind (arith, common_steps)
+
+pub returns-in_err-found-in-Last-clause-turns : goal.returns-in_err-found-in-Last-clause-turns
+returns-in_err-found-in-Last-clause-turns c = grind (arith, common_steps)
+
+pub returns-then-slot-self-clause-load : goal.returns-then-slot-self-clause-load
+returns-then-slot-self-clause-load c = grind (arith, common_steps)
+
+pub returns-else-count-eq0-clause-board : goal.returns-else-count-eq0-clause-board
+returns-else-count-eq0-clause-board c = grind (arith, common_steps)
+
+pub returns-in_err-found-in-Last-clause-row : goal.returns-in_err-found-in-Last-clause-row
+returns-in_err-found-in-Last-clause-row c = grind (arith, common_steps)
+
+pub turn-last-requires-clause-mark : goal.turn-last-requires-clause-mark
+turn-last-requires-clause-mark c = grind (arith, common_steps)
+
+pub load_announced-count-requires-clause-account : goal.load_announced-count-requires-clause-account
+load_announced-count-requires-clause-account c = grind (arith, common_steps)

@@ -1,4 +1,5 @@
 use Rattle.std.proofs.Common.{◌≡◌, ◌+◌, ◌<◌, length, set, ap, subst, sym, ◌∙◌, arith}
+use Rattle.std.proofs.lemmas.Grind.{common_steps}
 use Rattle.std.proofs.lemmas.List.{length-set}
 use Rattle.at_ledger.specs.Book.{BookTerms}
 use Rattle.at_board.specs.Knowledge.Records.{IsRecordWord}
@@ -65,3 +66,21 @@ returns-clause-view c =
     length-set c.self.inside.view before.loaded w ∙ (c.self.invariant.0 ∙ ap (λ (t : LoadingTerms). t.knows.book.processes) c.self.view_is) in
     c.copy.ensures ∙ (c.set.ensures ∙ (ap (λ q. set c.self.inside.view q w) loaded
     ∙ IsViewOf-IsLoadingSo (loading_after before) (set c.self.inside.view before.loaded w) (seat read) sized all (kept read)))
+
+pub set-requires : goal.set-requires
+set-requires c = grind (arith, common_steps)
+
+pub returns-clause-after : goal.returns-clause-after
+returns-clause-after c = grind (arith, common_steps)
+
+pub load_record_word-count-requires-clause-record : goal.load_record_word-count-requires-clause-record
+load_record_word-count-requires-clause-record c = grind (arith, common_steps)
+
+pub overflow_add-q : goal.overflow_add-q
+overflow_add-q c = grind (arith, common_steps)
+
+pub overflow_add-self : goal.overflow_add-self
+overflow_add-self c = grind (arith, common_steps)
+
+pub returns-then-self-processes-clause-after : goal.returns-then-self-processes-clause-after
+returns-then-self-processes-clause-after c = grind (arith, common_steps)

@@ -1,4 +1,5 @@
 use Rattle.std.proofs.Common.{◌≡◌, ◌≤◌, ℕ, List, length, IfSome, sym, ap, subst, ◌∙◌, arith}
+use Rattle.std.proofs.lemmas.Grind.{common_steps}
 use Rattle.std.specs.List.{sum}
 use Rattle.at_base.specs.Counts.{Covers}
 use Rattle.at_ledger.specs.Book.{BookTerms}
@@ -210,3 +211,129 @@ returns-in-CatchUp-clause-counting c =
       ap (λ (xs : List ℕ). sum xs) told.counts,
       ap (λ (t : TotalSums). sum t.upto) told.totals,
     )
+
+pub returns-in-CatchUp-clause-looked : goal.returns-in-CatchUp-clause-looked
+returns-in-CatchUp-clause-looked c = grind (arith, common_steps)
+
+pub returns-in_err-front-in-Snap-clause-counting : goal.returns-in_err-front-in-Snap-clause-counting
+returns-in_err-front-in-Snap-clause-counting c = grind (arith, common_steps)
+
+pub returns-in-CatchUp-clause-left : goal.returns-in-CatchUp-clause-left
+returns-in-CatchUp-clause-left c = grind (arith, common_steps)
+
+pub invariant_of-self-in-CatchUp : goal.invariant_of-self-in-CatchUp
+invariant_of-self-in-CatchUp c = grind (arith, common_steps)
+
+pub returns-in_err-front-in-Snap-clause-turns : goal.returns-in_err-front-in-Snap-clause-turns
+returns-in_err-front-in-Snap-clause-turns c = grind (arith, common_steps)
+
+pub returns-in-CatchUp-clause-loads : goal.returns-in-CatchUp-clause-loads
+returns-in-CatchUp-clause-loads c = grind (arith, common_steps)
+
+pub returns-after-is_ended-clause-mark : goal.returns-after-is_ended-clause-mark
+returns-after-is_ended-clause-mark c = grind (arith, common_steps)
+
+pub returns-in-CatchUp-clause-turns : goal.returns-in-CatchUp-clause-turns
+returns-in-CatchUp-clause-turns c = grind (arith, common_steps)
+
+pub returns-in_err-front-in-Snap-clause-more : goal.returns-in_err-front-in-Snap-clause-more
+returns-in_err-front-in-Snap-clause-more c = grind (arith, common_steps)
+
+pub returns-after-is_ended-clause-turns : goal.returns-after-is_ended-clause-turns
+returns-after-is_ended-clause-turns c = grind (arith, common_steps)
+
+pub returns-in-CatchUp-clause-start : goal.returns-in-CatchUp-clause-start
+returns-in-CatchUp-clause-start c = grind (arith, common_steps)
+
+pub returns-in-CatchUp-clause-ends : goal.returns-in-CatchUp-clause-ends
+returns-in-CatchUp-clause-ends c = grind (arith, common_steps)
+
+pub returns-in-CatchUp-clause-load : goal.returns-in-CatchUp-clause-load
+returns-in-CatchUp-clause-load c = grind (arith, common_steps)
+
+pub returns-in_err-front-in-Snap-clause-loads : goal.returns-in_err-front-in-Snap-clause-loads
+returns-in_err-front-in-Snap-clause-loads c = grind (arith, common_steps)
+
+pub returns-in-CatchUp-clause-mark : goal.returns-in-CatchUp-clause-mark
+returns-in-CatchUp-clause-mark c = grind (arith, common_steps)
+
+pub returns-after-is_ended-clause-start : goal.returns-after-is_ended-clause-start
+returns-after-is_ended-clause-start c = grind (arith, common_steps)
+
+pub returns-in-CatchUp-clause-steps : goal.returns-in-CatchUp-clause-steps
+returns-in-CatchUp-clause-steps c = grind (arith, common_steps)
+
+pub returns-after-is_ended-clause-so_far : goal.returns-after-is_ended-clause-so_far
+returns-after-is_ended-clause-so_far c = grind (arith, common_steps)
+
+pub returns-in_err-front-in-Snap-clause-left : goal.returns-in_err-front-in-Snap-clause-left
+returns-in_err-front-in-Snap-clause-left c = grind (arith, common_steps)
+
+pub invariant_of-self : goal.invariant_of-self
+invariant_of-self c = grind (arith, common_steps)
+
+pub returns-after-is_ended-clause-loads : goal.returns-after-is_ended-clause-loads
+returns-after-is_ended-clause-loads c = grind (arith, common_steps)
+
+pub returns-in_err-front-in-Snap-clause-start : goal.returns-in_err-front-in-Snap-clause-start
+returns-in_err-front-in-Snap-clause-start c = grind (arith, common_steps)
+
+pub returns-after-is_ended-clause-load : goal.returns-after-is_ended-clause-load
+returns-after-is_ended-clause-load c = grind (arith, common_steps)
+
+pub returns-in_err-front-in-Snap-clause-mark : goal.returns-in_err-front-in-Snap-clause-mark
+returns-in_err-front-in-Snap-clause-mark c = grind (arith, common_steps)
+
+pub returns-after-is_ended-clause-more : goal.returns-after-is_ended-clause-more
+returns-after-is_ended-clause-more c = grind (arith, common_steps)
+
+pub returns-in_err-front-in-Snap-clause-so_far : goal.returns-in_err-front-in-Snap-clause-so_far
+returns-in_err-front-in-Snap-clause-so_far c = grind (arith, common_steps)
+
+pub returns-after-is_ended-clause-counting : goal.returns-after-is_ended-clause-counting
+returns-after-is_ended-clause-counting c = grind (arith, common_steps)
+
+pub returns-in-CatchUp-clause-within : goal.returns-in-CatchUp-clause-within
+returns-in-CatchUp-clause-within c = grind (arith, common_steps)
+
+pub returns-in-CatchUp-clause-exchanges : goal.returns-in-CatchUp-clause-exchanges
+returns-in-CatchUp-clause-exchanges c = grind (arith, common_steps)
+
+pub turn-caught-requires-clause-left : goal.turn-caught-requires-clause-left
+turn-caught-requires-clause-left c = grind (arith, common_steps)
+
+pub returns-in_err-front-in-Snap-clause-looked : goal.returns-in_err-front-in-Snap-clause-looked
+returns-in_err-front-in-Snap-clause-looked c = grind (arith, common_steps)
+
+pub returns-in_err-front-in-Snap-clause-within : goal.returns-in_err-front-in-Snap-clause-within
+returns-in_err-front-in-Snap-clause-within c = grind (arith, common_steps)
+
+pub returns-after-is_ended-clause-totals : goal.returns-after-is_ended-clause-totals
+returns-after-is_ended-clause-totals c = grind (arith, common_steps)
+
+pub returns-after-is_ended-clause-was : goal.returns-after-is_ended-clause-was
+returns-after-is_ended-clause-was c = grind (arith, common_steps)
+
+pub turn-snapped-requires-clause-mark : goal.turn-snapped-requires-clause-mark
+turn-snapped-requires-clause-mark c = grind (arith, common_steps)
+
+pub returns-in_err-front-in-Snap-clause-was : goal.returns-in_err-front-in-Snap-clause-was
+returns-in_err-front-in-Snap-clause-was c = grind (arith, common_steps)
+
+pub returns-in_err-front-in-Snap-clause-load : goal.returns-in_err-front-in-Snap-clause-load
+returns-in_err-front-in-Snap-clause-load c = grind (arith, common_steps)
+
+pub turn-caught-requires-clause-mark : goal.turn-caught-requires-clause-mark
+turn-caught-requires-clause-mark c = grind (arith, common_steps)
+
+pub turn-snapped-requires-clause-left : goal.turn-snapped-requires-clause-left
+turn-snapped-requires-clause-left c = grind (arith, common_steps)
+
+pub returns-in-CatchUp-clause-was : goal.returns-in-CatchUp-clause-was
+returns-in-CatchUp-clause-was c = grind (arith, common_steps)
+
+pub overflow_add-self : goal.overflow_add-self
+overflow_add-self c = grind (arith, common_steps)
+
+pub returns-in_err-front-in-Snap-clause-totals : goal.returns-in_err-front-in-Snap-clause-totals
+returns-in_err-front-in-Snap-clause-totals c = grind (arith, common_steps)

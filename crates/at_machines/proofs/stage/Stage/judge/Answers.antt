@@ -1,4 +1,5 @@
-use Rattle.std.proofs.Common.{◌≡◌, ◌-◌, get_or, refl, ap, subst, ◌∙◌}
+use Rattle.std.proofs.Common.{◌≡◌, ◌-◌, get_or, refl, ap, subst, ◌∙◌, arith}
+use Rattle.std.proofs.lemmas.Grind.{common_steps}
 use Rattle.at_snapshot.specs.Verdicts.{IsVerdictOn}
 use Rattle.at_snapshot.specs.declared.collects.Verdict.{Verdict}
 use Rattle.at_snapshot.specs.declared.collects.Verdict.TheVariants.{Lent, Repeated, Undecided}
@@ -33,3 +34,12 @@ returns-in-Undecided c = (
   says (goal.at.returns-in-Undecided c).After-compare Undecided c.in-Undecided.is,
   (ap (λ (t : CollectingTerms). Collect t) c.start-in-Undecided.ensures, refl, c.add_collect.ensures),
 )
+
+pub overflow_sub-last : goal.overflow_sub-last
+overflow_sub-last c = grind (arith, common_steps)
+
+pub get-last-requires : goal.get-last-requires
+get-last-requires c = grind (arith, common_steps)
+
+pub start-requires-clause-record : goal.start-requires-clause-record
+start-requires-clause-record c = grind (arith, common_steps)

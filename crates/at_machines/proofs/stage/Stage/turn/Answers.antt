@@ -1,4 +1,5 @@
 use Rattle.std.proofs.Common.{ℕ, ◌≡◌, ◌≢◌, ◌+◌, ◌<◌, List, Option, None, length, get_or, true, false, refl, ap, subst, sym, ◌∙◌, arith}
+use Rattle.std.proofs.lemmas.Grind.{common_steps}
 use Rattle.at_ledger.specs.Book.{BookTerms}
 use Rattle.at_board.specs.Knowledge.Seats.{SeatTerms}
 use Rattle.at_board.specs.declared.knowledge.Knowledge.{Knowledge}
@@ -81,3 +82,15 @@ returns-in_ok-now-in-Collect-clause-turns c = λ start so.
     (subst (λ (b : BookTerms). IsCollect b collecting.start w.knows) same c.in_ok-now-in-Collect.ensures.collect)
     (subst (λ xs. IsVerdictOn collects w.knows.first xs verdict) counts is)
     (subst (λ xs. LeadsTo w.knows xs collects verdict more next c.judge.result) counts leads)))
+
+pub overflow_add-collected : goal.overflow_add-collected
+overflow_add-collected c = grind (arith, common_steps)
+
+pub judge-requires-clause-as_long : goal.judge-requires-clause-as_long
+judge-requires-clause-as_long c = grind (arith, common_steps)
+
+pub turn-requires-clause-mark : goal.turn-requires-clause-mark
+turn-requires-clause-mark c = grind (arith, common_steps)
+
+pub turn-requires-in-Borrow-clause-mark : goal.turn-requires-in-Borrow-clause-mark
+turn-requires-in-Borrow-clause-mark c = grind (arith, common_steps)
