@@ -6,6 +6,7 @@
 
 mod answers;
 mod error;
+mod heard;
 mod replies;
 mod stage;
 mod walk;
