@@ -1,11 +1,12 @@
 -- One more stage is seen.
-use Rattle.std.proofs.Common.{◌≡◌, ℕ, ◌+◌, ◌<◌, Bool, true, false, ◌≤◌, ◌||◌, ◌&&◌, ◌⊎◌, ⊎_elim, inl, inr, Some, get_or, List, [], ◌∷◌, ◌++◌, length, replicate, All, Contains, true≢false, refl, sym, ap, subst, ◌∙◌, arith, if◌then◌else◌}
+use Rattle.std.proofs.Common.{◌≡◌, ℕ, ◌+◌, ◌<◌, Bool, true, false, ◌≤◌, ◌||◌, ◌&&◌, ◌⊎◌, ⊎_elim, inl, inr, Some, get_or, List, [], ◌∷◌, ◌++◌, length, replicate, sum, All, Contains, true≢false, refl, sym, ap, subst, ◌∙◌, arith, if◌then◌else◌}
 use Rattle.std.specs.Prelude.{nat_eq, slice_get}
 use Rattle.std.specs.List.{list_any}
 use Rattle.std.specs.Cmp.Lexicographic.{pointwise, same_text}
 use Rattle.std.proofs.lemmas.Bool.{and_from, and_parts}
 use Rattle.std.proofs.lemmas.Cmp.{nat_list_eq_equiv}
 use Rattle.std.proofs.lemmas.List.{length-append, length-replicate, length-set}
+use Rattle.std.proofs.lemmas.List.Folds.{sum_by-replicate}
 use Rattle.std.proofs.lemmas.List.Elements.{All-contains, All-nil, Contains-append_right, Contains-get_or, Contains-push, Contains-push_cases}
 use Rattle.indexmap.specs.IndexSet.{insert_key}
 use Rattle.at_ledger.specs.Book.{BookTerms}
@@ -13,10 +14,10 @@ use Rattle.at_ledger.specs.State.{IsLedger, opening_state, step}
 use Rattle.at_ledger.specs.declared.call.Call.{Call}
 use Rattle.at_ledger.specs.declared.call.Line.{Line}
 use Rattle.at_verify.specs.Walk.{AreWithinFiles, IsNextOfProcess, with_made}
-use Rattle.at_verify.proofs.Made.{AreWithinFiles-next}
+use Rattle.at_verify.proofs.Made.{AreWithinFiles-next, sum-with_made}
 use Rattle.at_verify.proofs.Continuing.{AreWithinFiles-none, none_made}
 use Rattle.at_orders.specs.Stages.{IsStage, StageTerms, first_stage, ledger_at, stage_after, stage_at}
-use Rattle.at_orders.specs.Walk.{Grows, HasStage, IsSeen, IsWalkedUpTo}
+use Rattle.at_orders.specs.Walk.{AreLevel, Grows, HasAllNext, HasStage, IsSeen, IsWalkedTo}
 use Rattle.at_orders.specs.declared.stage.Stage.{Stage}
 use Rattle.at_orders.proofs.Reaching.{leads-start, reached-stage, stage-next}
 use Rattle.at_orders.proofs.Walking.{grows-refl}
@@ -53,11 +54,25 @@ inserts eq same seen s = by (list_any (eq s) seen) refl
       has = λ b. record { one = s; there = Contains-push seen s; is = refl };
     }
 
--- where all were seen, and this one is, all are
-pub all-seen : (b : BookTerms) (files : List (List Call)) (old new : List Stage) (s : Stage) → ((x : Stage) → Contains new x → Contains old x ⊎ (x ≡ s))
-    → All (IsSeen b files) old → IsSeen b files s → All (IsSeen b files) new
-all-seen b files old new s only all is k d within =
-    ⊎_elim (λ there. All-contains (IsSeen b files) old (get_or new k d) all there) (λ same. subst (IsSeen b files) (sym same) is) (only (get_or new k d) (Contains-get_or new k d within))
+-- what holds of each of these and of this one
+all-with : (P : Stage → Type 0) (old new : List Stage) (s : Stage) → ((x : Stage) → Contains new x → Contains old x ⊎ (x ≡ s)) → All P old → P s → All P new
+all-with P old new s only all is k d within =
+    ⊎_elim (λ there. All-contains P old (get_or new k d) all there) (λ same. subst P (sym same) is) (only (get_or new k d) (Contains-get_or new k d within))
+
+pub level-with : (b : BookTerms) (files : List (List Call)) (made : ℕ) (old new : List Stage) (s : Stage) → ((x : Stage) → Contains new x → Contains old x ⊎ (x ≡ s))
+    → AreLevel b files made old → IsSeen b files s → sum s.made.items ≡ made → AreLevel b files made new
+level-with b files made old new s only level seen count = record {
+  are = all-with (IsSeen b files) old new s only level.are seen;
+  counts = all-with (λ (t : Stage). sum t.made.items ≡ made) old new s only level.counts count;
+}
+
+-- one more call is made there
+pub sum-after : (b : BookTerms) (files : List (List Call)) (s t : Stage) (p : ℕ) (call : Call) → p < length files → IsSeen b files s
+    → stage_at b t ≡ stage_after (stage_at b s) p call → sum t.made.items ≡ sum s.made.items + 1
+sum-after b files s t p call known seen is =
+    let made : t.made.items ≡ with_made s.made.items p = ap (λ (u : StageTerms). u.made) is in
+    let each = seen.within.each in
+    ap sum made ∙ sum-with_made s.made.items p (omega arith)
 
 -- the stage after the next call is one of an order
 pub next-seen : (b : BookTerms) (files : List (List Call)) (s t : Stage) (p : ℕ) (call : Call) → p < length files → IsSeen b files s
@@ -93,12 +108,22 @@ first-seen b files s count is ledger =
     }
 
 pub walked-first : (b : BookTerms) (files : List (List Call)) (seen : List Stage) (s : Stage) → length files ≡ b.processes → stage_at b s ≡ first_stage b
-    → IsLedger (ledger_at b s) → ((x : Stage) → Contains seen x → Contains [] x ⊎ (x ≡ s)) → HasStage b seen (stage_at b s) → IsWalkedUpTo b files seen 0
-walked-first b files seen s count is ledger only has = record {
-  are = all-seen b files [] seen s only (All-nil (IsSeen b files)) (first-seen b files s count is ledger);
+    → IsLedger (ledger_at b s) → ((x : Stage) → Contains seen x → Contains [] x ⊎ (x ≡ s)) → length seen ≤ 1 → HasStage b seen (stage_at b s) → IsWalkedTo b files [] seen 0
+walked-first b files seen s count is ledger only few has = record {
+  stages = level-with b files 0 [] seen s only (record { are = All-nil (IsSeen b files); counts = All-nil (λ (t : Stage). sum t.made.items ≡ 0) })
+      (first-seen b files s count is ledger) none;
+  are = All-nil (IsSeen b files);
+  before = All-nil (λ (t : Stage). sum t.made.items < 0);
+  apart = λ i j t less within. absurd (omega arith);
   begun = subst (HasStage b seen) is has;
-  looked = λ k less. absurd (omega arith);
+  looked = All-nil (HasAllNext b files seen);
 }
+  where
+    none : sum s.made.items ≡ 0
+    none =
+        let first : sum s.made.items ≡ sum (replicate b.processes 0) = ap (λ (t : StageTerms). sum t.made) is in
+        let zeros = sum_by-replicate (λ (n : ℕ). n) b.processes 0 in
+        omega arith
 
 -- the test of stages that their fields give
 abbrev pub has_same_numbers : Stage → Stage → Bool

@@ -1,13 +1,13 @@
 -- Stages that are seen, and the replies that are heard at them.
-use Rattle.std.proofs.Common.{◌≡◌, ℕ, ◌+◌, ◌<◌, ◌≤◌, ◌==◌, Bool, true, false, ◌⊎◌, ⊎_elim, inl, inr, List, [], ◌∷◌, ◌++◌, length, get_or, set, map, replicate, All, true≢false, Contains, Some, refl, sym, ap, subst, ◌∙◌, arith}
+use Rattle.std.proofs.Common.{◌≡◌, ℕ, ◌+◌, ◌<◌, ◌≤◌, ◌==◌, Bool, true, false, ◌-◌, ◌⊎◌, ⊎_elim, inl, inr, List, [], ◌∷◌, ◌++◌, length, get_or, set, map, replicate, sum, All, true≢false, Contains, Some, refl, sym, ap, subst, ◌∙◌, arith}
 use Rattle.std.specs.Prelude.{slice_get}
+use Rattle.std.proofs.lemmas.Bool.{cases_lt}
 use Rattle.std.proofs.lemmas.Bool.Decides.{Decides-eqb}
 use Rattle.std.specs.List.{IsDistinct}
 use Rattle.std.proofs.lemmas.Map.Keys.{apart_from_distinct}
-use Rattle.std.proofs.lemmas.List.{get_or-map, length-map, get_or_append_left, get_or-set_other, get_or-set_same, length-append, length-set, append_assoc, append-nil}
+use Rattle.std.proofs.lemmas.List.{get_or-map, length-map, get_or-append-add, get_or_append_left, get_or-set_other, get_or-set_same, length-append, length-set, append_assoc, append-nil}
 use Rattle.std.proofs.Math.Seq.{get_or-append_seam}
-use Rattle.std.proofs.lemmas.List.Elements.{All-contains, All-map, All-weaker, Contains-append_left, Contains-push, Contains-push_cases}
-use Rattle.std.proofs.lemmas.Option.{get_or_from_slice_get, slice_get-get_or, slice_get_within}
+use Rattle.std.proofs.lemmas.List.Elements.{All-append, All-contains, All-map, All-push, All-weaker, Contains-append_left, Contains-append_right, Contains-push, Contains-push_cases}
 use Rattle.at_ledger.specs.Book.{BookTerms}
 use Rattle.at_ledger.specs.State.{LedgerState, opening_state, step}
 use Rattle.at_ledger.specs.declared.call.Call.{Call}
@@ -18,7 +18,7 @@ use Rattle.at_verify.proofs.Continuing.{none_made}
 use Rattle.at_orders.specs.Orders.{AreAnswers, Comes}
 use Rattle.at_orders.specs.Replies.{AreJust, no_replies, replies_with}
 use Rattle.at_orders.specs.Stages.{HasMoreStages, IsStage, StageTerms, first_stage, ledger_at, stage_after, stage_at}
-use Rattle.at_orders.specs.Walk.{AreAllHeard, AreAllStages, AreHeard, Grows, HasNext, HasStage, IsHeard, IsLookedAt, IsSeen, IsWalkedUpTo}
+use Rattle.at_orders.specs.Walk.{AreAllHeard, AreAllStages, AreApart, AreHeard, AreHeardInPart, Grows, HasAllNext, HasMoreNext, HasNext, HasStage, IsHeard, IsNextLevel, IsSeen, IsWalkedTo}
 use Rattle.at_orders.specs.declared.replies.Replies.{Replies}
 use Rattle.at_orders.specs.declared.stage.Stage.{Stage}
 use Rattle.at_orders.proofs.Reaching.{Leads, comes-next, leads-cons, leads-nil, order-next, stage-ext, stage-reached}
@@ -44,81 +44,121 @@ has-grows b xs ys t grows has = record {
   is = has.is;
 }
 
--- a stage keeps its position
-get-grown : (xs ys : List Stage) (k : ℕ) (s : Stage) → Grows xs ys → k < length xs → slice_get ys k ≡ Some s → slice_get xs k ≡ Some s
-get-grown xs ys k s grows within is =
-    let same : get_or ys k s ≡ s = get_or_from_slice_get ys k s s is in
-    let moved : get_or ys k s ≡ get_or xs k s = ap (λ (ws : List Stage). get_or ws k s) grows.is ∙ get_or_append_left xs grows.more s k within in
-    slice_get-get_or xs k s within ∙ ap Some (sym moved ∙ same)
-
-pub get-grows : (xs ys : List Stage) (k : ℕ) (s : Stage) → Grows xs ys → slice_get xs k ≡ Some s → slice_get ys k ≡ Some s
-get-grows xs ys k s grows is =
-    let within = slice_get_within xs k s is in
-    let longer = grows-length xs ys grows in
-    let same : get_or xs k s ≡ s = get_or_from_slice_get xs k s s is in
-    let moved : get_or ys k s ≡ get_or xs k s = ap (λ (ws : List Stage). get_or ws k s) grows.is ∙ get_or_append_left xs grows.more s k within in
-    slice_get-get_or ys k s (omega arith) ∙ ap Some (moved ∙ same)
-
 pub next-grows : (b : BookTerms) (files : List (List Call)) (xs ys : List Stage) (s : Stage) (p : ℕ) → Grows xs ys → HasNext b files xs s p → HasNext b files ys s p
 next-grows b files xs ys s p grows next call is = has-grows b xs ys (stage_after (stage_at b s) p call) grows (next call is)
 
-pub looked-grows : (b : BookTerms) (files : List (List Call)) (xs ys : List Stage) (at processes : ℕ) → at < length xs → Grows xs ys
-    → IsLookedAt b files xs at processes → IsLookedAt b files ys at processes
-looked-grows b files xs ys at processes within grows looked s is p known =
-    next-grows b files xs ys s p grows (looked s (get-grown xs ys at s grows within is) p known)
+pub all-next-grows : (b : BookTerms) (files : List (List Call)) (xs ys stages : List Stage) → Grows xs ys → All (HasAllNext b files xs) stages → All (HasAllNext b files ys) stages
+all-next-grows b files xs ys stages grows looked =
+    All-weaker (HasAllNext b files xs) (HasAllNext b files ys) (λ s next p known. next-grows b files xs ys s p grows (next p known)) stages looked
 
 -- one more process
-pub looked-more : (b : BookTerms) (files : List (List Call)) (xs ys : List Stage) (at process : ℕ) → at < length xs → Grows xs ys
-    → IsLookedAt b files xs at process → ((s : Stage) → slice_get xs at ≡ Some s → HasNext b files ys s process) → IsLookedAt b files ys at (process + 1)
-looked-more b files xs ys at process within grows looked next s is p known =
-    let here = get-grown xs ys at s grows within is in
+pub next-more : (b : BookTerms) (files : List (List Call)) (xs ys : List Stage) (s : Stage) (process : ℕ) → Grows xs ys
+    → ((p : ℕ) → p < process → HasNext b files xs s p) → HasNext b files ys s process → (p : ℕ) → p < process + 1 → HasNext b files ys s p
+next-more b files xs ys s process grows looked next p less =
     let cases : (p < process) ⊎ (p ≡ process) = grind arith in
     ⊎_elim
-    (λ less. next-grows b files xs ys s p grows (looked s here p less))
-    (λ same. subst (λ (q : ℕ). HasNext b files ys s q) (sym same) (next s here))
+    (λ before. next-grows b files xs ys s p grows (looked p before))
+    (λ same. subst (λ (q : ℕ). HasNext b files ys s q) (sym same) next)
     cases
 
--- one more stage
-pub walked-more : (b : BookTerms) (files : List (List Call)) (xs ys : List Stage) (at : ℕ) → at < length xs → Grows xs ys
-    → All (IsSeen b files) ys → IsWalkedUpTo b files xs at → IsLookedAt b files ys at b.processes → IsWalkedUpTo b files ys (at + 1)
-walked-more b files xs ys at within grows are walked looked = record {
-  are = are;
-  begun = has-grows b xs ys (first_stage b) grows walked.begun;
-  looked = λ k less.
-      let cases : (k < at) ⊎ (k ≡ at) = grind arith in
-      ⊎_elim
-      (λ before. looked-grows b files xs ys k b.processes (omega arith) grows (walked.looked k before))
-      (λ same. subst (λ (n : ℕ). IsLookedAt b files ys n b.processes) (sym same) looked)
-      cases;
+-- stages that are told apart
+pub apart-distinct : (b : BookTerms) (eq : Stage → Stage → Bool) (xs : List Stage) → ((x y : Stage) → stage_at b x ≡ stage_at b y → eq x y ≡ true) → IsDistinct eq xs → AreApart b xs
+apart-distinct b eq xs same distinct i j s less within equal =
+    let differ = apart_from_distinct eq xs i j s distinct less within in
+    true≢false (sym (same (get_or xs i s) (get_or xs j s) equal) ∙ differ)
+
+sum-same : (b : BookTerms) (x y : Stage) → stage_at b x ≡ stage_at b y → sum x.made.items ≡ sum y.made.items
+sum-same b x y is = ap (λ (t : StageTerms). sum t.made) is
+
+-- stages of two parts, told apart by how many calls were made
+apart-append : (b : BookTerms) (xs ys : List Stage) (made : ℕ) → AreApart b xs → AreApart b ys → All (λ (s : Stage). sum s.made.items < made) xs
+    → All (λ (s : Stage). sum s.made.items ≡ made) ys → AreApart b (xs ++ ys)
+apart-append b xs ys made first second fewer here i j s less within equal = by (cases_lt i (length xs)) (cases_lt j (length xs))
+  where
+    size : length (xs ++ ys) ≡ length xs + length ys
+    size = length-append xs ys
+
+    right : (k : ℕ) → length xs ≤ k → get_or (xs ++ ys) k s ≡ get_or ys (k - length xs) s
+    right k past = let back : length xs + (k - length xs) ≡ k = omega arith in ap (λ (n : ℕ). get_or (xs ++ ys) n s) (sym back) ∙ get_or-append-add xs ys (k - length xs) s
+
+    by : (i < length xs) ⊎ (length xs ≤ i) → (j < length xs) ⊎ (length xs ≤ j) → ⊥
+    by (inl a) (inl c) =
+        let x = get_or_append_left xs ys s i a in
+        let y = get_or_append_left xs ys s j c in
+        first i j s less c (ap (stage_at b) (sym x) ∙ (equal ∙ ap (stage_at b) y))
+    by (inl a) (inr c) =
+        let x = get_or_append_left xs ys s i a in
+        let y = right j c in
+        let same = sum-same b (get_or xs i s) (get_or ys (j - length xs) s) (ap (stage_at b) (sym x) ∙ (equal ∙ ap (stage_at b) y)) in
+        let low = fewer i s a in
+        let there = here (j - length xs) s (omega (arith, size)) in
+        omega arith
+    by (inr a) (inl c) = omega arith
+    by (inr a) (inr c) =
+        let x = right i a in
+        let y = right j c in
+        second (i - length xs) (j - length xs) s (omega arith) (omega (arith, size)) (ap (stage_at b) (sym x) ∙ (equal ∙ ap (stage_at b) y))
+
+grows-append : (xs ys : List Stage) → Grows xs (xs ++ ys)
+grows-append xs ys = record { more = ys; is = refl }
+
+-- the next level
+pub walked-next : (b : BookTerms) (files : List (List Call)) (past level next : List Stage) (made : ℕ) → IsWalkedTo b files past level made → IsNextLevel b files made level next
+    → IsWalkedTo b files (past ++ level) next (made + 1)
+walked-next b files past level next made walked later = record {
+  stages = later.stages;
+  are = All-append (IsSeen b files) past level walked.are walked.stages.are;
+  before = before;
+  apart = apart-append b (past ++ level) next (made + 1) walked.apart later.apart before later.stages.counts;
+  begun = has-grows b (past ++ level) ((past ++ level) ++ next) (first_stage b) (grows-append (past ++ level) next) walked.begun;
+  looked = All-append (HasAllNext b files ((past ++ level) ++ next)) past level
+      (all-next-grows b files (past ++ level) ((past ++ level) ++ next) past (grows-append (past ++ level) next) walked.looked)
+      (All-weaker (HasAllNext b files next) (HasAllNext b files ((past ++ level) ++ next))
+      (λ s all p known call is. has-right b (past ++ level) next (stage_after (stage_at b s) p call) (all p known call is)) level later.looked);
 }
+  where
+    before : All (λ (s : Stage). sum s.made.items < made + 1) (past ++ level)
+    before = All-append (λ (s : Stage). sum s.made.items < made + 1) past level
+        (All-weaker (λ (s : Stage). sum s.made.items < made) (λ (s : Stage). sum s.made.items < made + 1) (λ s less. omega arith) past walked.before)
+        (All-weaker (λ (s : Stage). sum s.made.items ≡ made) (λ (s : Stage). sum s.made.items < made + 1) (λ s same. omega arith) level walked.stages.counts)
+
+    has-right : (b : BookTerms) (xs ys : List Stage) (t : StageTerms) → HasStage b ys t → HasStage b (xs ++ ys) t
+    has-right b xs ys t has = record { one = has.one; there = Contains-append_right xs ys has.one has.there; is = has.is }
+
+-- one more stage of a level is looked at
+pub looked-more : (b : BookTerms) (files : List (List Call)) (xs ys stages : List Stage) (s : Stage) → Grows xs ys → All (HasAllNext b files xs) stages
+    → HasAllNext b files ys s → All (HasAllNext b files ys) (stages ++ s ∷ [])
+looked-more b files xs ys stages s grows looked here = All-push (HasAllNext b files ys) stages s (all-next-grows b files xs ys stages grows looked) here
 
 -- where every stage that is seen is looked at, lines lead to stages that are seen
-closed : (b : BookTerms) (files : List (List Call)) (seen : List Stage) → length files ≡ b.processes → IsWalkedUpTo b files seen (length seen)
+closed : (b : BookTerms) (files : List (List Call)) (seen : List Stage) → length files ≡ b.processes → All (HasAllNext b files seen) seen
     → (s : LedgerState) (made : List ℕ) (lines : List Line) (t : StageTerms) → HasStage b seen (record { made = made; ledger = s }) → Leads files s made lines t → HasStage b seen t
-closed b files seen count walked s made [] t has leads =
+closed b files seen count looked s made [] t has leads =
     let same = leads-nil files s made t leads in
     subst (HasStage b seen) (stage-ext (record { made = made; ledger = s }) t same.1 same.0) has
-closed b files seen count walked s made (l ∷ lines) t has leads =
+closed b files seen count looked s made (l ∷ lines) t has leads =
     let parts = leads-cons files s made l lines t leads in
-    let k : ℕ = has.there.0 in
-    let here : slice_get seen k ≡ Some has.one = slice_get-get_or seen k has.one has.there.1 ∙ ap Some has.there.2 in
     let known : l.process < b.processes = let h = parts.0.process in omega arith in
     let counts : has.one.made.items ≡ made = ap (λ (u : StageTerms). u.made) has.is in
     let next : slice_get (get_or files l.process []) (get_or has.one.made.items l.process 0) ≡ Some l.call =
     subst (λ (m : List ℕ). slice_get (get_or files l.process []) (get_or m l.process 0) ≡ Some l.call) (sym counts) parts.0.call in
-    let after = walked.looked k has.there.1 has.one here l.process known l.call next in
-    closed b files seen count walked (step s l.process l.call).ledger (with_made made l.process) lines t
+    let after = All-contains (HasAllNext b files seen) seen has.one looked has.there l.process known l.call next in
+    closed b files seen count looked (step s l.process l.call).ledger (with_made made l.process) lines t
     (subst (λ (u : StageTerms). HasStage b seen (stage_after u l.process l.call)) has.is after) parts.1
 
--- all stages are seen
-pub walked-all : (b : BookTerms) (files : List (List Call)) (seen : List Stage) → length files ≡ b.processes → IsWalkedUpTo b files seen (length seen) → AreAllStages b files seen
-walked-all b files seen count walked = record {
+-- where no stage is left to be looked at, all are seen
+pub walked-all : (b : BookTerms) (files : List (List Call)) (past level : List Stage) (made : ℕ) → length files ≡ b.processes → level ≡ [] → IsWalkedTo b files past level made
+    → AreAllStages b files past
+walked-all b files past level made count none walked = record {
   are = walked.are;
   all = λ t stage.
+      let whole : past ++ level ≡ past = ap (λ (xs : List Stage). past ++ xs) none ∙ append-nil past in
+      let looked = subst (λ (xs : List Stage). All (HasAllNext b files xs) past) whole walked.looked in
+      let begun = subst (λ (xs : List Stage). HasStage b xs (first_stage b)) whole walked.begun in
       let reached = stage-reached b files t stage in
-      let first : HasStage b seen (record { made = none_made files; ledger = opening_state b }) =
-      subst (λ (n : ℕ). HasStage b seen (record { made = replicate n 0; ledger = opening_state b })) (sym count) walked.begun in
-      closed b files seen count walked (opening_state b) (none_made files) reached.lines t first reached.leads;
+      let first : HasStage b past (record { made = none_made files; ledger = opening_state b }) =
+      subst (λ (n : ℕ). HasStage b past (record { made = replicate n 0; ledger = opening_state b })) (sym count) begun in
+      closed b files past count looked (opening_state b) (none_made files) reached.lines t first reached.leads;
 }
 
 -- what is heard at one more stage
@@ -272,6 +312,43 @@ all-heard-more b files stages answers p replies all heard =
           cases;
     }
 
+-- the replies of one more file at more stages
+pub part-more : (b : BookTerms) (files : List (List Call)) (past stages : List Stage) (answers : List (List Replies)) (p : ℕ) (replies : List Replies) → p < length files
+    → AreHeardInPart b files past stages answers p → AreHeard b (get_or files p []) (past ++ stages) p replies → AreHeardInPart b files past stages (set answers p replies) (p + 1)
+part-more b files past stages answers p replies known part heard = record {
+  processes = length-set answers p replies ∙ part.processes;
+  first = λ q less within. by q within (p == q) refl (λ other. part.first q (omega (arith, other)) within);
+  others = λ q more within.
+      subst (AreHeard b (get_or files q []) past q) (sym (get_or-set_other answers p q replies [] (λ same. omega arith))) (part.others q (omega arith) within);
+}
+  where
+    by : (q : ℕ) → q < length files → (t : Bool) → (p == q) ≡ t → ((p ≡ q → ⊥) → AreHeard b (get_or files q []) (past ++ stages) q (get_or answers q []))
+        → AreHeard b (get_or files q []) (past ++ stages) q (get_or (set answers p replies) q [])
+    by q within true is old =
+        let same : p ≡ q = (Decides-eqb p q).0 is in
+        let count = part.processes in
+        let read : get_or (set answers p replies) p [] ≡ replies = get_or-set_same answers p replies [] (omega arith) in
+        subst (λ (n : ℕ). AreHeard b (get_or files n []) (past ++ stages) n (get_or (set answers p replies) n [])) same
+        (subst (AreHeard b (get_or files p []) (past ++ stages) p) (sym read) heard)
+    by q within false is old =
+        let other : p ≡ q → ⊥ = λ same. let wrong = (Decides-eqb p q).1 same in cc in
+        subst (AreHeard b (get_or files q []) (past ++ stages) q) (sym (get_or-set_other answers p q replies [] (λ same. other (sym same)))) (old other)
+
+pub part-none : (b : BookTerms) (files : List (List Call)) (past stages : List Stage) (answers : List (List Replies)) → AreAllHeard b files past answers (length files)
+    → AreHeardInPart b files past stages answers 0
+part-none b files past stages answers all = record {
+  processes = all.processes;
+  first = λ p less within. absurd (omega arith);
+  others = λ p more within. all.each p within;
+}
+
+pub part-all : (b : BookTerms) (files : List (List Call)) (past stages : List Stage) (answers : List (List Replies)) (count : ℕ) → count ≡ length files
+    → AreHeardInPart b files past stages answers count → AreAllHeard b files (past ++ stages) answers (length files)
+part-all b files past stages answers count is part = record {
+  processes = part.processes;
+  each = λ p within. part.first p (omega arith) within;
+}
+
 -- the answers
 pub answers : (b : BookTerms) (files : List (List Call)) (seen : List Stage) (replies : List (List Replies)) → AreAllStages b files seen
     → AreAllHeard b files seen replies (length files) → AreAnswers b files replies
@@ -284,18 +361,33 @@ answers b files seen replies all heard = record {
       ((heard.each p known).each i r within);
 }
 
--- stages that are told apart, more than so many
-pub more-stages : (b : BookTerms) (files : List (List Call)) (seen : List Stage) (d : Stage) (eq : Stage → Stage → Bool) (most : ℕ)
-    → ((x y : Stage) → stage_at b x ≡ stage_at b y → eq x y ≡ true) → IsDistinct eq seen → All (IsSeen b files) seen → most < length seen → HasMoreStages b files most
-more-stages b files seen d eq most same distinct are more = record {
-  stages = map (stage_at b) seen;
-  are = All-map (IsStage b files) (stage_at b) seen (All-weaker (IsSeen b files) (λ s. IsStage b files (stage_at b s)) (λ s is. is.stage) seen are);
-  apart = λ i j t less within equal.
-      let size = length-map seen (stage_at b) in
-      let known : j < length seen = omega arith in
-      let here : get_or (map (stage_at b) seen) i t ≡ stage_at b (get_or seen i d) = get_or-map (stage_at b) seen i d t (omega arith) in
-      let there : get_or (map (stage_at b) seen) j t ≡ stage_at b (get_or seen j d) = get_or-map (stage_at b) seen j d t known in
-      let differ = apart_from_distinct eq seen i j d distinct less known in
-      true≢false (sym (same (get_or seen i d) (get_or seen j d) (sym here ∙ (equal ∙ there))) ∙ differ);
-  more = let size = length-map seen (stage_at b) in omega arith;
-}
+-- more stages than so many
+pub more-stages : (b : BookTerms) (files : List (List Call)) (past level : List Stage) (made left most : ℕ) → IsWalkedTo b files past level made
+    → HasMoreNext b files made left → most ≤ length past + length level + left → HasMoreStages b files most
+more-stages b files past level made left most walked later enough =
+    let all : List Stage = (past ++ level) ++ later.next in
+    let size : length all ≡ length past + length level + length later.next = let a = length-append (past ++ level) later.next in let c = length-append past level in omega arith in
+    let fewer : All (λ (s : Stage). sum s.made.items < made + 1) (past ++ level) = All-append (λ (s : Stage). sum s.made.items < made + 1) past level
+    (All-weaker (λ (s : Stage). sum s.made.items < made) (λ (s : Stage). sum s.made.items < made + 1) (λ s less. omega arith) past walked.before)
+    (All-weaker (λ (s : Stage). sum s.made.items ≡ made) (λ (s : Stage). sum s.made.items < made + 1) (λ s same. omega arith) level walked.stages.counts) in
+    let are : All (IsSeen b files) all = All-append (IsSeen b files) (past ++ level) later.next (All-append (IsSeen b files) past level walked.are walked.stages.are) later.stages.are in
+    let apart = apart-append b (past ++ level) later.next (made + 1) walked.apart later.apart fewer later.stages.counts in
+    let more = later.more in
+    stages-from b files all walked.begun.one most are apart (omega arith)
+  where
+    stages-from : (b : BookTerms) (files : List (List Call)) (all : List Stage) (d : Stage) (most : ℕ) → All (IsSeen b files) all → AreApart b all → most < length all → HasMoreStages b files most
+    stages-from b files all d most are apart more = record {
+      stages = map (stage_at b) all;
+      are = All-map (IsStage b files) (stage_at b) all (All-weaker (IsSeen b files) (λ s. IsStage b files (stage_at b s)) (λ s is. is.stage) all are);
+      apart = λ i j t less within equal.
+          let size = length-map all (stage_at b) in
+          let known : j < length all = omega arith in
+          let here : get_or (map (stage_at b) all) i t ≡ stage_at b (get_or all i d) = get_or-map (stage_at b) all i d t (omega arith) in
+          let there : get_or (map (stage_at b) all) j t ≡ stage_at b (get_or all j d) = get_or-map (stage_at b) all j d t known in
+          apart i j d less known (sym here ∙ (equal ∙ there));
+      more = let size = length-map all (stage_at b) in omega arith;
+    }
+
+pub length-none : (xs : List Stage) → length xs ≡ 0 → xs ≡ []
+length-none [] is = refl
+length-none (x ∷ xs) is = absurd (omega arith)

@@ -1,11 +1,13 @@
 //! Which replies depend on the order in which the processes' calls come: for each call of the files, the replies that
 //! some order of all their calls gives it.
 //!
-//! No order is tried by itself. `orders` walks the stages that the orders go through, each of them once.
+//! No order is tried by itself. `orders` walks the stages that the orders go through, each of them once, level by level: by
+//! how many calls were made in all.
 #![tactic(auto)]
 
 mod answers;
 mod error;
+mod heard;
 mod replies;
 mod stage;
 mod walk;

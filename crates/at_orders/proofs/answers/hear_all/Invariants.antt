@@ -1,6 +1,0 @@
-use Rattle.at_files.specs.Files.{contents_of}
-use Rattle.at_orders.specs.Walk.{AreAllHeard}
-use Rattle.at_orders.proofs.answers.hear_all.Given as goal
-
-abbrev pub invariant-loop-process : goal.invariant-loop-process
-invariant-loop-process l = AreAllHeard l.book (contents_of l.files) l.stages (contents_of l.answers.items) l.process

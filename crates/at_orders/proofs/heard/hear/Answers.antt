@@ -1,0 +1,48 @@
+use Rattle.std.proofs.Common.{◌≡◌, ℕ, ◌+◌, ◌≤◌, ◌++◌, set, take, Some, [], ◌∷◌, List, length, get_or, sym, ap, subst, ◌∙◌, arith}
+use Rattle.std.specs.Prelude.{slice_get}
+use Rattle.at_ledger.specs.declared.call.Call.{Call}
+use Rattle.at_orders.specs.Walk.{AreHeard}
+use Rattle.at_orders.specs.declared.stage.Stage.{Stage}
+use Rattle.at_orders.proofs.Walking.{heard-push, heard-skip}
+use Rattle.std.proofs.lemmas.List.{append_assoc, take_all, take_more}
+use Rattle.std.proofs.lemmas.Option.{slice_get-get_or}
+use Rattle.at_ledger.specs.State.{step}
+use Rattle.at_ledger.specs.declared.call.Reply.{Reply}
+use Rattle.at_orders.specs.Replies.{no_replies, replies_with}
+use Rattle.at_orders.specs.Stages.{ledger_at}
+use Rattle.at_orders.specs.declared.replies.Replies.{Replies}
+use Rattle.at_orders.proofs.heard.hear.Goals as goal
+use Rattle.at_orders.proofs.heard.hear.Goals.{then-i-file, else-i-file}
+
+pub loop-stage-preserved : goal.loop-stage-preserved
+loop-stage-preserved c past before =
+    let b = c.args.book.now in
+    let file : List Call = c.args.file.now in
+    let s : Stage = c.stage-item.result in
+    let p : ℕ = c.args.process in
+    let k : ℕ = c.made-i.result in
+    let xs : List Stage = past ++ take c.loop-stage.stage-index c.args.stages.now in
+    let replies : List Replies = c.loop-stage.replies in
+    let heard = c.loop-stage.invariant past before in
+    let more : past ++ take (c.loop-stage.stage-index + 1) c.args.stages.now ≡ xs ++ s ∷ [] =
+    ap (λ (ys : List Stage). past ++ ys) (take_more c.args.stages.now c.loop-stage.stage-index s c.loop-stage-test.true
+    ∙ ap (λ (t : Stage). take c.loop-stage.stage-index c.args.stages.now ++ t ∷ []) (sym c.stage-item.is))
+    ∙ sym (append_assoc past (take c.loop-stage.stage-index c.args.stages.now) (s ∷ [])) in
+    rw more (elim c.if-i-file.branch [
+      | then-i-file w ↦
+          let call : Call = w.index-file-i.result in
+          let x : Reply = (step (ledger_at b s) p call).reply in
+          let next : slice_get file k ≡ Some call = slice_get-get_or file k call w.if-i-file.true ∙ ap Some (sym w.index-file-i.is) in
+          let pushed = heard-push b file xs s p k replies call no_replies (sym c.made-i.ensures) next heard in
+          let value : replies_with (get_or replies k no_replies) x ≡ w.with.result =
+          ap (λ (y : Reply). replies_with (get_or replies k no_replies) y) (sym w.reply.ensures) ∙ sym w.with.ensures in
+          subst (AreHeard b file (xs ++ s ∷ []) p) (sym w.replies-is) (subst (λ (q : Replies). AreHeard b file (xs ++ s ∷ []) p (set replies k q)) value pushed)
+      | else-i-file w ↦
+          let past : length file ≤ get_or s.made.items p 0 = let is = c.made-i.ensures in let far = w.if-i-file.false in omega arith in
+          subst (AreHeard b file (xs ++ s ∷ []) p) (sym w.replies-is) (heard-skip b file xs s p replies past heard)
+    ])
+
+pub returns-clause-heard : goal.returns-clause-heard
+returns-clause-heard c past before =
+    let whole : take c.loop-stage.stage-index c.args.stages.now ≡ c.args.stages.now = take_all c.loop-stage.stage-index c.args.stages.now (omega arith) in
+    subst (λ (xs : List Stage). AreHeard c.args.book.now c.args.file.now (past ++ xs) c.args.process c.loop-stage.replies) whole (c.loop-stage.invariant past before)

@@ -1,0 +1,10 @@
+use Rattle.std.proofs.Common.{List, length}
+use Rattle.at_files.specs.Files.{contents_of}
+use Rattle.at_orders.specs.Walk.{AreAllHeard, AreHeardInPart}
+use Rattle.at_orders.specs.declared.stage.Stage.{Stage}
+use Rattle.at_orders.proofs.heard.hear_all.Given as goal
+
+abbrev pub invariant-loop-process : goal.invariant-loop-process
+invariant-loop-process l =
+    (past : List Stage) → AreAllHeard l.book (contents_of l.files) past (contents_of l.fn.answers.items) (length l.files)
+    → AreHeardInPart l.book (contents_of l.files) past l.stages (contents_of l.answers.items) l.process
