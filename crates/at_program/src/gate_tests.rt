@@ -6,7 +6,7 @@ use at_ledger::Reply;
 use at_report::Status;
 use at_workers::Gate;
 use std::alloc::Global;
-use std::sync::atomic::{AtomicU64, Ordering};
+use std::sync::atomic::{AtomicBool, AtomicU64, Ordering};
 use std::thread::{Threads, yield_now};
 
 const EACH_OWN: &[u8] = b"book,1\nprocesses,2\nlimits,4,4\naccount,0,100,0\naccount,1,100,1\n";
@@ -14,6 +14,10 @@ const EACH_OWN: &[u8] = b"book,1\nprocesses,2\nlimits,4,4\naccount,0,100,0\nacco
 const READS_AND_PAYS: &[u8] = b"read,1\ntransfer,0,1,30\n";
 
 const READS_PAYS_AND_READS: &[u8] = b"read,0\ntransfer,1,0,20\nread,1\n";
+
+const PAYS_THIRTY: &[u8] = b"transfer,0,1,30\nread,0\n";
+
+const PAYS_TWENTY: &[u8] = b"transfer,1,0,20\nread,1\n";
 
 const HELD_REPORT: &[u8] =
     b"journal 5\n1 1 read 0 100\n1 2 transfer 1 0 20 done\n0 1 read 1 80\n0 2 transfer 0 1 30 done\n1 3 read 1 110\nbalances 2\n0 90\n1 110\ntotal 200\n";
@@ -132,6 +136,38 @@ impl Gate for Meeting {
     }
 }
 
+/// A gate at which each of two processes waits for the other before its first call, and process 0 before its second call for the
+/// other's second reply. It notes whether process 0 has then read 90.
+#[derive(Drop)]
+struct Pair {
+    here: Count,
+    done: Count,
+    has_read: AtomicBool,
+}
+
+impl Gate for Pair {
+    fn pass(&self, process: u32, line: u32) {
+        match (process, line) {
+            (_, 1) => {
+                self.here.add();
+                self.here.wait_for(2);
+            }
+            (0, 2) => self.done.wait_for(1),
+            _ => {}
+        }
+    }
+
+    fn answered(&self, process: u32, line: u32, reply: &Reply) {
+        match (process, line) {
+            (1, 2) => self.done.add(),
+            (0, 2) => self
+                .has_read
+                .store(*reply == Reply::Balance(90), Ordering::SeqCst),
+            _ => {}
+        }
+    }
+}
+
 /// Whether all is done at this gate, the closed ledger is kept, and the text ends as it has to.
 fn is_done_over<R: Threads + Sync, G: Gate + Sync>(
     rt: &R,
@@ -174,6 +210,21 @@ fn meet_in_the_middle<R: Threads + Sync>(rt: &R, alloc: Global) -> bool {
         && meeting.stage.is_kept()
 }
 
+/// Both processes pay at once. The balance that process 0 then reads has both payments.
+fn pair_meets<R: Threads + Sync>(rt: &R, alloc: Global) -> bool {
+    let pair = Pair {
+        here: Count::new(),
+        done: Count::new(),
+        has_read: AtomicBool::new(false),
+    };
+    let contents = [EACH_OWN, PAYS_THIRTY, PAYS_TWENTY];
+    let text = b"balances 2\n0 90\n1 110\ntotal 200\n";
+    is_done_at(rt, alloc, "run book 0 1", &contents, &pair, text)
+        && pair.here.is_kept()
+        && pair.done.is_kept()
+        && pair.has_read.load(Ordering::SeqCst)
+}
+
 /// Whether all processes of these words wait at their first call until all are there, and the gate is told of each call once.
 fn crowd_meets<R: Threads + Sync>(
     rt: &R,
@@ -191,6 +242,11 @@ fn crowd_meets<R: Threads + Sync>(
 #[test]
 fn two_processes_meet_in_the_middle(rt: HostRuntime) {
     assert!(rt; meet_in_the_middle(&rt, rt.alloc()));
+}
+
+#[test]
+fn two_processes_meet(rt: HostRuntime) {
+    assert!(rt; pair_meets(&rt, rt.alloc()));
 }
 
 /// All sixteen processes of a run, the most that there are.

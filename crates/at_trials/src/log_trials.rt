@@ -9,7 +9,7 @@ ghost use Rattle.at_players.specs.SmallBoard.{IsNewPair};
 use crate::payers::{may_pay, pay};
 use at_board::{Board, BoardSeat};
 use at_ledger::Targets;
-use at_log::{Entry, Record, load_entry, load_view};
+use at_log::{Entry, Record, load_entry, load_view, room};
 use at_players::boards::{Account, Pair, new_pair};
 
 /// An account of each process.
@@ -33,7 +33,7 @@ fn told_record(board: &Board, seat: &mut BoardSeat, other: &mut BoardSeat) -> Re
     Record { entry, view }
 }
 
-/// The record by which process 0 pays 1 to account 1, as process 1 loads it after a note.
+/// The record by which process 0, whose log has room for four, pays 1 to account 1, as process 1 loads it after a note.
 fn pays_and_tells(pair: &mut Pair) -> Option<Record>
     requires { IsNewPair pair.old }
 {
@@ -41,8 +41,15 @@ fn pays_and_tells(pair: &mut Pair) -> Option<Record>
     if !may_pay(pair.board.book(), pair.zero.process(), 2, &targets) {
         return None;
     }
+    let most = room(&pair.board, &pair.zero);
     let _entry = pay(&pair.board, &mut pair.zero, targets);
-    Some(told_record(&pair.board, &mut pair.zero, &mut pair.one))
+    let left = room(&pair.board, &pair.zero);
+    let told = told_record(&pair.board, &mut pair.zero, &mut pair.one);
+    if most == 4 && left == 3 {
+        Some(told)
+    } else {
+        None
+    }
 }
 
 /// Whether a record pays 1 from account 0 to account 1, and its view counts nothing.

@@ -17,7 +17,10 @@ use at_players::boards::{Account, book_of, last_seat};
 use at_shared::{HelpTurn, Helping};
 use std::alloc::Global;
 
-/// Eight owners of account 0, which is the most that may share one. Nobody owns account 1.
+/// Two owners of account 0, and nobody owns account 1.
+const TWO_OWNERS: &[Account] = &[(30, &[0, 1]), (0, &[])];
+
+/// Eight of them, which is the most that may share an account.
 const EIGHT_OWNERS: &[Account] = &[(100, &[0, 1, 2, 3, 4, 5, 6, 7]), (0, &[])];
 
 /// The words of the cells of account 0, where round i decides the first request of slot i at place i, and it succeeds.
@@ -320,6 +323,11 @@ fn are_served(alloc: Global, owners: u32, accounts: &[Account]) -> bool
         Some(book) => are_served_on(alloc, &book, owners),
         None => false,
     }
+}
+
+#[test]
+fn a_request_is_overtaken_once(rt: HostRuntime) {
+    assert!(rt; are_served(rt.alloc(), 2, TWO_OWNERS));
 }
 
 #[test]

@@ -1,6 +1,10 @@
-use Rattle.std.proofs.Common.{◌≡◌, ◌++◌, [], List, ℕ, length, ◌∙◌, arith, length-take}
+use Rattle.std.proofs.Common.{◌≡◌, ◌++◌, [], List, ℕ, Result, Ok, Err, length, ◌∙◌, arith, length-take}
 use Rattle.std.proofs.lemmas.Grind.{common_steps}
 use Rattle.at_io.proofs.reading.read_whole.Goals as goal
+
+-- a value is no error. It is stated over plain variables, since `cc` looks at all that is known where it is called
+Ok≢Err : {A E : Type 0} (x : A) (e : E) → ◌≡◌ {A = Result A E} (Ok x) (Err e) → ⊥
+Ok≢Err x e is = cc
 
 -- where nothing was left and nothing was added, all was read before
 read-before : (whole read left now rest : List ℕ) →
@@ -26,10 +30,10 @@ pub returns-then-ended-clause-size : goal.returns-then-ended-clause-size
 returns-then-ended-clause-size g c = omega (arith, c.in-Ok.ensures.count)
 
 pub returns-then-ended-clause-failed : goal.returns-then-ended-clause-failed
-returns-then-ended-clause-failed g c is = absurd (cc)
+returns-then-ended-clause-failed g c is = absurd (Ok≢Err _ _ is)
 
 pub returns-then-ended-clause-too_long : goal.returns-then-ended-clause-too_long
-returns-then-ended-clause-too_long g c told is = absurd (cc)
+returns-then-ended-clause-too_long g c told is = absurd (Ok≢Err _ _ is)
 
 pub loop-buffer-smaller : goal.loop-buffer-smaller
 loop-buffer-smaller g c = omega (arith, c.in-Ok.ensures.count)
@@ -41,7 +45,7 @@ loop-buffer-preserved g c =
         as_told = c.in-Ok.ensures.files.as_told ∙ c.loop-buffer.invariant.files.as_told;
         files = c.in-Ok.ensures.files.files ∙ c.loop-buffer.invariant.files.files;
       };
-      kept = c.in-Ok.ensures.kept (λ is. cc) ∙ c.loop-buffer.invariant.kept;
+      kept = c.in-Ok.ensures.kept (λ is. Ok≢Err _ _ is) ∙ c.loop-buffer.invariant.kept;
       size = omega (arith, c.in-Ok.ensures.count, c.in-Ok.ensures.bound, length-take {A = ℕ});
       bytes = λ told.
           c.loop-buffer.invariant.bytes told

@@ -1,4 +1,4 @@
-use Rattle.std.proofs.Common.{◌≡◌, ◌+◌, ◌++◌, take, length, List, ℕ, arith, append_assoc}
+use Rattle.std.proofs.Common.{◌≡◌, ◌+◌, ◌++◌, ◌∙◌, take, length, List, ℕ, arith, append_assoc}
 use Rattle.std.proofs.lemmas.Grind.{common_steps}
 use Rattle.std.specs.List.{slice_range}
 use Rattle.std.proofs.Math.Seq.{take-add}
@@ -17,12 +17,12 @@ pub loop-at-preserved : goal.loop-at-preserved
 loop-at-preserved g c =
     record {
       within = omega (arith, c.in-Ok.ensures.bound);
-      as_told = cc (c.in-Ok.ensures.as_told);
-      kept = cc (c.in-Ok.ensures.kept);
+      as_told = c.in-Ok.ensures.as_told ∙ c.loop-at.invariant.as_told;
+      kept = c.in-Ok.ensures.kept ∙ c.loop-at.invariant.kept;
       taken = λ told.
           take-further _ _ _ _ _ _
           (c.loop-at.invariant.taken told)
-          (c.in-Ok.ensures.prefix (cc (c.loop-at.invariant.as_told, told)));
+          (c.in-Ok.ensures.prefix (c.loop-at.invariant.as_told ∙ told));
     }
 
 pub returns-clause-fault : goal.returns-clause-fault
