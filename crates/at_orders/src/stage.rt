@@ -16,8 +16,8 @@ use std::hash::{Hash, Hasher};
 pub(crate) struct Stage {
     made: Vec<u32>,
     balances: Vec<u64>,
-    sent: Vec<u32>,
-    asked: Vec<u32>,
+    sent: Vec<u16>,
+    asked: Vec<u16>,
 }
 
 /// The used room is left out: where it differs, how many calls were made or the balances mostly do too.
@@ -174,8 +174,11 @@ impl Stage {
     {
         match book.owner_count(source) {
             0 => false,
-            1 => self.sent[process as usize] == book.own_room(),
-            _ => self.asked[self.asked_position(book, process, source)] == book.request_room(),
+            1 => u32::from(self.sent[process as usize]) == book.own_room(),
+            _ => {
+                let position = self.asked_position(book, process, source);
+                u32::from(self.asked[position]) == book.request_room()
+            }
         }
     }
 
