@@ -31,9 +31,6 @@ returns-clause-fault g c = tt
 pub returns-clause-prefix : goal.returns-clause-prefix
 returns-clause-prefix g c told = tt
 
-pub overflow_add-at : goal.overflow_add-at
-overflow_add-at c = grind (arith, common_steps)
-
 pub returns-in_default-clause-fault : goal.returns-in_default-clause-fault
 returns-in_default-clause-fault c = grind (arith, common_steps)
 

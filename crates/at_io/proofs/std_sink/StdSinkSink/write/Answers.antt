@@ -8,9 +8,6 @@ returns-clause-some g c some = omega arith
 pub returns-clause-bound : goal.returns-clause-bound
 returns-clause-bound c = grind (arith, common_steps)
 
-pub returns-then-count-eq0-clause-later : goal.returns-then-count-eq0-clause-later
-returns-then-count-eq0-clause-later c = grind (arith, common_steps)
-
 pub returns-then-is_empty-clause-some : goal.returns-then-is_empty-clause-some
 returns-then-is_empty-clause-some c = grind (arith, common_steps)
 
@@ -19,6 +16,3 @@ returns-clause-later c = grind (arith, common_steps)
 
 pub returns-clause-prefix : goal.returns-clause-prefix
 returns-clause-prefix c = grind (arith, common_steps)
-
-pub returns-then-count-eq0-clause-failed : goal.returns-then-count-eq0-clause-failed
-returns-then-count-eq0-clause-failed c = grind (arith, common_steps)
