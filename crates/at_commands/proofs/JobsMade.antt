@@ -1,5 +1,6 @@
 -- Jobs that are made one after another, of passes and files.
-use Rattle.std.proofs.Common.{◌≡◌, ℕ, ◌<◌, List, [], ◌∷◌, ◌++◌, length, get_or, map, All, sym, ap, subst, ◌∙◌, arith}
+use Rattle.std.proofs.Common.{◌≡◌, ℕ, ◌<◌, Bool, List, [], ◌∷◌, ◌++◌, length, get_or, map, All, sym, ap, subst, ◌∙◌, arith}
+use Rattle.std.specs.Option.{is_some}
 use Rattle.std.proofs.lemmas.List.{append-nil, get_or-map, length-append, length-map}
 use Rattle.std.proofs.Math.Seq.{get_or-append_seam}
 use Rattle.at_board.specs.Knowledge.Seats.{BoardTerms}
@@ -8,15 +9,18 @@ use Rattle.at_object.specs.Passes.{AreNewPasses, IsNewPass, PassTerms}
 use Rattle.at_commands.specs.Running.{AreJobsFor}
 use Rattle.at_workers.specs.Jobs.{JobTerms}
 
--- the passes and the calls of jobs, and that none of the calls was made
+-- the passes and the calls of jobs, and that none of the calls was made, of jobs that note costs or of jobs that don't
 abbrev pub passes_in : List JobTerms → List PassTerms
 passes_in jobs = map (λ (job : JobTerms). job.pass) jobs
 
 abbrev pub files_of : List JobTerms → List (List Call)
 files_of jobs = map (λ (job : JobTerms). job.calls) jobs
 
-abbrev pub AreUnmade : List JobTerms → Type 0
-AreUnmade jobs = All (λ (job : JobTerms). job.receipts ≡ []) jobs
+abbrev pub IsUnmade : Bool → JobTerms → Type 0
+IsUnmade notes job = (job.receipts ≡ []) × (is_some job.costs ≡ notes)
+
+abbrev pub AreUnmade : Bool → List JobTerms → Type 0
+AreUnmade notes jobs = All (IsUnmade notes) jobs
 
 -- what holds of each holds of one between others
 pub All-seam : {X : Type 0} (holds : X → Type 0) (xs before after : List X) (x : X) → All holds xs → xs ≡ before ++ x ∷ after → holds x
@@ -37,9 +41,9 @@ IsNewPass-next ledger passes jobs pass others new parts =
     (ap (λ (l : List PassTerms). get_or l (length made) pass) parts ∙ get_or-append_seam made pass others pass) (new.each (length made) pass within))
 
 -- the jobs of all passes and files
-pub AreJobsFor-made : (ledger : BoardTerms) (passes : List PassTerms) (files : List (List Call)) (jobs : List JobTerms)
-    → AreNewPasses ledger passes → passes ≡ passes_in jobs → files ≡ files_of jobs → AreUnmade jobs → AreJobsFor ledger files jobs
-AreJobsFor-made ledger passes files jobs new passes_are files_are unmade =
+pub AreJobsFor-made : (ledger : BoardTerms) (passes : List PassTerms) (files : List (List Call)) (notes : Bool) (jobs : List JobTerms)
+    → AreNewPasses ledger passes → passes ≡ passes_in jobs → files ≡ files_of jobs → AreUnmade notes jobs → AreJobsFor ledger files notes jobs
+AreJobsFor-made ledger passes files notes jobs new passes_are files_are unmade =
     let count : length jobs ≡ ledger.book.processes =
     sym (ap (λ (l : List PassTerms). length l) passes_are ∙ length-map jobs (λ (job : JobTerms). job.pass)) ∙ new.count in
     let pass_at : (p : ℕ) (d : JobTerms) → p < length jobs → IsNewPass ledger p (get_or jobs p d).pass = λ p d within.
@@ -49,17 +53,18 @@ AreJobsFor-made ledger passes files jobs new passes_are files_are unmade =
     record {
       count = count;
       calls = sym files_are;
-      ready = λ p d within. record { of_ledger = (pass_at p d within).of_ledger; unmade = unmade p d within };
-      in_order = λ p d within. (pass_at p d within).process_is;
+      ready = λ p d within. record { of_ledger = (pass_at p d within).of_ledger; unmade = (unmade p d within).0 };
+      new = pass_at;
+      noting = λ p d within. (unmade p d within).1;
     }
 
 -- no pass is left where there is a job for each file
-pub AreJobsFor-all : (ledger : BoardTerms) (passes others : List PassTerms) (files : List (List Call)) (jobs : List JobTerms)
-    → AreNewPasses ledger passes → length files ≡ ledger.book.processes → passes ≡ passes_in jobs ++ others → files ≡ files_of jobs → AreUnmade jobs
-    → AreJobsFor ledger files jobs
-AreJobsFor-all ledger passes [] files jobs new count passes_are files_are unmade =
-    AreJobsFor-made ledger passes files jobs new (passes_are ∙ append-nil (passes_in jobs)) files_are unmade
-AreJobsFor-all ledger passes (pass ∷ others) files jobs new count passes_are files_are unmade =
+pub AreJobsFor-all : (ledger : BoardTerms) (passes others : List PassTerms) (files : List (List Call)) (notes : Bool) (jobs : List JobTerms)
+    → AreNewPasses ledger passes → length files ≡ ledger.book.processes → passes ≡ passes_in jobs ++ others → files ≡ files_of jobs → AreUnmade notes jobs
+    → AreJobsFor ledger files notes jobs
+AreJobsFor-all ledger passes [] files notes jobs new count passes_are files_are unmade =
+    AreJobsFor-made ledger passes files notes jobs new (passes_are ∙ append-nil (passes_in jobs)) files_are unmade
+AreJobsFor-all ledger passes (pass ∷ others) files notes jobs new count passes_are files_are unmade =
     absurd (omega (
       arith,
       count,

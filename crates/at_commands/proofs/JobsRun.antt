@@ -1,6 +1,5 @@
 -- Jobs that were run: their passes are accounted for by their receipts, which are of the calls of the jobs.
-use Rattle.std.proofs.Common.{◌≡◌, ℕ, ◌^◌, ◌<◌, All, List, [], ◌∷◌, length, get_or, map, refl, sym, ap, subst, ◌∙◌, arith, Result, Ok, Err, None, Vec}
-use Rattle.std.specs.Global.{Global}
+use Rattle.std.proofs.Common.{◌≡◌, ℕ, ◌^◌, ◌<◌, All, Bool, List, [], ◌∷◌, length, get_or, map, refl, sym, ap, subst, ◌∙◌, arith, Result, Ok, Err, None}
 use Rattle.std.specs.declared.alloc.AllocError.{AllocError}
 use Rattle.std.specs.Result.{IfOk}
 use Rattle.std.proofs.lemmas.List.{get_or-map, length-map}
@@ -18,8 +17,8 @@ use Rattle.at_log.specs.ClosingTerms.{ClosingTerms}
 use Rattle.at_log.specs.Receipts.{calls_of, lists_in}
 use Rattle.at_log.specs.declared.receipt.Receipt.{Receipt}
 use Rattle.at_object.specs.Closings.{AreAccountedFor, ClosedTerms, IsAccountedFor}
-use Rattle.at_object.specs.Passes.{PassTerms}
-use Rattle.at_commands.specs.Running.{AreJobsFor, IsClosedAfter, IsPlayed, journal_of}
+use Rattle.at_commands.specs.Running.{AreCosts, AreJobsFor, IsClosedAfter, IsPlayed, costs_in, journal_of}
+use Rattle.at_commands.specs.declared.playing.Left.{Left}
 use Rattle.at_commands.proofs.JobsMade.{files_of, passes_in}
 use Rattle.at_commands.proofs.Laws.RunTotals.{IsLineOn-Whole, sum-last_state}
 use Rattle.at_workers.specs.Jobs.{JobTerms, Ran}
@@ -39,9 +38,9 @@ files_of-ran ledger (job ∷ before) (made ∷ after) ran =
     ∙ ap (λ (files : List (List Call)). job.calls ∷ files) (files_of-ran ledger before after ran.1)
 
 -- the passes and the receipts of the jobs are those of all processes
-pub AreAccountedFor-ran : (ledger : BoardTerms) (files : List (List Call)) (before after : List JobTerms) → AreJobsFor ledger files before
+pub AreAccountedFor-ran : (ledger : BoardTerms) (files : List (List Call)) (notes : Bool) (before after : List JobTerms) → AreJobsFor ledger files notes before
     → AllZip (Ran ledger) before after → AreAccountedFor ledger (passes_in after) (receipts_in after)
-AreAccountedFor-ran ledger files before after jobs ran =
+AreAccountedFor-ran ledger files notes before after jobs ran =
     let count : length after ≡ ledger.book.processes = AllZip-long (Ran ledger) before after ran ∙ jobs.count in
     record {
       passes_count = length-map after (λ (job : JobTerms). job.pass) ∙ count;
@@ -57,27 +56,33 @@ AreAccountedFor-ran ledger files before after jobs ran =
           subst (IsAccountedFor ledger p (get_or (passes_in after) p d)) (sym receipts)
           (subst (λ x. IsAccountedFor ledger p x (get_or after p none).receipts) (sym pass) (record {
             of_ledger = one.of_ledger;
-            process_is = one.process_is ∙ jobs.in_order p none within;
+            process_is = one.process_is ∙ (jobs.new p none within).process_is;
             stands = one.stands;
             counted = one.counted;
           }));
     }
 
--- what is left of jobs: their passes, and the receipts of each
-abbrev Left : Type 0
-Left = Result (Vec PassTerms Global × Vec (Vec Receipt Global) Global) AllocError
+-- what is left of jobs, or no memory
+abbrev LeftOrNone : Type 0
+LeftOrNone = Result Left AllocError
 
-pub IfOk-accounted : (ledger : BoardTerms) (after : List JobTerms) (left : Left) → AreAccountedFor ledger (passes_in after) (receipts_in after)
-    → IfOk left (λ r. r.0.items ≡ passes_in after) → IfOk left (λ r. lists_in r.1.items ≡ receipts_in after)
-    → IfOk left (λ r. AreAccountedFor ledger r.0.items (lists_in r.1.items))
+pub IfOk-accounted : (ledger : BoardTerms) (after : List JobTerms) (left : LeftOrNone) → AreAccountedFor ledger (passes_in after) (receipts_in after)
+    → IfOk left (λ r. r.passes.items ≡ passes_in after) → IfOk left (λ r. lists_in r.receipts.items ≡ receipts_in after)
+    → IfOk left (λ r. AreAccountedFor ledger r.passes.items (lists_in r.receipts.items))
 IfOk-accounted ledger after (Ok left) accounted passes receipts = rw (passes, receipts) accounted
 IfOk-accounted ledger after (Err refusal) accounted passes receipts = tt
 
-pub IfOk-receipts : (after : List JobTerms) (files : List (List Call)) (left : Left) → map calls_of (receipts_in after) ≡ files
-    → IfOk left (λ r. lists_in r.1.items ≡ receipts_in after)
-    → IfOk left (λ r. map calls_of (lists_in r.1.items) ≡ files)
+pub IfOk-receipts : (after : List JobTerms) (files : List (List Call)) (left : LeftOrNone) → map calls_of (receipts_in after) ≡ files
+    → IfOk left (λ r. lists_in r.receipts.items ≡ receipts_in after)
+    → IfOk left (λ r. map calls_of (lists_in r.receipts.items) ≡ files)
 IfOk-receipts after files (Ok left) are receipts = rw receipts are
 IfOk-receipts after files (Err refusal) are receipts = tt
+
+pub IfOk-costs : (b : BookTerms) (after : List JobTerms) (left : LeftOrNone) → AreCosts b (receipts_in after) (costs_in after)
+    → IfOk left (λ r. lists_in r.receipts.items ≡ receipts_in after) → IfOk left (λ r. lists_in r.costs.items ≡ costs_in after)
+    → IfOk left (λ r. AreCosts b (lists_in r.receipts.items) (lists_in r.costs.items))
+IfOk-costs b after (Ok left) costed receipts costs = rw (receipts, costs) costed
+IfOk-costs b after (Err refusal) costed receipts costs = tt
 
 -- the receipts of a closing are as few as the calls of the files
 pub few-calls_in : (accounts : ℕ) (c : ClosingTerms) → All (IsPlayable accounts) (calls_in c) → All (λ receipts. length receipts < 2 ^ 32) c.receipts

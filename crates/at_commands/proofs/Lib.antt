@@ -1,6 +1,7 @@
 pub mod Laws
 pub mod JobsMade
 pub mod JobsRun
+pub mod JobsNoting
 pub mod NodesGiven
 pub mod GeneratorLaws
 pub mod GeneratedBook

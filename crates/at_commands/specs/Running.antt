@@ -1,5 +1,6 @@
 -- Closed ledgers on which files were run.
-use Rattle.std.specs.Prelude.{◌≡◌, ℕ, ◌<◌, List, length, map, slice_index_or, sum, All}
+use Rattle.std.specs.Prelude.{◌≡◌, ℕ, ◌<◌, Bool, List, [], flat_map, length, map, slice_index_or, sum, All}
+use Rattle.std.specs.Option.{is_some, option_to_list}
 use Rattle.at_board.specs.Knowledge.Seats.{BoardTerms}
 use Rattle.at_journal.specs.Calls.{calls_in}
 use Rattle.at_ledger.specs.Book.{BookTerms, total_of}
@@ -9,7 +10,10 @@ use Rattle.at_ledger.specs.declared.call.Call.{Call}
 use Rattle.at_ledger.specs.declared.call.Line.{Line}
 use Rattle.at_log.specs.Coherent.{Coherent}
 use Rattle.at_log.specs.JournalOrder.{journal_lines}
+use Rattle.at_log.specs.declared.receipt.Receipt.{Receipt}
 use Rattle.at_object.specs.Closings.{ClosedTerms}
+use Rattle.at_object.specs.Passes.{IsNewPass, PassTerms}
+use Rattle.at_workers.specs.Costs.{CostTerms, TakeCalls}
 use Rattle.at_workers.specs.Jobs.{IsReady, JobTerms}
 
 -- the calls of the files were made on the closed ledger, and no others: it has a receipt for each call of each process's file, in the
@@ -32,9 +36,33 @@ pub record IsPlayed (b : BookTerms) (files : List (List Call)) (closed : ClosedT
   pub on : All (IsLineOn b.processes (length b.accounts)) lines
   pub total : sum (last_state b lines).balances ≡ total_of b
 
--- a job for each process, in order, with the calls of its file to make on the ledger
-pub record AreJobsFor (ledger : BoardTerms) (files : List (List Call)) (jobs : List JobTerms) : Type 0 where
+-- calls with these receipts and these costs took a new pass of the process, one after another, on a ledger of the book
+pub record TakeNewPass (b : BookTerms) (process : ℕ) (receipts : List Receipt) (costs : List CostTerms) : Type 0 where
+  pub ledger : BoardTerms
+  pub book_is : ledger.book ≡ b
+  pub before : PassTerms
+  pub after : PassTerms
+  pub is_new : IsNewPass ledger process before
+  pub taken : TakeCalls b before receipts costs after
+
+-- there are the costs of each process's calls
+pub record AreCosts (b : BookTerms) (receipts : List (List Receipt)) (costs : List (List CostTerms)) : Type 0 where
+  pub count : length costs ≡ b.processes
+  pub each : (p : ℕ) → p < b.processes → TakeNewPass b p (slice_index_or receipts p []) (slice_index_or costs p [])
+
+-- the calls of the files were made on the closed ledger, its journal is one legal run of them, and these are the costs of its calls
+pub record IsPlayedNoting (b : BookTerms) (files : List (List Call)) (closed : ClosedTerms) (costs : List (List CostTerms)) : Type 0 where
+  pub played : IsPlayed b files closed (journal_of closed)
+  pub costed : AreCosts b closed.closing.receipts costs
+
+-- a job for each process, in order, with its new pass and the calls of its file to make on the ledger. Each notes costs, or none does
+pub record AreJobsFor (ledger : BoardTerms) (files : List (List Call)) (notes : Bool) (jobs : List JobTerms) : Type 0 where
   pub count : length jobs ≡ ledger.book.processes
   pub calls : map (λ (job : JobTerms). job.calls) jobs ≡ files
   pub ready : All (IsReady ledger) jobs
-  pub in_order : (p : ℕ) (d : JobTerms) → p < length jobs → (slice_index_or jobs p d).pass.knows.first ≡ p
+  pub new : (p : ℕ) (d : JobTerms) → p < length jobs → IsNewPass ledger p (slice_index_or jobs p d).pass
+  pub noting : All (λ (job : JobTerms). is_some job.costs ≡ notes) jobs
+
+-- the costs that jobs have noted, a list for each job that did
+abbrev pub costs_in : List JobTerms → List (List CostTerms)
+costs_in jobs = flat_map (λ (job : JobTerms). option_to_list job.costs) jobs

@@ -4,7 +4,8 @@
 //! `answer` does what the words ask: it calls `answer_files` for `run` and `check`, and the call of its name for each other
 //! command. Each makes its whole text first, and ends by writing it (`end`). `tell` writes the line of a refusal.
 //!
-//! Whoever adds commands of its own has the same calls: `words_given`, `play`, which runs files, and `end_keeping`.
+//! Whoever adds commands of its own has the same calls: `words_given`, `play`, which runs files, `play_noting`, which
+//! notes what each call cost too, and `end_keeping`.
 #![tactic(auto)]
 
 mod agreeing;
@@ -23,4 +24,4 @@ mod verifying;
 pub use crate::answering::{answer, tell};
 pub use crate::ending::{Printed, end_keeping};
 pub use crate::given::words_given;
-pub use crate::playing::play;
+pub use crate::playing::{play, play_noting};

@@ -1,32 +1,56 @@
-//! Making the calls of the files on a new ledger, at once, and closing it with its journal.
+//! Making the calls of the files on a new ledger, at once, and closing it: with its journal, or with what each call cost.
 
-ghost use Rattle.std.specs.Prelude.{◌≡◌, length, map, All, IfOk};
+ghost use Rattle.std.specs.Prelude.{◌≡◌, ◌<◌, ◌^◌, ◌++◌, [], length, map, true, All, IfOk, None, OnOk, Some, if◌then◌else◌};
+ghost use Rattle.std.specs.Option.{option_map, option_to_list};
 ghost use Rattle.at_files.specs.Files.{IsPlayable, contents_of};
+ghost use Rattle.at_ledger.specs.Call.{IsCallOn};
 ghost use Rattle.at_log.specs.Receipts.{calls_of, lists_in};
 ghost use Rattle.at_object.specs.Closings.{AreAccountedFor};
-ghost use Rattle.at_object.specs.Passes.{AreNewPasses};
-ghost use Rattle.at_commands.specs.Running.{AreJobsFor, IsPlayed};
+ghost use Rattle.at_object.specs.Passes.{AreNewPasses, Stands};
+ghost use Rattle.at_commands.specs.Running.{AreCosts, AreJobsFor, IsClosedAfter, IsPlayed, IsPlayedNoting, costs_in};
 ghost use Rattle.at_workers.specs.Jobs.{JobTerms};
 
 use at_journal::journal;
 use at_ledger::{Book, Call, Line};
 use at_log::Receipt;
 use at_object::{Closed, Ledger, NoMemory, Pass};
-use at_workers::{Gate, Job, run_all};
+use at_workers::{CallCost, Gate, Job, JobRefused, run_all};
 use std::alloc::{AllocError, Global};
 use std::thread::Threads;
 
-/// A job for each process: its pass, and the calls of its file.
+/// A job for the calls with the pass, which notes what they cost where it is to.
+fn job_for(alloc: Global, pass: Pass, calls: Vec<Call>, notes: bool) -> Result<Job, JobRefused>
+    requires stands { Stands pass [] }
+    requires uncounted { pass.calls ≡ 0 }
+    requires accounts { All (IsCallOn (length pass.knows.book.accounts)) calls.items }
+    requires few { length calls.items < 2 ^ 32 }
+    ensures { IfOk result (λ j. j ≡ record {
+      pass = pass;
+      calls = calls.items;
+      receipts = [];
+      costs = if notes then Some [] else None;
+    }) }
+{
+    if notes {
+        Job::noting(alloc, pass, calls)
+    } else {
+        Job::new(alloc, pass, calls)
+    }
+}
+
+/// A job for each process: its pass, and the calls of its file. Each notes what its calls cost, or none does.
 fn jobs_for(
     alloc: Global,
     ledger: &Ledger,
     passes: Vec<Pass>,
     files: Vec<Vec<Call>>,
+    notes: bool,
 ) -> Result<Vec<Job>, NoMemory>
     requires passes { AreNewPasses ledger.now passes.items }
     requires count { length files.items ≡ ledger.now.book.processes }
     requires known { All (IsPlayable (length ledger.now.book.accounts)) (contents_of files.items) }
-    ensures { IfOk result (λ jobs. AreJobsFor ledger.now (contents_of files.items) jobs.items) }
+    ensures { IfOk result
+        (λ jobs. AreJobsFor ledger.now (contents_of files.items) notes jobs.items) }
 {
     let mut jobs = Vec::with_capacity(alloc, ledger.book().processes() as usize)?;
     let mut others = passes.into_iter();
@@ -35,7 +59,7 @@ fn jobs_for(
             // There is a pass for each file.
             unreachable!()
         };
-        let Ok(job) = Job::new(alloc, pass, calls) else {
+        let Ok(job) = job_for(alloc, pass, calls, notes) else {
             return Err(AllocError);
         };
         jobs.push(job)?;
@@ -43,43 +67,103 @@ fn jobs_for(
     Ok(jobs)
 }
 
-/// The passes of the jobs, and their receipts.
-fn taken_apart(alloc: Global, jobs: Vec<Job>) -> Result<(Vec<Pass>, Vec<Vec<Receipt>>), NoMemory>
-    ensures passes { IfOk result (λ r. r.0.items ≡ map (λ (job : JobTerms). job.pass) jobs.items) }
+/// Adds the costs that a job has noted.
+fn push_noted(all: &mut Vec<Vec<CallCost>>, noted: Option<Vec<CallCost>>) -> Result<(), NoMemory>
+    ensures { OnOk result (lists_in all.new.items
+        ≡ lists_in all.old.items ++ option_to_list (option_map (λ v. v.items) noted)) }
+{
+    if let Some(costs) = noted {
+        all.push(costs)?;
+    }
+    Ok(())
+}
+
+/// What is left of jobs.
+#[derive(Drop)]
+struct Left {
+    passes: Vec<Pass>,
+    receipts: Vec<Vec<Receipt>>,
+    /// The costs of each job that noted them.
+    costs: Vec<Vec<CallCost>>,
+}
+
+/// The passes of the jobs, their receipts, and the costs that they have noted.
+fn taken_apart(alloc: Global, jobs: Vec<Job>) -> Result<Left, NoMemory>
+    ensures passes { IfOk result
+        (λ r. r.passes.items ≡ map (λ (job : JobTerms). job.pass) jobs.items) }
     ensures receipts { IfOk result
-        (λ r. lists_in r.1.items ≡ map (λ (job : JobTerms). job.receipts) jobs.items) }
+        (λ r. lists_in r.receipts.items ≡ map (λ (job : JobTerms). job.receipts) jobs.items) }
+    ensures costs { IfOk result (λ r. lists_in r.costs.items ≡ costs_in jobs.items) }
 {
     let mut passes = Vec::with_capacity(alloc, jobs.len())?;
     let mut receipts = Vec::with_capacity(alloc, jobs.len())?;
+    let mut costs = Vec::new(alloc);
     for job in jobs {
-        let (pass, list, _costs) = job.split();
+        let (pass, list, noted) = job.split();
         passes.push(pass)?;
         receipts.push(list)?;
+        push_noted(&mut costs, noted)?;
     }
-    Ok((passes, receipts))
+    Ok(Left {
+        passes,
+        receipts,
+        costs,
+    })
 }
 
-/// Makes the calls of each file on the ledger, each process's by a thread of its own. What is left are the passes, and the
-/// receipts of each process.
+/// Makes the calls of each file on the ledger, each process's by a thread of its own. What is left are the passes, the receipts of
+/// each process, and where it is to be noted what its calls cost.
 fn make_calls<R: Threads + Sync, G: Gate + Sync>(
     rt: &R,
     alloc: Global,
     ledger: &Ledger,
     passes: Vec<Pass>,
     files: Vec<Vec<Call>>,
+    notes: bool,
     gate: &G,
-) -> Result<(Vec<Pass>, Vec<Vec<Receipt>>), NoMemory>
+) -> Result<Left, NoMemory>
     requires passes { AreNewPasses ledger.now passes.items }
     requires count { length files.items ≡ ledger.now.book.processes }
     requires known { All (IsPlayable (length ledger.now.book.accounts)) (contents_of files.items) }
     ensures accounted { IfOk result
-        (λ r. AreAccountedFor ledger.now r.0.items (lists_in r.1.items)) }
+        (λ r. AreAccountedFor ledger.now r.passes.items (lists_in r.receipts.items)) }
     ensures calls { IfOk result
-        (λ r. map calls_of (lists_in r.1.items) ≡ contents_of files.items) }
+        (λ r. map calls_of (lists_in r.receipts.items) ≡ contents_of files.items) }
+    ensures costs { notes ≡ true → IfOk result
+        (λ r. AreCosts ledger.now.book (lists_in r.receipts.items) (lists_in r.costs.items)) }
 {
-    let mut jobs = jobs_for(alloc, ledger, passes, files)?;
+    let mut jobs = jobs_for(alloc, ledger, passes, files, notes)?;
     run_all(rt, ledger, jobs.as_mut_slice(), gate);
     taken_apart(alloc, jobs)
+}
+
+/// Makes the calls of each file on a new ledger of the book, and closes it. Beside it are the costs of each process's calls, where
+/// they are to be noted.
+fn closed_after<R: Threads + Sync, G: Gate + Sync>(
+    rt: &R,
+    alloc: Global,
+    book: &Book,
+    files: Vec<Vec<Call>>,
+    notes: bool,
+    gate: &G,
+) -> Result<(Closed, Vec<Vec<CallCost>>), NoMemory>
+    requires count { length files.items ≡ book.now.processes }
+    requires known { All (IsPlayable (length book.now.accounts)) (contents_of files.items) }
+    ensures closed { IfOk result (λ r. IsClosedAfter book.now (contents_of files.items) r.0) }
+    ensures costs { notes ≡ true
+        → IfOk result (λ r. AreCosts book.now r.0.closing.receipts (lists_in r.1.items)) }
+{
+    let (ledger, passes) = Ledger::new(alloc, book)?;
+    let left = make_calls(rt, alloc, &ledger, passes, files, notes, gate)?;
+    let Left {
+        passes,
+        receipts,
+        costs,
+    } = left;
+    let Ok(closed) = ledger.close(alloc, passes, receipts) else {
+        return Err(AllocError);
+    };
+    Ok((closed, costs))
 }
 
 /// Makes the calls of each file on a new ledger of the book, each process's by a thread of its own. What is left are the closed ledger
@@ -95,11 +179,25 @@ pub fn play<R: Threads + Sync, G: Gate + Sync>(
     requires known { All (IsPlayable (length book.now.accounts)) (contents_of files.items) }
     ensures { IfOk result (λ r. IsPlayed book.now (contents_of files.items) r.0 r.1.items) }
 {
-    let (ledger, passes) = Ledger::new(alloc, book)?;
-    let (passes, receipts) = make_calls(rt, alloc, &ledger, passes, files, gate)?;
-    let Ok(closed) = ledger.close(alloc, passes, receipts) else {
-        return Err(AllocError);
-    };
+    let (closed, _costs) = closed_after(rt, alloc, book, files, false, gate)?;
     let lines = journal(alloc, closed.book(), closed.closing())?;
     Ok((closed, lines))
+}
+
+/// Makes the calls of each file as `play` does, and notes what each of them costs. What is left are the closed ledger, and the costs
+/// of each process's calls in their order, which take 24 bytes a call.
+pub fn play_noting<R: Threads + Sync, G: Gate + Sync>(
+    rt: &R,
+    alloc: Global,
+    book: &Book,
+    files: Vec<Vec<Call>>,
+    gate: &G,
+) -> Result<(Closed, Vec<Vec<CallCost>>), NoMemory>
+    requires count { length files.items ≡ book.now.processes }
+    requires known { All (IsPlayable (length book.now.accounts)) (contents_of files.items) }
+    ensures { IfOk result
+        (λ r. IsPlayedNoting book.now (contents_of files.items) r.0 (lists_in r.1.items)) }
+{
+    book.known();
+    closed_after(rt, alloc, book, files, true, gate)
 }

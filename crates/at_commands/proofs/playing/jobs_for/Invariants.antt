@@ -10,5 +10,5 @@ invariant-loop-calls l = record {
   finite : (goal.iterator-loop-calls).is_finite l.calls-iterator;
   passes : l.fn.passes.items ≡ passes_in l.jobs.items ++ l.others.rest.items;
   files : contents_of l.fn.files.items ≡ files_of l.jobs.items ++ contents_of l.calls-iterator.rest.items;
-  unmade : AreUnmade l.jobs.items;
+  unmade : AreUnmade l.fn.notes l.jobs.items;
 }

@@ -1,8 +1,10 @@
 use Rattle.std.proofs.Common.{◌≡◌, ◌∙◌, ℕ, List, ◌++◌, drop, length, subst, take}
 use Rattle.std.proofs.Math.Seq.{take-append_seam}
 use Rattle.at_files.specs.Files.{contents_of}
-use Rattle.at_commands.proofs.JobsRun.{AreAccountedFor-ran, IfOk-accounted, IfOk-receipts, files_of-ran}
+use Rattle.at_commands.proofs.JobsRun.{AreAccountedFor-ran, IfOk-accounted, IfOk-costs, IfOk-receipts, files_of-ran}
+use Rattle.at_commands.proofs.JobsNoting.{AreCosts-ran}
 use Rattle.at_commands.proofs.playing.make_calls.Goals as goal
+use Rattle.at_commands.specs.Running.{AreJobsFor}
 use Rattle.at_workers.specs.Jobs.{JobTerms}
 
 -- a list that was changed as a slice, in each of its places
@@ -16,7 +18,7 @@ returns-clause-accounted g c =
     let ran = rw c.as_mut_slice.ensures.value at c.run_all.ensures in
     let all = written c.in_ok-jobs.jobs.len c.in_ok-jobs.jobs.items c.run_all.new.jobs (c.run_all.auto.jobs ∙ c.as_mut_slice.ensures.len) in
     IfOk-accounted ledger c.run_all.new.jobs c.taken_apart.result
-    (AreAccountedFor-ran ledger (contents_of c.args.files.items) c.in_ok-jobs.jobs.items c.run_all.new.jobs c.in_ok-jobs.ensures ran)
+    (AreAccountedFor-ran ledger (contents_of c.args.files.items) c.args.notes c.in_ok-jobs.jobs.items c.run_all.new.jobs c.in_ok-jobs.ensures ran)
     (rw all at c.taken_apart.ensures.passes) (rw all at c.taken_apart.ensures.receipts)
 
 pub returns-clause-calls : goal.returns-clause-calls
@@ -26,3 +28,13 @@ returns-clause-calls g c =
     IfOk-receipts c.run_all.new.jobs (contents_of c.args.files.items) c.taken_apart.result
     (files_of-ran c.args.ledger.now c.in_ok-jobs.jobs.items c.run_all.new.jobs ran ∙ c.in_ok-jobs.ensures.calls)
     (rw all at c.taken_apart.ensures.receipts)
+
+pub returns-clause-costs : goal.returns-clause-costs
+returns-clause-costs g c notes =
+    let ledger = c.args.ledger.now in
+    let ran = rw c.as_mut_slice.ensures.value at c.run_all.ensures in
+    let all = written c.in_ok-jobs.jobs.len c.in_ok-jobs.jobs.items c.run_all.new.jobs (c.run_all.auto.jobs ∙ c.as_mut_slice.ensures.len) in
+    let noting = subst (λ x. AreJobsFor ledger (contents_of c.args.files.items) x c.in_ok-jobs.jobs.items) notes c.in_ok-jobs.ensures in
+    IfOk-costs ledger.book c.run_all.new.jobs c.taken_apart.result
+    (AreCosts-ran ledger (contents_of c.args.files.items) c.in_ok-jobs.jobs.items c.run_all.new.jobs noting ran)
+    (rw all at c.taken_apart.ensures.receipts) (rw all at c.taken_apart.ensures.costs)

@@ -1,0 +1,10 @@
+use Rattle.std.proofs.Common.{◌∙◌, refl}
+use Rattle.std.proofs.lemmas.List.{length-map}
+use Rattle.at_files.specs.Files.{contents_of}
+use Rattle.at_commands.proofs.JobsNoting.{IfOk-noting}
+use Rattle.at_commands.proofs.playing.play_noting.Goals as goal
+
+pub returns : goal.returns
+returns g c =
+    IfOk-noting c.args.book.now (contents_of c.args.files.items) c.closed_after.result c.known.ensures.checked.begun
+    (length-map c.args.files.items (λ file. file.items) ∙ c.requires.count) c.requires.known c.closed_after.ensures.closed (c.closed_after.ensures.costs refl)
