@@ -476,6 +476,42 @@ shows kinds largest.csv $(each most)
 mv ends out
 printed 'the kinds of the most calls' wanted
 
+# What each call cost. Of one process it is the same at each run.
+shows costs "$usual/book.csv" "$usual/pay0.csv"
+printed 'the costs of the example usual' "$usual/usual.costs"
+
+# Of several processes a script looks at each record: it reckons kinds and bounds by itself.
+hold() {
+    book=$1
+    shift
+    p=0
+    for pay in "$@"; do
+        shift
+        set -- "$@" "part=$p" "$pay"
+        p=$((p + 1))
+    done
+    awk -f "$root/.ci/costs.awk" "least=$least" part=book "$book" "$@" part=kinds kinds part=costs costs >wrong
+}
+costed() {
+    shows kinds "$@"
+    cp out kinds
+    shows costs "$@"
+    cp out costs
+    [ "$status" -eq 0 ] && [ ! -s err ] && hold "$@" && good=yes || good=no
+    count "$good" "the costs of $name"
+}
+least=0
+for name in owners realistic; do
+    costed "$examples/$name/book.csv" "$examples/$name"/pay*.csv
+done
+name=household
+costed "$household/book.csv" "$household/ann.csv" "$household/bob.csv"
+sed '2s/$/1/' out >costs
+hold "$household/book.csv" "$household/ann.csv" "$household/bob.csv" && good=no || good=yes
+count "$good" 'a forged bound is found'
+name='the most calls'
+costed largest.csv $(each most)
+
 # A journal for hledger: every transaction adds up to 0, no balance falls below it, and every read has the balance that it asserts.
 adds_up() {
     awk '
@@ -527,11 +563,13 @@ mv ends out
 lines '1970-01-01 openings' '    account:0  8192' >wanted
 printed 'the journal of the most calls' wanted
 
-usage='usage: kinds BOOK PAY... | ledger BOOK PAY...'
+usage='usage: kinds BOOK PAY... | costs BOOK PAY... | ledger BOOK PAY...'
 shows --help
 refused 'words of no form for the second program' 2 "$usage"
 shows kinds
 refused 'kinds alone' 2 "$usage"
+shows costs
+refused 'costs alone' 2 "$usage"
 shows run "$usual/book.csv" "$usual/pay0.csv"
 refused 'words of the first program for the second' 2 "$usage"
 shows kinds "$(printf '\377')"
@@ -551,7 +589,7 @@ refused 'a file that is too long for the second program' 8 'too long: file 1'
 status=$?
 refused 'too little memory for the second program' 7 'no memory'
 : >out
-for command in kinds ledger; do
+for command in kinds costs ledger; do
     "$showing" "$command" "$usual/book.csv" "$usual/pay0.csv" >/dev/full 2>err
     status=$?
     refused "a full device for $command" 6 'write fault'

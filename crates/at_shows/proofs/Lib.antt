@@ -1,2 +1,3 @@
 pub mod Formless
 pub mod Refusals
+pub mod PlayedCosts

@@ -13,10 +13,10 @@ use Rattle.at_shows.specs.Words.Showing.{Files}
 use Rattle.at_shows.specs.declared.words.View.{View}
 use Rattle.at_shows.specs.declared.words.View.TheVariants.{Kinds}
 
--- `kinds` and `ledger`. Under `Done` all bytes that were taken are the text of the view for what was read, which is what the files' bytes
--- spell where the shelf tells them (`done`). There is such a text also where the output tells nothing (`ran`): for `ledger` it is the
--- journal of the closed ledger that is kept, on which just the calls that were read were made. A refusal comes only so (`refusal`), and
--- where no fault is counted exactly so, but for want of memory (`exact`)
+-- `kinds`, `costs` and `ledger`. Under `Done` all bytes that were taken are the text of the view for what was read, which is what the
+-- files' bytes spell where the shelf tells them (`done`). There is such a text also where the output tells nothing (`ran`): for `costs`
+-- and `ledger` it is of the closed ledger that is kept, on which just the calls that were read were made. A refusal comes only so
+-- (`refusal`), and where no fault is counted exactly so, but for want of memory (`exact`)
 pub record AnsweredView (view : View) (form : Form) (s : Found) (o : Outcome) : Type 0 where
   pub done : o.answer ≡ Done → o.tells ≡ true → TookAll (ShowsRead view s.tells s.files form o.kept) o.before o.after
   pub prefix : o.answer ≡ WriteFault → o.tells ≡ true → TookPrefix (ShowsRead view s.tells s.files form o.kept) o.before o.after

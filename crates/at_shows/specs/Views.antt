@@ -1,20 +1,32 @@
 -- What each command shows of a book and payments.
-use Rattle.std.specs.Prelude.{◌≡◌, ℕ, Bool, true, List, length, Ok, Option, Some, None}
-use Rattle.at_commands.specs.Running.{IsPlayed}
+use Rattle.std.specs.Prelude.{◌≡◌, ℕ, ◌<◌, Bool, true, List, [], length, slice_index_or, Ok, Option, Some, None}
+use Rattle.at_commands.specs.Running.{IsPlayed, IsPlayedNoting}
+use Rattle.at_costs.specs.Bounds.{AreCostsWithin}
+use Rattle.at_costs.specs.CostsText.{costs_text}
 use Rattle.at_hledger.specs.LedgerText.{ledger_text}
 use Rattle.at_kinds.specs.Groups.{AreGroups, groups_of}
 use Rattle.at_kinds.specs.KindsText.{kinds_text}
 use Rattle.at_ledger.specs.declared.call.Line.{Line}
 use Rattle.at_loading.specs.Loading.{Files, Loaded, Spelled, loaded}
 use Rattle.at_loading.specs.Words.{Form}
+use Rattle.at_log.specs.ClosingTerms.{receipts_of}
 use Rattle.at_object.specs.Closings.{ClosedTerms}
 use Rattle.at_shows.specs.declared.words.View.{View}
-use Rattle.at_shows.specs.declared.words.View.TheVariants.{Kinds, Ledger}
+use Rattle.at_shows.specs.declared.words.View.TheVariants.{Costs, Kinds, Ledger}
+use Rattle.at_workers.specs.Costs.{CostTerms}
 
 -- `kinds`: the text is that of the kinds of the calls. Its groups are just the sets of owners that have payments to agree on
 pub record ShowsKinds (l : Loaded) (text : List ℕ) : Type 0 where
   pub groups : AreGroups l.book l.files (groups_of l.book l.files)
   pub printed : text ≡ kinds_text l.book l.names l.files
+
+-- `costs`: the text has a record for each call that was made on a closed ledger, the files' calls and no others, whose journal is one legal
+-- run of them. The costs are what these calls made and counted, and none is above the bounds that are printed beside it
+pub record ShowsCosts (l : Loaded) (closed : ClosedTerms) (text : List ℕ) : Type 0 where
+  pub costs : List (List CostTerms)
+  pub played : IsPlayedNoting l.book l.files closed costs
+  pub within : (p : ℕ) → p < l.book.processes → AreCostsWithin l.book (receipts_of closed.closing p) (slice_index_or costs p [])
+  pub printed : text ≡ costs_text l.book l.names closed.closing.receipts costs
 
 -- `ledger`: the text is that of the journal of a closed ledger on which the files' calls were made, which is one legal run of them
 pub record ShowsLedger (l : Loaded) (closed : ClosedTerms) (text : List ℕ) : Type 0 where
@@ -25,6 +37,7 @@ pub record ShowsLedger (l : Loaded) (closed : ClosedTerms) (text : List ℕ) : T
 -- what a view shows of what was loaded, and the closed ledger that it keeps
 abbrev pub Shows : View → Loaded → Option ClosedTerms → List ℕ → Type 0
 Shows Kinds l kept text = (kept ≡ None) × ShowsKinds l text
+Shows Costs l kept text = (closed : ClosedTerms) × (kept ≡ Some closed) × ShowsCosts l closed text
 Shows Ledger l kept text = (closed : ClosedTerms) × (kept ≡ Some closed) × ShowsLedger l closed text
 
 -- the text is the view's of what was read of the words' files: the calls of one file for each of the words. Where the files are told,

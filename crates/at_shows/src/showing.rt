@@ -17,7 +17,7 @@ use at_workers::Gate;
 use std::alloc::Global;
 use std::thread::Threads;
 
-const USAGE: &str = "usage: kinds BOOK PAY... | ledger BOOK PAY...\n";
+const USAGE: &str = "usage: kinds BOOK PAY... | costs BOOK PAY... | ledger BOOK PAY...\n";
 
 /// Whether the words have no form.
 fn is_formless(status: &Status) -> bool
@@ -72,10 +72,10 @@ fn tell_unless_done<E: Sink>(err: &mut E, status: &Status)
 
 /// Does all that the second program does: reads the files that the words name, one after another, and writes what the
 /// words ask to be shown to `out`, or the line of the first refusal to `err`. The whole text is made before the first
-/// write. `words` are those after the program's name. `ledger` makes the calls of all processes at once on one ledger, by
-/// a thread for each process where threads can be had; the gate is told of each call, and under `Done` and a write fault
-/// that ledger is left, closed, in `kept`. The work grows with the bytes of the files and the calls, and for `kinds` by a
-/// logarithm of the accounts more.
+/// write. `words` are those after the program's name. `costs` and `ledger` make the calls of all processes at once on one
+/// ledger, by a thread for each process where threads can be had; the gate is told of each call, and under `Done` and a
+/// write fault that ledger is left, closed, in `kept`. The work grows with the bytes of the files and the calls, and for
+/// `kinds` by a logarithm of the accounts more.
 pub fn show_all<R: Threads + Sync, F: Shelf, O: Sink, E: Sink, G: Gate + Sync>(
     rt: &R,
     alloc: Global,

@@ -6,7 +6,8 @@ ghost use Rattle.at_files.specs.Names.{AreNamesOf};
 ghost use Rattle.at_shows.specs.Views.{Shows};
 
 use crate::words::View;
-use at_commands::{Printed, play};
+use at_commands::{Printed, play, play_noting};
+use at_costs::costs_text;
 use at_files::Names;
 use at_hledger::ledger;
 use at_kinds::kinds;
@@ -31,6 +32,30 @@ fn kinds_shown(
 {
     let text = kinds(alloc, book, names, files)?;
     Ok(Printed { text, closed: None })
+}
+
+/// What each call of a run of the files cost, all of them at once.
+fn costs_shown<R: Threads + Sync, G: Gate + Sync>(
+    rt: &R,
+    alloc: Global,
+    book: &Book,
+    names: &Names,
+    files: Vec<Vec<Call>>,
+    gate: &G,
+) -> Result<Printed, AllocError>
+    requires names { AreNamesOf book.now names.now }
+    requires count { length files.items ≡ book.now.processes }
+    requires known { All (IsPlayable (length book.now.accounts)) (contents_of files.items) }
+    ensures { IfOk result (λ p. Shows View.Costs
+        (record { book = book.now; names = names.now; files = contents_of files.items })
+        p.closed p.text.items) }
+{
+    let (kept, costs) = play_noting(rt, alloc, book, files, gate)?;
+    let text = costs_text(alloc, book, names, kept.closing(), costs.as_slice())?;
+    Ok(Printed {
+        text,
+        closed: Some(kept),
+    })
 }
 
 /// The journal of a run of the files, all of them at once.
@@ -76,6 +101,7 @@ pub(crate) fn view_shown<R: Threads + Sync, G: Gate + Sync>(
 {
     match view {
         View::Kinds => kinds_shown(alloc, book, names, files.as_slice()),
+        View::Costs => costs_shown(rt, alloc, book, names, files, gate),
         View::Ledger => ledger_shown(rt, alloc, book, names, files, gate),
     }
 }

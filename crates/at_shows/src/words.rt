@@ -11,6 +11,8 @@ use at_loading::{Command, Form};
 pub enum View {
     /// Which payments need agreement, and of whom. Nothing is run.
     Kinds,
+    /// What each call of a run cost, beside the most that it may cost.
+    Costs,
     /// The journal of a run, for hledger and ledger-cli.
     Ledger,
 }
@@ -47,6 +49,7 @@ pub fn shown_by(words: &[String]) -> Option<Asked<'_>>
     };
     match command.as_str() {
         "kinds" => view_asked(View::Kinds, words),
+        "costs" => view_asked(View::Costs, words),
         "ledger" => view_asked(View::Ledger, words),
         _ => None,
     }
