@@ -1,10 +1,8 @@
--- A pass may be moved to another thread.
+-- A pass may be moved to another thread: each part of it, from the inside out, since one search over all of them meets its limit.
 use denote.Param.Send.{IsSend, sendable, view_send}
 use denote.Param.SendFields.{declared_send, variants_send}
-use denote.RattleType.{RattleType}
 use Rattle.std.proofs.Crossing.{crosses}
-use Rattle.atomic_table.proofs.Sent.{seat_keyless}
-use Rattle.atomic_table.specs.contracts.shared.Seat as table
+use Rattle.at_board.proofs.Sharing.{table_seat_send}
 use Rattle.at_base.specs.contracts.decision.Decision as decision
 use Rattle.at_board.specs.contracts.seat.BoardSeat as seat
 use Rattle.at_fold.specs.contracts.account_totals.AccountTotals as account
@@ -13,12 +11,6 @@ use Rattle.at_fold.specs.contracts.totals.Totals as totals
 use Rattle.at_object.specs.contracts.parts.CallCount as count
 use Rattle.at_object.specs.contracts.parts.Rest as rest
 use Rattle.at_object.specs.contracts.pass.Pass as pass
-
-table_seat_send : (S V : RattleType) → IsSend S → IsSend (table.the_row S V)
-table_seat_send S V s = record {
-  owned = λ d vs. ((λ vss. (tt, ((λ uss. (tt, tt)), tt))), seat_keyless S s V.coded.code d.table_id d.id d.me);
-  leaving = λ k f vs. tt;
-}
 
 seat_send : IsSend seat.the_row
 seat_send = search (sendable, crosses, table_seat_send) depth 20
