@@ -1,6 +1,6 @@
 # Looks at a text of `costs`, the file of part `costs`, without the program: kinds and bounds are computed from the book alone (part
 # `book`), and the calls are those of the payment files (parts 0, 1 and so on). The records stand by process and line, no cost is above its
-# bounds, and there are as many calls of each kind as `kinds` prints (part `kinds`). `least` calls made more than one exchange at least.
+# bounds, and there are as many calls of each kind as `kinds` prints (part `kinds`).
 
 function fail(what) {
     print FILENAME ": " FNR ": " what
@@ -65,7 +65,6 @@ part == "costs" {
     if ($7 > $10 || $8 > $11 || $8 > $7 || ($7 == 0) != refused || (n == 1 && $9 > 0)) fail("cost")
     count[kind]++
     made++
-    if ($8 > 1) helped++
 }
 
 END {
@@ -73,5 +72,4 @@ END {
     if (made + 0 != all + 0 || made - count["read"] != wanted["payments"]) fail("calls")
     if (count["refused"] + 0 != wanted["refused"] || count["alone"] + 0 != wanted["alone"]) fail("kinds")
     if (count["agreed"] + 0 != wanted["agreed"]) fail("kinds")
-    if (helped + 0 < least) fail("exchanges")
 }

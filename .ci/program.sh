@@ -490,7 +490,7 @@ hold() {
         set -- "$@" "part=$p" "$pay"
         p=$((p + 1))
     done
-    awk -f "$root/.ci/costs.awk" "least=$least" part=book "$book" "$@" part=kinds kinds part=costs costs >wrong
+    awk -f "$root/.ci/costs.awk" part=book "$book" "$@" part=kinds kinds part=costs costs >wrong
 }
 costed() {
     shows kinds "$@"
@@ -500,7 +500,6 @@ costed() {
     [ "$status" -eq 0 ] && [ ! -s err ] && hold "$@" && good=yes || good=no
     count "$good" "the costs of $name"
 }
-least=0
 for name in owners realistic; do
     costed "$examples/$name/book.csv" "$examples/$name"/pay*.csv
 done
@@ -511,6 +510,17 @@ hold "$household/book.csv" "$household/ann.csv" "$household/bob.csv" && good=no 
 count "$good" 'a forged bound is found'
 name='the most calls'
 costed largest.csv $(each most)
+
+# Eight owners pay from account 0 there, so in one of a few runs some payment decides more than its own round.
+helped() {
+    for time in 1 2 3 4 5 6 7 8; do
+        shows costs largest.csv $(each most)
+        awk -F, '$8 > 1 { some = 1 } END { exit !some }' out && return
+    done
+    return 1
+}
+helped && good=yes || good=no
+count "$good" 'a payment makes more than one exchange'
 
 # A journal for hledger: every transaction adds up to 0, no balance falls below it, and every read has the balance that it asserts.
 adds_up() {
