@@ -21,3 +21,5 @@ pub mod VoiceCalls
 pub mod FourCalls
 -- the votes of all voices
 pub mod AllVotes
+-- what crosses threads
+pub mod Sharing

@@ -4,3 +4,5 @@ pub mod CostLaws
 pub mod Played
 -- two lists that are related place by place
 pub mod Zipped
+-- what crosses threads
+pub mod Sharing

@@ -1,0 +1,6 @@
+use denote.Param.Send.{sendable}
+use Rattle.at_agree.proofs.Sharing.{vote_send}
+use Rattle.at_agree.proofs.agreement.propose_all.Goals as goal
+
+pub for_each_mut-requires-send-T : goal.for_each_mut-requires-send-T
+for_each_mut-requires-send-T g c κs = search (sendable, vote_send) depth 20
