@@ -141,38 +141,18 @@ IsKept-Knows words s v sound law few book history knows one =
       overtaken = FewOvertake-Knows words s v sound law knows part;
     }
 
--- a seat of a board with a book
-pub record IsSeatOf (b : BookTerms) (v : Knowledge) : Type 0 where
-  pub book : v.book ≡ b
-  pub checked : IsBook b
-  pub one_part : length v.parts ≡ 1
-  pub known : v.first < b.processes
-  pub kept : IsKept v
-
 -- by its own numbers
 pub IsKept-IsSeat : (v : Knowledge) (process published : ℕ) → IsSeat v process published → IsKept v
 IsKept-IsSeat v process published seat =
     subst (λ p. IsSeat v p (own_part v).published) (sym seat.process_is) (subst (IsSeat v process) (sym seat.published_is) seat)
 
-pub IsSeatOf-IsSeat : (b : BookTerms) (v : Knowledge) (process published : ℕ) → v.book ≡ b → IsSeat v process published → IsSeatOf b v
-IsSeatOf-IsSeat b v process published book seat = record {
-  book = book;
-  checked = subst IsBook book seat.book;
-  one_part = seat.one_part;
-  known = subst (λ (t : BookTerms). v.first < t.processes) book seat.known;
-  kept = IsKept-IsSeat v process published seat;
-}
-
-pub IsHistory-IsSeatOf : (b : BookTerms) (v : Knowledge) → IsSeatOf b v → IsHistory b v.seen
-IsHistory-IsSeatOf b v seat = subst (λ (t : BookTerms). IsHistory t v.seen) seat.book seat.kept.history
-
 -- the same by the book of the board
 pub IsKept-state : (b : BookTerms) (words : List ℕ) (s : BoardState) (v : Knowledge) → Sound b s → Overtaking s → length s.published ≤ places_max → IsBook b
     → v.book ≡ b → IsHistory b v.seen → Knows b words s v → length v.parts ≡ 1 → IsKept v
 IsKept-state b words s v sound law few book same history knows one =
-    let is = sym same in
-    IsKept-Knows words s v (subst (λ (t : BookTerms). Sound t s) is sound) law few (subst IsBook is book)
-    (subst (λ (t : BookTerms). IsHistory t v.seen) is history) (subst (λ (t : BookTerms). Knows t words s v) is knows) one
+    let all : Sound v.book s × IsBook v.book × IsHistory v.book v.seen × Knows v.book words s v =
+    subst (λ t. Sound t s × IsBook t × IsHistory t v.seen × Knows t words s v) (sym same) (sound, book, history, knows) in
+    IsKept-Knows words s v all.0 law few all.1 all.2 all.3 one
 
 -- what is kept of a seat after a step of it, where what it has then seen is a history
 IsKept-set : (b : BookTerms) (words : List ℕ) (knowledge : List Knowledge) (id : ℕ) (v w : Knowledge) → get_elem? knowledge id ≡ some v → IsBook b → w.book ≡ b
@@ -182,10 +162,10 @@ IsKept-set b words knowledge id v w found book same one history ruled =
     IsKept-state b words s w ruled.sound ruled.overtaking (IsHistory-Sound b s ruled.shown.records.room ruled.sound book.begun).few book same history
     (ruled.knows id w (set_here knowledge id w (within_found knowledge id v found))) one
 
-pub IsKept-step : (b : BookTerms) (words : List ℕ) (knowledge : List Knowledge) (id : ℕ) (v w : Knowledge) → get_elem? knowledge id ≡ some v → IsSeatOf b v
-    → w.book ≡ v.book → length w.parts ≡ length v.parts → IsHistory b w.seen → Ruled b words (set knowledge id w) → IsKept w
-IsKept-step b words knowledge id v w found seat book parts history ruled =
-    IsKept-set b words knowledge id v w found seat.checked (book ∙ seat.book) (parts ∙ seat.one_part) history ruled
+pub IsKept-step : (words : List ℕ) (knowledge : List Knowledge) (id : ℕ) (v w : Knowledge) → get_elem? knowledge id ≡ some v → IsKept v
+    → w.book ≡ v.book → length w.parts ≡ length v.parts → IsHistory v.book w.seen → Ruled v.book words (set knowledge id w) → IsKept w
+IsKept-step words knowledge id v w found kept book parts history ruled =
+    IsKept-set v.book words knowledge id v w found kept.book book (parts ∙ kept.one_part) history ruled
 
 -- a seat of a process that has published so many records
 pub IsSeat-IsKept : (w : Knowledge) (process published : ℕ) → w.first ≡ process → (own_part w).published ≡ published → IsKept w → IsSeat w process published

@@ -9,7 +9,7 @@ use Rattle.at_history.specs.Publications.{count_of}
 use Rattle.at_history.specs.declared.publication.Publication.{Publication}
 use Rattle.at_board.specs.Knowledge.Knows.{Knows}
 use Rattle.at_board.specs.Knowledge.Records.{IsRecordWord}
-use Rattle.at_board.specs.Knowledge.Seats.{IsSeat}
+use Rattle.at_board.specs.Knowledge.Seats.{IsKept}
 use Rattle.at_board.specs.Steps.LoadRecordWord.{MayLoadWord}
 use Rattle.at_board.specs.Words.Addresses.{IsAddress, record_width, record_word, word_at}
 use Rattle.at_board.specs.Words.Packed.{record_words}
@@ -17,13 +17,10 @@ use Rattle.at_board.specs.Words.Shown.{Shown}
 use Rattle.at_board.specs.declared.knowledge.Knowledge.{Knowledge}
 
 -- the board has the word
-pub IsAddress-MayLoadWord : (b : BookTerms) (v u : Knowledge) (process published p i j : ℕ) → v.book ≡ b → IsSeat v process published
-    → v ≡ u → MayLoadWord b u p i j → IsAddress b (record_word p i j)
-IsAddress-MayLoadWord b v u process published p i j book seat mine may_here =
-    let may : MayLoadWord b v p i j = subst (λ t. MayLoadWord b t p i j) (sym mine) may_here in
-    let history : IsHistory b v.seen = subst (λ t. IsHistory t v.seen) book seat.history in
-    let known = process-IsHistory b v.seen p i history may.seen in
-    (known, omega (arith, may.seen, history.room p known), may.word)
+pub IsAddress-MayLoadWord : (v : Knowledge) (p i j : ℕ) → IsKept v → MayLoadWord v.book v p i j → IsAddress v.book (record_word p i j)
+IsAddress-MayLoadWord v p i j kept may =
+    let known = process-IsHistory v.book v.seen p i kept.history may.seen in
+    (known, omega (arith, may.seen, kept.history.room p known), may.word)
 
 pub IsRecordWord-Shown : (b : BookTerms) (words : List ℕ) (s : BoardState) (v : Knowledge) (p i j : ℕ) → Shown b words s → Knows b words s v
     → p < b.processes → j < record_width b → i < count_of p v.seen → IsRecordWord v p i j (word_at b words (record_word p i j))

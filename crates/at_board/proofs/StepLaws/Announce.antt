@@ -26,13 +26,13 @@ use Rattle.at_board.proofs.StepLaws.StoreRecordWord.{other_process}
 use Rattle.at_board.proofs.WordLaws.Same.{SameRecordWords}
 use Rattle.at_board.proofs.KnowledgeLaws.Asking.{same_slot}
 use Rattle.at_board.proofs.StepLaws.StoreRequestWord.{next_number}
-use Rattle.at_board.proofs.KnowledgeLaws.Kept.{IsKept-step, IsSeatOf}
-use Rattle.at_board.proofs.StepLaws.Table.{store_at}
+use Rattle.at_board.proofs.KnowledgeLaws.Kept.{IsKept-step}
+use Rattle.at_board.proofs.StepLaws.Table.{allowed_at}
 use Rattle.at_board.proofs.WordLaws.Addresses.{word_at-set_other, word_at-set_same, index_of-injective}
 use Rattle.at_board.proofs.WordLaws.Packed.{ArePacked-AreTargets, request_words-injective}
 use Rattle.at_board.specs.Knowledge.Knows.{HasAsking, HasPart, IsAnnounced, Knows}
 use Rattle.at_board.specs.Knowledge.Parts.{part_asking, seen_as, with_asking, asking_on, own_part, part_at}
-use Rattle.at_board.specs.Knowledge.Seats.{HasCounts}
+use Rattle.at_board.specs.Knowledge.Seats.{HasCounts, IsKept}
 use Rattle.at_board.specs.Rule.{Ruled}
 use Rattle.at_board.specs.Steps.Announce.{MayAnnounce, Announces, with_request}
 use Rattle.at_board.specs.Steps.Plays.{announced_request}
@@ -273,49 +273,38 @@ pub MayAnnounce-slot : (b : BookTerms) (v : Knowledge) (a slot other : ℕ) (r :
 MayAnnounce-slot b v a slot other r may has = subst (λ k. MayAnnounce b v a k r) (same_slot b v.first a slot other may.asks.slot_in has) may
 
 module _ {S : Type 0} where
-  announces : (b : BookTerms) (slots id : ℕ) (me : Me S Knowledge) (a slot : ℕ) (r : Request) → IsBegun b → IsSeatOf b me.0 → MayAnnounce b me.0 a slot r
-      → let i = index_of b (announced_of a slot) in let n = next_number me.0 a + 1 in
-      Allows (λ s. Ruled b s.words s.views) slots id me i (λ _. n) (λ _. announced_request (step slots i n 0 none) me n)
-  announces b slots id me a slot r begun seat may s holds homes found fits =
-      let done = Announces-Ruled b s.words s.views id me.0 a slot r holds begun found (omega (arith, seat.one_part)) may in
-      let book = seat.book in (
+  announces : (slots id : ℕ) (me : Me S Knowledge) (a slot : ℕ) (r : Request) → IsKept me.0 → MayAnnounce me.0.book me.0 a slot r
+      → let i = index_of me.0.book (announced_of a slot) in let n = next_number me.0 a + 1 in
+      Allows (λ s. Ruled me.0.book s.words s.views) slots id me i (λ _. n) (λ _. announced_request (step slots i n 0 none) me n)
+  announces slots id me a slot r kept may s holds homes found fits =
+      let b : BookTerms = me.0.book in
+      let done = Announces-Ruled b s.words s.views id me.0 a slot r holds kept.book.begun found (omega (arith, kept.one_part)) may in (
         done.0,
         keeps,
         tt,
         done.1,
         (
           refl,
-          IsKept-step b (announced_words b s.words a slot (next_number me.0 a + 1)) s.views id me.0 done.0 found seat (ap (λ (t : Knowledge). t.book) done.2.same)
+          IsKept-step (announced_words b s.words a slot (next_number me.0 a + 1)) s.views id me.0 done.0 found kept (ap (λ (t : Knowledge). t.book) done.2.same)
               (ap (λ (t : Knowledge). length t.parts) done.2.same ∙ length-set me.0.parts 0 _) done.2.history done.1,
-          λ c other q other_may at.
-              let there : MayAnnounce b me.0 c other q = subst (λ (t : BookTerms). MayAnnounce t me.0 c other q) book other_may in
-              let at_here = subst (λ (t : BookTerms). index_of b (announced_of a slot) ≡ index_of t (announced_of c other)) book at in
-              let e = index_of-injective b (announced_of a slot) (announced_of c other) (place-MayAnnounce b me.0 a slot r may) (place-MayAnnounce b me.0 c other q there) at_here in
+          λ c other q there at.
+              let e = index_of-injective b (announced_of a slot) (announced_of c other) (place-MayAnnounce b me.0 a slot r may) (place-MayAnnounce b me.0 c other q there) at in
               let account : a ≡ c = cc in
               let slot_is : slot ≡ other = cc in
-              let request : r ≡ q = same_request b me.0 a slot c other r q begun account may there in
-              subst (λ (t : BookTerms). Announces t me.0 done.0 c other q) (sym book)
-              (subst (λ t. Announces b me.0 done.0 t other q) account
-              (subst (λ t. Announces b me.0 done.0 a t q) slot_is (subst (Announces b me.0 done.0 a slot) request done.2))),
+              let request : r ≡ q = same_request b me.0 a slot c other r q kept.book.begun account may there in
+              subst (λ t. Announces b me.0 done.0 t other q) account
+              (subst (λ t. Announces b me.0 done.0 a t q) slot_is (subst (Announces b me.0 done.0 a slot) request done.2)),
         ),
       )
 
-  pub announces_at : (key b : BookTerms) (slots id : ℕ) (me : Me S Knowledge) (a slot : ℕ) (r : Request) (i n : ℕ) → key ≡ b
-      → i ≡ index_of b (announced_of a slot) → n ≡ next_number me.0 a + 1 → IsBegun b → IsSeatOf b me.0 → MayAnnounce b me.0 a slot r
+  pub announces_at : (key : BookTerms) (slots id : ℕ) (me : Me S Knowledge) (a slot : ℕ) (r : Request) (i n : ℕ) → key ≡ me.0.book
+      → i ≡ index_of me.0.book (announced_of a slot) → n ≡ next_number me.0 a + 1 → IsKept me.0 → MayAnnounce me.0.book me.0 a slot r
       → Allows (λ s. Ruled key s.words s.views) slots id me i (λ _. n) (λ _. announced_request (step slots i n 0 none) me n)
-  announces_at key b slots id me a slot r i n is at counted begun seat may =
-      store_at key b slots id me i (index_of b (announced_of a slot)) n (λ k. announced_request (step slots k n 0 none) me n) is at
-      (subst (λ (k : ℕ). Allows (λ s. Ruled b s.words s.views) slots id me (index_of b (announced_of a slot)) (λ _. k) (λ _. announced_request (step slots (index_of b (announced_of a slot)) k 0 none) me k)) (sym counted)
-      (announces b slots id me a slot r begun seat may))
-
-  -- what the announcing step has told
-  pub Announces-played : (b : BookTerms) (slots : ℕ) (me after : Me S Knowledge) (a slot : ℕ) (r : Request) (i n : ℕ) → me.0.book ≡ b
-      → i ≡ index_of b (announced_of a slot) → MayAnnounce b me.0 a slot r → announced_request (step slots i n 0 none) me n after
-      → Announces b me.0 after.0 a slot r
-  Announces-played b slots me after a slot r i n book at may played =
-      subst (λ (t : BookTerms). Announces t me.0 after.0 a slot r) book
-      (played.2 a slot r (subst (λ (t : BookTerms). MayAnnounce t me.0 a slot r) (sym book) may)
-      (subst (λ (t : BookTerms). i ≡ index_of t (announced_of a slot)) (sym book) at))
+  announces_at key slots id me a slot r i n is at counted kept may =
+      let k = index_of me.0.book (announced_of a slot) in
+      allowed_at key slots id me i k (λ _. n) (λ j _. announced_request (step slots j n 0 none) me n) is at
+      (subst (λ m. Allows (λ s. Ruled me.0.book s.words s.views) slots id me k (λ _. m) (λ _. announced_request (step slots k m 0 none) me m)) (sym counted)
+      (announces slots id me a slot r kept may))
 
 pub HasCounts-announce : (b : BookTerms) (v w : Knowledge) (a slot : ℕ) (r : Request) (n : ℕ) (counts : List ℕ) → 0 < length v.parts
     → length (own_part v).asking ≡ length v.book.accounts → n ≡ next_number v a + 1 → Announces b v w a slot r → HasCounts v counts → HasCounts w (set counts a n)
@@ -324,12 +313,3 @@ HasCounts-announce b v w a slot r n counts part sized counted told has =
     subst (λ t. HasCounts t (set counts a n)) (sym told.same)
     (HasCounts-counted v w.seen (v.requests ++ seen_as a slot (next_number v a) r ∷ []) a n (with_request asking r (rounds a w.seen) (own_part v).loads) counts part sized
     (counted ∙ sym (length_push asking.announced r)) has)
-
--- the same at an equal book and knowledge
-pub MayAnnounce-same : (b c : BookTerms) (v u : Knowledge) (a slot : ℕ) (r : Request) → c ≡ b → u ≡ v → MayAnnounce b v a slot r → MayAnnounce c u a slot r
-MayAnnounce-same b c v u a slot r book view may =
-    subst (λ (t : BookTerms). MayAnnounce t u a slot r) (sym book) (subst (λ (t : Knowledge). MayAnnounce b t a slot r) (sym view) may)
-
-pub Announces-same : (b c : BookTerms) (v u w : Knowledge) (a slot : ℕ) (r : Request) → c ≡ b → u ≡ v → Announces c u w a slot r → Announces b v w a slot r
-Announces-same b c v u w a slot r book view told =
-    subst (λ (t : BookTerms). Announces t v w a slot r) book (subst (λ (t : Knowledge). Announces c t w a slot r) view told)

@@ -28,6 +28,7 @@ use Rattle.at_history.specs.Rounds.{is_settled, named, rounds}
 use Rattle.at_history.specs.Sound.{IsSoundDecision, Sound}
 use Rattle.at_history.specs.declared.cell.Cell.{Cell}
 use Rattle.at_history.specs.declared.request.Request.{Request}
+use Rattle.at_board.proofs.StepLaws.Table.{allowed_at}
 use Rattle.at_board.proofs.KnowledgeLaws.Agreement.{seen_decision, AgreesWithSeen-Knows, seen_request}
 use Rattle.at_board.proofs.KnowledgeLaws.Asking.{HasPart-all}
 use Rattle.at_board.proofs.KnowledgeLaws.Candidates.{IsOldestRequest-MayPropose}
@@ -35,13 +36,13 @@ use Rattle.at_board.proofs.KnowledgeLaws.Counts.{HasCounts-with_part}
 use Rattle.at_board.proofs.KnowledgeLaws.Seats.{AreSeated-set, knows_after}
 use Rattle.at_board.proofs.StepLaws.LoadLength.{parts_after}
 use Rattle.at_board.proofs.StepLaws.StoreRecordWord.{other_process}
-use Rattle.at_board.proofs.KnowledgeLaws.Kept.{IsKept-step, IsSeatOf}
+use Rattle.at_board.proofs.KnowledgeLaws.Kept.{IsKept-step}
 use Rattle.at_board.proofs.WordLaws.Addresses.{index_of-injective, word_at-set_other, word_at-set_same}
 use Rattle.at_board.proofs.WordLaws.Same.{SameRecordWords, SameRequestWords}
 use Rattle.at_board.specs.Knowledge.Agreement.{SeesInRange, RequestInRange}
 use Rattle.at_board.specs.Knowledge.Knows.{HasPart, Knows, HasAsking, IsDecided, IsAnnounced}
 use Rattle.at_board.specs.Knowledge.Parts.{with_part, asking_on, no_asking, own_part, SeesDecision, part_at}
-use Rattle.at_board.specs.Knowledge.Seats.{HasCounts}
+use Rattle.at_board.specs.Knowledge.Seats.{HasCounts, IsKept}
 use Rattle.at_board.specs.Rule.{Ruled}
 use Rattle.at_board.specs.Steps.Decide.{MayPropose, Decides, decided_round, with_decide, with_decision, word_after, with_count}
 use Rattle.at_board.specs.Words.Addresses.{IsAddress, cell_of, index_of, record_word, request_word, word_at, Address, announced_of, length_of}
@@ -53,21 +54,13 @@ use Rattle.at_board.specs.declared.knowledge.Part.{Part}
 use Rattle.at_board.specs.declared.knowledge.SeenDecision.{SeenDecision}
 use Rattle.at_board.specs.declared.knowledge.SeenRequest.{SeenRequest}
 
--- the same at an equal book and knowledge
-MayPropose-same : (b c : BookTerms) (v u : Knowledge) (a round : ℕ) (d : Decision) (r : Request) → b ≡ c → v ≡ u → MayPropose b v a round d r
-    → MayPropose c u a round d r
-MayPropose-same b c v u a round d r book view may =
-    subst (λ (t : BookTerms). MayPropose t u a round d r) book (subst (λ (t : Knowledge). MayPropose b t a round d r) view may)
-
 -- the cell of a round for which the seat may propose
-pub IsAddress-MayPropose : (b : BookTerms) (v : Knowledge) (a round : ℕ) (d : Decision) (r : Request) → v.book ≡ b → IsHistory v.book v.seen
-    → SeesInRange v → MayPropose b v a round d r → IsAddress b (cell_of a round)
-IsAddress-MayPropose b v a round d r book history sees may =
-    let told : IsHistory b v.seen = subst (λ (t : BookTerms). IsHistory t v.seen) book history in
+pub IsAddress-MayPropose : (v : Knowledge) (a round : ℕ) (d : Decision) (r : Request) → IsHistory v.book v.seen
+    → SeesInRange v → MayPropose v.book v a round d r → IsAddress v.book (cell_of a round)
+IsAddress-MayPropose v a round d r history sees may =
     let asked : SeenRequest = record { account = a; slot = d.slot; number = d.number; request = r } in
-    let range : RequestInRange b asked = subst (λ (t : BookTerms). RequestInRange t asked) book
-    (All-contains (RequestInRange v.book) v.requests asked sees.requests may.named) in
-    let room = rounds-unsettled b v.seen d.place a d.slot d.number told may.place range.words.1 range.words.2 may.oldest.unsettled in
+    let range = All-contains (RequestInRange v.book) v.requests asked sees.requests may.named in
+    let room = rounds-unsettled v.book v.seen d.place a d.slot d.number history may.place range.words.1 range.words.2 may.oldest.unsettled in
     (may.asking.loaded.slot_in.account_in, omega (arith, room, may.next))
 
 -- the words after an exchange from 0
@@ -482,14 +475,14 @@ Decides-Ruled b words knowledge id v a round d r ruled begun found part here may
     ]
 
 module _ {S : Type 0} where
-  decides : (b : BookTerms) (slots id : ℕ) (me : Me S Knowledge) (a round : ℕ) (d : Decision) (r : Request) → IsBegun b → IsSeatOf b me.0 → me.1 ≡ []
-      → IsHistory me.0.book me.0.seen → SeesInRange me.0 → MayPropose b me.0 a round d r
-      → let i = index_of b (cell_of a round) in let w = word_of d in
-      Allows (λ s. Ruled b s.words s.views) slots id me i (λ n. either (n == 0) w n) (decided_round (step slots i 0 w none) me)
-  decides b slots id me a round d r begun seat empty history sees may s holds homes found fits =
+  decides : (slots id : ℕ) (me : Me S Knowledge) (a round : ℕ) (d : Decision) (r : Request) → IsKept me.0 → MayPropose me.0.book me.0 a round d r
+      → let i = index_of me.0.book (cell_of a round) in let w = word_of d in
+      Allows (λ s. Ruled me.0.book s.words s.views) slots id me i (λ n. either (n == 0) w n) (decided_round (step slots i 0 w none) me)
+  decides slots id me a round d r kept may s holds homes found fits =
       let v : Knowledge = me.0 in
-      let here = IsAddress-MayPropose b v a round d r seat.book history sees may in
-      let done = Decides-Ruled b s.words s.views id v a round d r holds begun found (omega (arith, seat.one_part)) here may in
+      let b : BookTerms = v.book in
+      let here = IsAddress-MayPropose v a round d r kept.history kept.in_range may in
+      let done = Decides-Ruled b s.words s.views id v a round d r holds kept.book.begun found (omega (arith, kept.one_part)) here may in
       let n = get_or s.words (index_of b (cell_of a round)) 0 in (
         done.after,
         keeps,
@@ -497,42 +490,28 @@ module _ {S : Type 0} where
         done.ruled,
         (
           refl,
-          IsKept-step b (exchanged_words b s.words a round (word_of d)) s.views id me.0 done.after found seat (ap (λ (t : Knowledge). t.book) done.told.same)
+          IsKept-step (exchanged_words b s.words a round (word_of d)) s.views id me.0 done.after found kept (ap (λ (t : Knowledge). t.book) done.told.same)
               (ap (λ (t : Knowledge). length t.parts) done.told.same ∙ length-set me.0.parts 0 _) done.told.history done.ruled,
           λ k l e q other at word.
-              let other_here : MayPropose b v k l e q = MayPropose-same v.book b v v k l e q seat.book refl other in
-              let there : index_of b (cell_of a round) ≡ index_of b (cell_of k l) = subst (λ (t : BookTerms). index_of b (cell_of a round) ≡ index_of t (cell_of k l)) seat.book at in
-              let same = index_of-injective b (cell_of a round) (cell_of k l) here (IsAddress-MayPropose b v k l e q seat.book history sees other_here) there in
+              let same = index_of-injective b (cell_of a round) (cell_of k l) here (IsAddress-MayPropose v k l e q kept.history kept.in_range other) at in
               let account : a ≡ k = cc same in
               let number : round ≡ l = cc same in
-              let decision : d ≡ e = same_decision d e may.range other_here.range word in
-              subst (λ (t : BookTerms). Decides t v done.after k l e (word_after n (word_of d))) (sym seat.book)
-              (subst (λ t. Decides b v done.after t l e (word_after n (word_of d))) account
+              let decision : d ≡ e = same_decision d e may.range other.range word in
+              subst (λ t. Decides b v done.after t l e (word_after n (word_of d))) account
               (subst (λ t. Decides b v done.after a t e (word_after n (word_of d))) number
-              (subst (λ (t : Decision). Decides b v done.after a round t (word_after n (word_of d))) decision done.told))),
+              (subst (λ (t : Decision). Decides b v done.after a round t (word_after n (word_of d))) decision done.told)),
         ),
       )
 
   -- the same at a key, an index and a word that are these
-  pub decides_at : (key b : BookTerms) (slots id : ℕ) (me : Me S Knowledge) (u : Knowledge) (a round : ℕ) (d : Decision) (r : Request) (i w : ℕ) → key ≡ b
-      → me.0 ≡ u → i ≡ index_of b (cell_of a round) → w ≡ word_of d → IsBegun b → IsSeatOf b me.0 → me.1 ≡ []
-      → IsHistory me.0.book me.0.seen → SeesInRange me.0 → MayPropose b u a round d r
+  pub decides_at : (key : BookTerms) (slots id : ℕ) (me : Me S Knowledge) (a round : ℕ) (d : Decision) (r : Request) (i w : ℕ) → key ≡ me.0.book
+      → i ≡ index_of me.0.book (cell_of a round) → w ≡ word_of d → IsKept me.0 → MayPropose me.0.book me.0 a round d r
       → Allows (λ s. Ruled key s.words s.views) slots id me i (λ n. either (n == 0) w n) (decided_round (step slots i 0 w none) me)
-  decides_at key b slots id me u a round d r i w is mine at word begun seat empty history sees may =
-      subst (λ (k : BookTerms). Allows (λ s. Ruled k s.words s.views) slots id me i (λ n. either (n == 0) w n) (decided_round (step slots i 0 w none) me)) (sym is)
-      (subst (λ (j : ℕ). Allows (λ s. Ruled b s.words s.views) slots id me j (λ n. either (n == 0) w n) (decided_round (step slots j 0 w none) me)) (sym at)
-      (subst (λ (k : ℕ). Allows (λ s. Ruled b s.words s.views) slots id me (index_of b (cell_of a round)) (λ n. either (n == 0) k n) (decided_round (step slots (index_of b (cell_of a round)) 0 k none) me)) (sym word)
-      (decides b slots id me a round d r begun seat empty history sees (MayPropose-same b b u me.0 a round d r refl (sym mine) may))))
-
-  -- what the step has told
-  pub Decides-played : (b : BookTerms) (slots : ℕ) (me after : Me S Knowledge) (u : Knowledge) (a round : ℕ) (d : Decision) (r : Request) (i w n : ℕ) → me.0.book ≡ b
-      → me.0 ≡ u → i ≡ index_of b (cell_of a round) → w ≡ word_of d → MayPropose b u a round d r
-      → decided_round (step slots i 0 w none) me n after → Decides b u after.0 a round d (word_after n w)
-  Decides-played b slots me after u a round d r i w n book mine at word may played =
-      subst (λ (t : BookTerms). Decides t u after.0 a round d (word_after n w)) book
-      (subst (λ (t : Knowledge). Decides me.0.book t after.0 a round d (word_after n w)) mine
-      (played.2 a round d r (MayPropose-same b me.0.book u me.0 a round d r (sym book) (sym mine) may)
-      (subst (λ (t : BookTerms). i ≡ index_of t (cell_of a round)) (sym book) at) word))
+  decides_at key slots id me a round d r i w is at word kept may =
+      let j = index_of me.0.book (cell_of a round) in
+      allowed_at key slots id me i j (λ n. either (n == 0) w n) (λ k. decided_round (step slots k 0 w none) me) is at
+      (subst (λ k. Allows (λ s. Ruled me.0.book s.words s.views) slots id me j (λ n. either (n == 0) k n) (decided_round (step slots j 0 k none) me)) (sym word)
+      (decides slots id me a round d r kept may))
 
 -- as many requests are announced
 announced-decide : (q : Part) (a k : ℕ) (held : Option Cell) → k < length q.asking

@@ -46,22 +46,22 @@ IsForm-IsHistory b list m begun history within =
     IsForm-IsShownEntry b x.process (prefix_of x.view list) list x.entry begun (history.entries m within) (history.decisions m within)
 
 -- an entry that may come next
-IsForm-MayEnter : (b : BookTerms) (v : Knowledge) (prefix : List Publication) (e : Entry) → IsBegun b → v.book ≡ b → IsHistory b v.seen
-    → length prefix ≤ places_max → SeesInRange v → MayEnter b v prefix e → IsForm e
-IsForm-MayEnter b v prefix (Own from targets) begun book history few sees law =
-    (omega (arith, law.0.source_in, begun.few_accounts), ArePacked-AreTargets b targets begun law.0.targets_in)
-IsForm-MayEnter b v prefix (Round a r d targets) begun book history few sees (sound, inl (decided, named)) =
+IsForm-MayEnter : (v : Knowledge) (prefix : List Publication) (e : Entry) → IsBegun v.book → IsHistory v.book v.seen
+    → length prefix ≤ places_max → SeesInRange v → MayEnter v.book v prefix e → IsForm e
+IsForm-MayEnter v prefix (Own from targets) begun history few sees law =
+    (omega (arith, law.0.source_in, begun.few_accounts), ArePacked-AreTargets v.book targets begun law.0.targets_in)
+IsForm-MayEnter v prefix (Round a r d targets) begun history few sees (sound, inl (decided, named)) =
     let decision : SeenDecision = record { account = a; round = r; decision = d } in
     let request : SeenRequest = record { account = a; slot = d.slot; number = d.number; request = named.0 } in
     let asked = (All-Contains (RequestInRange v.book) v.requests request sees.requests named.1).targets in (
       omega (arith, sound.account_in, begun.few_accounts),
       omega (arith, sound.next, rounds-le-length a prefix, few),
       (All-Contains (DecisionInRange v.book) v.decisions decision sees.decisions decided).range,
-      ArePacked-AreTargets b targets begun (subst (AreTargets b) named.2 (subst (λ (t : BookTerms). AreTargets t named.0.targets) book asked)),
+      ArePacked-AreTargets v.book targets begun (subst (AreTargets v.book) named.2 asked),
     )
-IsForm-MayEnter b v prefix (Round a r d targets) begun book history few sees (sound, inr (x, seen, says)) =
+IsForm-MayEnter v prefix (Round a r d targets) begun history few sees (sound, inr (x, seen, says)) =
     let P : Publication → Type 0 = λ y. IsForm y.entry in
-    subst IsForm says (All-Contains P v.seen x (All-from_get_or P v.seen no_publication (λ m within. IsForm-IsHistory b v.seen m begun history within)) seen)
+    subst IsForm says (All-Contains P v.seen x (All-from_get_or P v.seen no_publication (λ m within. IsForm-IsHistory v.book v.seen m begun history within)) seen)
 
 -- each record of a process in a history
 pub IsForm-publications_of : (b : BookTerms) (list : List Publication) (p i : ℕ) → IsBegun b → IsHistory b list → i < count_of p list
@@ -81,6 +81,6 @@ SeesForms-IsSeat v process published seat p i sees = IsForm-publications_of v.bo
 pub FitsNext-IsSeat : (v : Knowledge) (process published : ℕ) → IsSeat v process published → FitsNext v
 FitsNext-IsSeat v process published seat view e has law =
     let few : length (prefix_of view v.seen) ≤ places_max = omega (arith, length-take (place view) v.seen, seat.history.few) in (
-      published-MayEnter v.book v (record { process = v.first; view = view; entry = e }) process published refl seat refl has law,
-      IsForm-MayEnter v.book v (prefix_of view v.seen) e seat.book.begun refl seat.history few seat.in_range law,
+      published-MayEnter v (record { process = v.first; view = view; entry = e }) process published seat refl has law,
+      IsForm-MayEnter v (prefix_of view v.seen) e seat.book.begun seat.history few seat.in_range law,
     )

@@ -27,12 +27,12 @@ use Rattle.at_board.proofs.KnowledgeLaws.Counts.{HasCounts-asking}
 use Rattle.at_board.proofs.KnowledgeLaws.Seats.{AreSeated-set, knows_after}
 use Rattle.at_board.proofs.StepLaws.LoadLength.{parts_after}
 use Rattle.at_board.proofs.StepLaws.StoreRecordWord.{other_process}
-use Rattle.at_board.proofs.KnowledgeLaws.Kept.{IsKept-step, IsSeatOf}
-use Rattle.at_board.proofs.StepLaws.Table.{load_at}
+use Rattle.at_board.proofs.KnowledgeLaws.Kept.{IsKept-step}
+use Rattle.at_board.proofs.StepLaws.Table.{allowed_at}
 use Rattle.at_board.proofs.WordLaws.Addresses.{index_of-injective}
 use Rattle.at_board.specs.Knowledge.Knows.{HasAsking, HasPart, IsAnnounced, Knows}
 use Rattle.at_board.specs.Knowledge.Parts.{part_asking, seen_as, with_asking, asking_on, own_part, part_at}
-use Rattle.at_board.specs.Knowledge.Seats.{HasCounts}
+use Rattle.at_board.specs.Knowledge.Seats.{HasCounts, IsKept}
 use Rattle.at_board.specs.Rule.{Ruled}
 use Rattle.at_board.specs.Steps.LoadAnnounced.{LoadsAnnounced, all_of, with_row}
 use Rattle.at_board.specs.Steps.Plays.{loaded_announced}
@@ -225,49 +225,37 @@ LoadsAnnounced-Ruled b words knowledge id v a slot ruled begun found part within
     )
 
 module _ {S : Type 0} where
-  loads_announced : (b : BookTerms) (slots id : ℕ) (me : Me S Knowledge) (a slot : ℕ) → IsBegun b → IsSeatOf b me.0 → IsAddress b (announced_of a slot)
-      → let i = index_of b (announced_of a slot) in
-      Allows (λ s. Ruled b s.words s.views) slots id me i (λ n. n) (loaded_announced (step slots i 0 0 none) me)
-  loads_announced b slots id me a slot begun seat within s holds homes found fits =
+  loads_announced : (slots id : ℕ) (me : Me S Knowledge) (a slot : ℕ) → IsKept me.0 → IsAddress me.0.book (announced_of a slot)
+      → let i = index_of me.0.book (announced_of a slot) in
+      Allows (λ s. Ruled me.0.book s.words s.views) slots id me i (λ n. n) (loaded_announced (step slots i 0 0 none) me)
+  loads_announced slots id me a slot kept within s holds homes found fits =
+      let b : BookTerms = me.0.book in
       let i = index_of b (announced_of a slot) in
-      let done = LoadsAnnounced-Ruled b s.words s.views id me.0 a slot holds begun found (omega (arith, seat.one_part)) within in
-      let same : set s.words i (get_or s.words i 0) ≡ s.words = set-get_or s.words i 0 in
-      let book = seat.book in (
+      let done = LoadsAnnounced-Ruled b s.words s.views id me.0 a slot holds kept.book.begun found (omega (arith, kept.one_part)) within in
+      let same : set s.words i (get_or s.words i 0) ≡ s.words = set-get_or s.words i 0 in (
         done.0,
         keeps,
         tt,
         subst (λ ws. Ruled b ws (set s.views id done.0)) (sym same) done.1,
         (
           refl,
-          IsKept-step b s.words s.views id me.0 done.0 found seat (ap (λ (t : Knowledge). t.book) done.2.same)
+          IsKept-step s.words s.views id me.0 done.0 found kept (ap (λ (t : Knowledge). t.book) done.2.same)
               (ap (λ (t : Knowledge). length t.parts) done.2.same ∙ length-set me.0.parts 0 _) done.2.history done.1,
           λ c other known at.
-              let known_here : IsAddress b (announced_of c other) = subst (λ (t : BookTerms). IsAddress t (announced_of c other)) book known in
-              let at_here : i ≡ index_of b (announced_of c other) = subst (λ (t : BookTerms). i ≡ index_of t (announced_of c other)) book at in
-              let e = index_of-injective b (announced_of a slot) (announced_of c other) within known_here at_here in
+              let e = index_of-injective b (announced_of a slot) (announced_of c other) within known at in
               let account : a ≡ c = cc in
               let slot_is : slot ≡ other = cc in
-              subst (λ (t : BookTerms). LoadsAnnounced t me.0 done.0 c other (get_or s.words i 0)) (sym book)
-              (subst (λ t. LoadsAnnounced b me.0 done.0 t other (get_or s.words i 0)) account
-              (subst (λ t. LoadsAnnounced b me.0 done.0 a t (get_or s.words i 0)) slot_is done.2)),
+              subst (λ t. LoadsAnnounced b me.0 done.0 t other (get_or s.words i 0)) account
+              (subst (λ t. LoadsAnnounced b me.0 done.0 a t (get_or s.words i 0)) slot_is done.2),
         ),
       )
 
-  pub loads_announced_at : (key b : BookTerms) (slots id : ℕ) (me : Me S Knowledge) (a slot i : ℕ) → key ≡ b → i ≡ index_of b (announced_of a slot)
-      → IsBegun b → IsSeatOf b me.0 → IsAddress b (announced_of a slot)
+  pub loads_announced_at : (key : BookTerms) (slots id : ℕ) (me : Me S Knowledge) (a slot i : ℕ) → key ≡ me.0.book
+      → i ≡ index_of me.0.book (announced_of a slot) → IsKept me.0 → IsAddress me.0.book (announced_of a slot)
       → Allows (λ s. Ruled key s.words s.views) slots id me i (λ n. n) (loaded_announced (step slots i 0 0 none) me)
-  loads_announced_at key b slots id me a slot i is at begun seat within =
-      load_at key b slots id me i (index_of b (announced_of a slot)) (λ k. loaded_announced (step slots k 0 0 none) me) is at
-      (loads_announced b slots id me a slot begun seat within)
-
-  -- what the load has told
-  pub LoadsAnnounced-played : (b : BookTerms) (slots : ℕ) (me after : Me S Knowledge) (a slot n i : ℕ) → me.0.book ≡ b
-      → i ≡ index_of b (announced_of a slot) → IsAddress b (announced_of a slot) → loaded_announced (step slots i 0 0 none) me n after
-      → LoadsAnnounced b me.0 after.0 a slot n
-  LoadsAnnounced-played b slots me after a slot n i book at within played =
-      subst (λ (t : BookTerms). LoadsAnnounced t me.0 after.0 a slot n) book
-      (played.2 a slot (subst (λ (t : BookTerms). IsAddress t (announced_of a slot)) (sym book) within)
-      (subst (λ (t : BookTerms). i ≡ index_of t (announced_of a slot)) (sym book) at))
+  loads_announced_at key slots id me a slot i is at kept within =
+      allowed_at key slots id me i (index_of me.0.book (announced_of a slot)) (λ n. n) (λ k. loaded_announced (step slots k 0 0 none) me) is at
+      (loads_announced slots id me a slot kept within)
 
 pub HasCounts-announced : (b : BookTerms) (v w : Knowledge) (a slot n : ℕ) (counts : List ℕ) → 0 < length v.parts
     → length (own_part v).asking ≡ length v.book.accounts → LoadsAnnounced b v w a slot n → HasCounts v counts → HasCounts w counts

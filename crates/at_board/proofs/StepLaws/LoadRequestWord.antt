@@ -19,13 +19,13 @@ use Rattle.at_board.proofs.KnowledgeLaws.Asking.{HasAsking-kept, HasPart-asking,
 use Rattle.at_board.proofs.KnowledgeLaws.Counts.{HasCounts-asking}
 use Rattle.at_board.proofs.KnowledgeLaws.Seats.{AreSeated-set, knows_after}
 use Rattle.at_board.proofs.StepLaws.LoadLength.{parts_after}
-use Rattle.at_board.proofs.KnowledgeLaws.Kept.{IsHistory-IsSeatOf, IsKept-step, IsSeatOf}
-use Rattle.at_board.proofs.StepLaws.Table.{load_at}
+use Rattle.at_board.proofs.KnowledgeLaws.Kept.{IsKept-step}
+use Rattle.at_board.proofs.StepLaws.Table.{allowed_at}
 use Rattle.at_board.proofs.WordLaws.Addresses.{index_of-injective}
 use Rattle.at_board.specs.Knowledge.Agreement.{DecisionInRange, RequestInRange, SeesInRange}
 use Rattle.at_board.specs.Knowledge.Knows.{HasAsking, HasPart, IsAnnounced, IsDecided, Knows}
 use Rattle.at_board.specs.Knowledge.Parts.{part_asking, seen_as, with_asking, asking_on, own_part, part_at}
-use Rattle.at_board.specs.Knowledge.Seats.{HasCounts}
+use Rattle.at_board.specs.Knowledge.Seats.{HasCounts, IsKept}
 use Rattle.at_board.specs.Rule.{Ruled}
 use Rattle.at_board.specs.Steps.LoadRequestWord.{KnowsOf, MayLoadRequest, LoadsRequestWord, with_loaded}
 use Rattle.at_board.specs.Steps.Plays.{loaded_request_word}
@@ -136,56 +136,46 @@ LoadsRequestWord-Ruled b words knowledge id v a slot number j ruled begun found 
     )
 
 module _ {S : Type 0} where
-  loads_request_word : (b : BookTerms) (slots id : ℕ) (me : Me S Knowledge) (a slot number j : ℕ) → IsBegun b → IsSeatOf b me.0
-      → IsAddress b (request_word a slot number j) → MayLoadRequest me.0 a slot number j
-      → let i = index_of b (request_word a slot number j) in
-      Allows (λ s. Ruled b s.words s.views) slots id me i (λ n. n) (loaded_request_word (step slots i 0 0 none) me)
-  loads_request_word b slots id me a slot number j begun seat within may s holds homes found fits =
+  loads_request_word : (slots id : ℕ) (me : Me S Knowledge) (a slot number j : ℕ) → IsKept me.0
+      → IsAddress me.0.book (request_word a slot number j) → MayLoadRequest me.0 a slot number j
+      → let i = index_of me.0.book (request_word a slot number j) in
+      Allows (λ s. Ruled me.0.book s.words s.views) slots id me i (λ n. n) (loaded_request_word (step slots i 0 0 none) me)
+  loads_request_word slots id me a slot number j kept within may s holds homes found fits =
+      let b : BookTerms = me.0.book in
       let x = request_word a slot number j in
       let i = index_of b x in
-      let done = LoadsRequestWord-Ruled b s.words s.views id me.0 a slot number j holds begun found (omega (arith, seat.one_part)) within may in
-      let same : set s.words i (get_or s.words i 0) ≡ s.words = set-get_or s.words i 0 in
-      let book = seat.book in (
+      let done = LoadsRequestWord-Ruled b s.words s.views id me.0 a slot number j holds kept.book.begun found (omega (arith, kept.one_part)) within may in
+      let same : set s.words i (get_or s.words i 0) ≡ s.words = set-get_or s.words i 0 in (
         done.0,
         keeps,
         tt,
         subst (λ ws. Ruled b ws (set s.views id done.0)) (sym same) done.1,
         (
           refl,
-          IsKept-step b s.words s.views id me.0 done.0 found seat (ap (λ (t : Knowledge). t.book) done.2.same)
-              (ap (λ (t : Knowledge). length t.parts) done.2.same ∙ length-set me.0.parts 0 _) (subst (λ (t : Knowledge). IsHistory b t.seen) (sym done.2.same) (IsHistory-IsSeatOf b me.0 seat)) done.1,
+          IsKept-step s.words s.views id me.0 done.0 found kept (ap (λ (t : Knowledge). t.book) done.2.same)
+              (ap (λ (t : Knowledge). length t.parts) done.2.same ∙ length-set me.0.parts 0 _)
+              (subst (λ (t : Knowledge). IsHistory b t.seen) (sym done.2.same) kept.history) done.1,
           λ c other m k known other_may at.
-              let y = request_word c other m k in
-              let known_here : IsAddress b y = subst (λ (t : BookTerms). IsAddress t y) book known in
-              let e = index_of-injective b x y within known_here (subst (λ (t : BookTerms). i ≡ index_of t y) book at) in
+              let e = index_of-injective b x (request_word c other m k) within known at in
               let account : a ≡ c = cc in
               let slot_is : slot ≡ other = cc in
               let number_is : number ≡ m = cc in
               let word : j ≡ k = cc in
               let n = get_or s.words i 0 in
-              subst (λ (t : BookTerms). LoadsRequestWord t me.0 done.0 c other m k n) (sym book)
-              (subst (λ t. LoadsRequestWord b me.0 done.0 t other m k n) account
+              subst (λ t. LoadsRequestWord b me.0 done.0 t other m k n) account
               (subst (λ t. LoadsRequestWord b me.0 done.0 a t m k n) slot_is
               (subst (λ t. LoadsRequestWord b me.0 done.0 a slot t k n) number_is
-              (subst (λ t. LoadsRequestWord b me.0 done.0 a slot number t n) word done.2)))),
+              (subst (λ t. LoadsRequestWord b me.0 done.0 a slot number t n) word done.2))),
         ),
       )
 
-  pub loads_request_word_at : (key b : BookTerms) (slots id : ℕ) (me : Me S Knowledge) (a slot number j i : ℕ) → key ≡ b
-      → i ≡ index_of b (request_word a slot number j) → IsBegun b → IsSeatOf b me.0 → IsAddress b (request_word a slot number j) → MayLoadRequest me.0 a slot number j
+  pub loads_request_word_at : (key : BookTerms) (slots id : ℕ) (me : Me S Knowledge) (a slot number j i : ℕ) → key ≡ me.0.book
+      → i ≡ index_of me.0.book (request_word a slot number j) → IsKept me.0 → IsAddress me.0.book (request_word a slot number j)
+      → MayLoadRequest me.0 a slot number j
       → Allows (λ s. Ruled key s.words s.views) slots id me i (λ n. n) (loaded_request_word (step slots i 0 0 none) me)
-  loads_request_word_at key b slots id me a slot number j i is at begun seat within may =
-      load_at key b slots id me i (index_of b (request_word a slot number j)) (λ k. loaded_request_word (step slots k 0 0 none) me) is at
-      (loads_request_word b slots id me a slot number j begun seat within may)
-
-  -- what the load has told
-  pub LoadsRequestWord-played : (b : BookTerms) (slots : ℕ) (me after : Me S Knowledge) (a slot number j n i : ℕ) → me.0.book ≡ b
-      → i ≡ index_of b (request_word a slot number j) → IsAddress b (request_word a slot number j) → MayLoadRequest me.0 a slot number j
-      → loaded_request_word (step slots i 0 0 none) me n after → LoadsRequestWord b me.0 after.0 a slot number j n
-  LoadsRequestWord-played b slots me after a slot number j n i book at within may played =
-      subst (λ (t : BookTerms). LoadsRequestWord t me.0 after.0 a slot number j n) book
-      (played.2 a slot number j (subst (λ (t : BookTerms). IsAddress t (request_word a slot number j)) (sym book) within) may
-      (subst (λ (t : BookTerms). i ≡ index_of t (request_word a slot number j)) (sym book) at))
+  loads_request_word_at key slots id me a slot number j i is at kept within may =
+      allowed_at key slots id me i (index_of me.0.book (request_word a slot number j)) (λ n. n) (λ k. loaded_request_word (step slots k 0 0 none) me) is at
+      (loads_request_word slots id me a slot number j kept within may)
 
 pub HasCounts-request : (b : BookTerms) (v w : Knowledge) (a slot number j n : ℕ) (counts : List ℕ) → 0 < length v.parts
     → length (own_part v).asking ≡ length v.book.accounts → LoadsRequestWord b v w a slot number j n → HasCounts v counts → HasCounts w counts

@@ -34,8 +34,9 @@ use Rattle.at_board.proofs.KnowledgeLaws.Seats.{AreSeated-set, knows_after}
 use Rattle.at_board.proofs.StepLaws.LoadLength.{parts_after}
 use Rattle.at_board.proofs.StepLaws.StoreRecordWord.{other_process}
 use Rattle.at_board.proofs.WordLaws.Same.{SameRecordWords, SameRequestWords}
-use Rattle.at_board.proofs.KnowledgeLaws.Kept.{IsKept-step, IsSeatOf}
-use Rattle.at_board.proofs.StepLaws.Table.{index_of-length_of}
+use Rattle.at_board.proofs.KnowledgeLaws.Kept.{IsKept-step}
+use Rattle.at_board.specs.Knowledge.Seats.{IsKept}
+use Rattle.at_board.proofs.StepLaws.Table.{allowed_at, index_of-length_of}
 use Rattle.at_board.proofs.WordLaws.Addresses.{word_at-set_other, word_at-set_same}
 use Rattle.at_board.proofs.WordLaws.Packed.{IsForm-Sound, record_words-injective}
 use Rattle.at_board.specs.Knowledge.Knows.{HasAsking, HasPart, Knows}
@@ -337,48 +338,31 @@ same_record b words knowledge id v x y ruled begun found one other =
     (one.process ∙ sym other.process) (sym one.stored ∙ other.stored)
 
 module _ {S : Type 0} where
-  publishes : (b : BookTerms) (slots id : ℕ) (me : Me S Knowledge) (x : Publication) → IsBegun b → IsSeatOf b me.0 → me.1 ≡ []
-      → (own_part me.0).published < log_room_of b me.0.first → MayPublish b me.0 x
-      → let i = index_of b (length_of me.0.first) in let n = (own_part me.0).published + 1 in
-      Allows (λ s. Ruled b s.words s.views) slots id me i (λ _. n) (λ _. published_record (step slots i n 0 none) me n)
-  publishes b slots id me x begun seat empty room may s holds homes found fits =
-      let done = Publishes-Ruled b s.words s.views id me.0 x holds begun found (omega (arith, seat.one_part)) room may in (
+  publishes : (slots id : ℕ) (me : Me S Knowledge) (x : Publication) → IsKept me.0
+      → (own_part me.0).published < log_room_of me.0.book me.0.first → MayPublish me.0.book me.0 x
+      → let i = index_of me.0.book (length_of me.0.first) in let n = (own_part me.0).published + 1 in
+      Allows (λ s. Ruled me.0.book s.words s.views) slots id me i (λ _. n) (λ _. published_record (step slots i n 0 none) me n)
+  publishes slots id me x kept room may s holds homes found fits =
+      let b : BookTerms = me.0.book in
+      let done = Publishes-Ruled b s.words s.views id me.0 x holds kept.book.begun found (omega (arith, kept.one_part)) room may in (
         done.0,
         keeps,
         tt,
         done.1,
         (
           refl,
-          IsKept-step b (published_words b s.words me.0.first ((own_part me.0).published + 1)) s.views id me.0 done.0 found seat (ap (λ (t : Knowledge). t.book) done.2.same)
+          IsKept-step (published_words b s.words me.0.first ((own_part me.0).published + 1)) s.views id me.0 done.0 found kept (ap (λ (t : Knowledge). t.book) done.2.same)
               (ap (λ (t : Knowledge). length t.parts) done.2.same ∙ length-set me.0.parts 0 _) done.2.history done.1,
-          λ y other.
-              let other_here : MayPublish b me.0 y = subst (λ (t : BookTerms). MayPublish t me.0 y) seat.book other in
-              let same = same_record b s.words s.views id me.0 x y holds begun found may other_here in
-              subst (λ (t : BookTerms). Publishes t me.0 done.0 y) (sym seat.book) (subst (Publishes b me.0 done.0) same done.2),
+          λ y other. subst (Publishes b me.0 done.0) (same_record b s.words s.views id me.0 x y holds kept.book.begun found may other) done.2,
         ),
       )
 
-  pub publishes_at : (key b : BookTerms) (slots id : ℕ) (me : Me S Knowledge) (x : Publication) (i n : ℕ) → key ≡ b → i ≡ me.0.first
-      → n ≡ (own_part me.0).published + 1 → IsBegun b → IsSeatOf b me.0 → me.1 ≡ []
-      → (own_part me.0).published < log_room_of b me.0.first → MayPublish b me.0 x
+  pub publishes_at : (key : BookTerms) (slots id : ℕ) (me : Me S Knowledge) (x : Publication) (i n : ℕ) → key ≡ me.0.book → i ≡ me.0.first
+      → n ≡ (own_part me.0).published + 1 → IsKept me.0
+      → (own_part me.0).published < log_room_of me.0.book me.0.first → MayPublish me.0.book me.0 x
       → Allows (λ s. Ruled key s.words s.views) slots id me i (λ _. n) (λ _. published_record (step slots i n 0 none) me n)
-  publishes_at key b slots id me x i n is at counted begun seat empty room may =
-      subst (λ (k : BookTerms). Allows (λ s. Ruled k s.words s.views) slots id me i (λ _. n) (λ _. published_record (step slots i n 0 none) me n)) (sym is)
-      (subst (λ (k : ℕ). Allows (λ s. Ruled b s.words s.views) slots id me k (λ _. n) (λ _. published_record (step slots k n 0 none) me n)) (index_of-length_of b me.0.first ∙ sym at)
-      (subst (λ (k : ℕ). Allows (λ s. Ruled b s.words s.views) slots id me (index_of b (length_of me.0.first)) (λ _. k) (λ _. published_record (step slots (index_of b (length_of me.0.first)) k 0 none) me k)) (sym counted)
-      (publishes b slots id me x begun seat empty room may)))
-
-  -- what the publishing step has told
-  pub Publishes-played : (b : BookTerms) (slots i : ℕ) (me after : Me S Knowledge) (x : Publication) (n : ℕ) → me.0.book ≡ b → MayPublish b me.0 x
-      → published_record (step slots i n 0 none) me n after → Publishes b me.0 after.0 x
-  Publishes-played b slots i me after x n book may played =
-      subst (λ (t : BookTerms). Publishes t me.0 after.0 x) book (played.2 x (subst (λ (t : BookTerms). MayPublish t me.0 x) (sym book) may))
-
--- the same at an equal book and knowledge
-pub MayPublish-same : (b c : BookTerms) (v u : Knowledge) (x : Publication) → c ≡ b → u ≡ v → MayPublish b v x → MayPublish c u x
-MayPublish-same b c v u x book view may =
-    subst (λ (t : BookTerms). MayPublish t u x) (sym book) (subst (λ (t : Knowledge). MayPublish b t x) (sym view) may)
-
-pub Publishes-same : (b c : BookTerms) (v u w : Knowledge) (x : Publication) → c ≡ b → u ≡ v → Publishes c u w x → Publishes b v w x
-Publishes-same b c v u w x book view told =
-    subst (λ (t : BookTerms). Publishes t v w x) book (subst (λ (t : Knowledge). Publishes c t w x) view told)
+  publishes_at key slots id me x i n is at counted kept room may =
+      let k = index_of me.0.book (length_of me.0.first) in
+      allowed_at key slots id me i k (λ _. n) (λ j _. published_record (step slots j n 0 none) me n) is (at ∙ sym (index_of-length_of me.0.book me.0.first))
+      (subst (λ m. Allows (λ s. Ruled me.0.book s.words s.views) slots id me k (λ _. m) (λ _. published_record (step slots k m 0 none) me m)) (sym counted)
+      (publishes slots id me x kept room may))

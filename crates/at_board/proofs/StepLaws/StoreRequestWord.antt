@@ -16,13 +16,13 @@ use Rattle.at_board.proofs.KnowledgeLaws.Counts.{HasCounts-asking}
 use Rattle.at_board.proofs.KnowledgeLaws.Seats.{AreSeated-set, knows_after}
 use Rattle.at_board.proofs.StepLaws.LoadLength.{parts_after}
 use Rattle.at_board.proofs.StepLaws.StoreRecordWord.{other_process}
-use Rattle.at_board.proofs.KnowledgeLaws.Kept.{IsHistory-IsSeatOf, IsKept-step, IsSeatOf}
-use Rattle.at_board.proofs.StepLaws.Table.{store_at}
+use Rattle.at_board.proofs.KnowledgeLaws.Kept.{IsKept-step}
+use Rattle.at_board.proofs.StepLaws.Table.{allowed_at}
 use Rattle.at_board.proofs.WordLaws.Addresses.{word_at-set_other, word_at-set_same, index_of-injective}
 use Rattle.at_board.proofs.WordLaws.Same.{SameRecordWords}
 use Rattle.at_board.specs.Knowledge.Knows.{HasAsking, HasPart, Knows}
 use Rattle.at_board.specs.Knowledge.Parts.{part_asking, seen_as, with_asking, asking_on, own_part, part_at}
-use Rattle.at_board.specs.Knowledge.Seats.{HasCounts}
+use Rattle.at_board.specs.Knowledge.Seats.{HasCounts, IsKept}
 use Rattle.at_board.specs.Rule.{Ruled}
 use Rattle.at_board.specs.Steps.Plays.{stored_request_word}
 use Rattle.at_board.specs.Steps.StoreRequestWord.{MayStoreRequest, with_request_word, StoresRequestWord}
@@ -166,46 +166,37 @@ pub place-MayStoreRequest : (b : BookTerms) (v : Knowledge) (a slot j : ℕ) →
 place-MayStoreRequest b v a slot j may inside = (may.slot_in.account_in, may.slot_in.within, may.room, inside)
 
 module _ {S : Type 0} where
-  stores_request_word : (b : BookTerms) (slots id : ℕ) (me : Me S Knowledge) (a slot j w : ℕ) → IsSeatOf b me.0 → MayStoreRequest b me.0 a slot → j < 6
-      → let i = index_of b (request_word a slot (next_number me.0 a) j) in
-      Allows (λ s. Ruled b s.words s.views) slots id me i (λ _. w) (λ _. stored_request_word (step slots i w 0 none) me w)
-  stores_request_word b slots id me a slot j w seat may inside s holds homes found fits =
+  stores_request_word : (slots id : ℕ) (me : Me S Knowledge) (a slot j w : ℕ) → IsKept me.0 → MayStoreRequest me.0.book me.0 a slot → j < 6
+      → let i = index_of me.0.book (request_word a slot (next_number me.0 a) j) in
+      Allows (λ s. Ruled me.0.book s.words s.views) slots id me i (λ _. w) (λ _. stored_request_word (step slots i w 0 none) me w)
+  stores_request_word slots id me a slot j w kept may inside s holds homes found fits =
       let v : Knowledge = me.0 in
+      let b : BookTerms = v.book in
       let x = request_word a slot (next_number v a) j in
       let after : Knowledge = with_asking v a (with_request_word (asking_on (own_part v) a) j w) in
-      let done = StoresRequestWord-Ruled b s.words s.views id v a slot j w holds found (omega (arith, seat.one_part)) may inside in
-      let book = seat.book in (
+      let done = StoresRequestWord-Ruled b s.words s.views id v a slot j w holds found (omega (arith, kept.one_part)) may inside in (
         after,
         keeps,
         tt,
         done,
         (
           refl,
-          IsKept-step b (set s.words (index_of b x) w) s.views id v after found seat refl (length-set v.parts 0 _) (IsHistory-IsSeatOf b v seat) done,
+          IsKept-step (set s.words (index_of b x) w) s.views id v after found kept refl (length-set v.parts 0 _) kept.history done,
           λ c other k other_may within at.
               let y = request_word c other (next_number v c) k in
-              let there : IsAddress b y = place-MayStoreRequest b v c other k (subst (λ (t : BookTerms). MayStoreRequest t v c other) book other_may) within in
-              let e = index_of-injective b x y (place-MayStoreRequest b v a slot j may inside) there (subst (λ (t : BookTerms). index_of b x ≡ index_of t y) book at) in
+              let e = index_of-injective b x y (place-MayStoreRequest b v a slot j may inside) (place-MayStoreRequest b v c other k other_may within) at in
               let account : a ≡ c = cc in
               let word : j ≡ k = cc in
               λ t. with_asking v (account t) (with_request_word (asking_on (own_part v) (account t)) (word t) w),
         ),
       )
 
-  pub stores_request_word_at : (key b : BookTerms) (slots id : ℕ) (me : Me S Knowledge) (a slot j w i : ℕ) → key ≡ b
-      → i ≡ index_of b (request_word a slot (next_number me.0 a) j) → IsSeatOf b me.0 → MayStoreRequest b me.0 a slot → j < 6
+  pub stores_request_word_at : (key : BookTerms) (slots id : ℕ) (me : Me S Knowledge) (a slot j w i : ℕ) → key ≡ me.0.book
+      → i ≡ index_of me.0.book (request_word a slot (next_number me.0 a) j) → IsKept me.0 → MayStoreRequest me.0.book me.0 a slot → j < 6
       → Allows (λ s. Ruled key s.words s.views) slots id me i (λ _. w) (λ _. stored_request_word (step slots i w 0 none) me w)
-  stores_request_word_at key b slots id me a slot j w i is at seat may inside =
-      store_at key b slots id me i (index_of b (request_word a slot (next_number me.0 a) j)) w (λ k. stored_request_word (step slots k w 0 none) me w) is at
-      (stores_request_word b slots id me a slot j w seat may inside)
-
-  -- what the store has told
-  pub StoresRequestWord-played : (b : BookTerms) (slots : ℕ) (me after : Me S Knowledge) (a slot j w i : ℕ) → me.0.book ≡ b
-      → i ≡ index_of b (request_word a slot (next_number me.0 a) j) → MayStoreRequest b me.0 a slot → j < 6
-      → stored_request_word (step slots i w 0 none) me w after → StoresRequestWord me.0 after.0 a j w
-  StoresRequestWord-played b slots me after a slot j w i book at may inside played =
-      played.2 a slot j (subst (λ (t : BookTerms). MayStoreRequest t me.0 a slot) (sym book) may) inside
-      (subst (λ (t : BookTerms). i ≡ index_of t (request_word a slot (next_number me.0 a) j)) (sym book) at)
+  stores_request_word_at key slots id me a slot j w i is at kept may inside =
+      allowed_at key slots id me i (index_of me.0.book (request_word a slot (next_number me.0 a) j)) (λ _. w) (λ k _. stored_request_word (step slots k w 0 none) me w)
+      is at (stores_request_word slots id me a slot j w kept may inside)
 
 pub HasCounts-request_stored : (v w : Knowledge) (a j n : ℕ) (counts : List ℕ) → 0 < length v.parts
     → length (own_part v).asking ≡ length v.book.accounts → StoresRequestWord v w a j n → HasCounts v counts → HasCounts w counts

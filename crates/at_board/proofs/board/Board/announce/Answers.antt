@@ -1,88 +1,85 @@
 use Rattle.std.proofs.Common.{refl, ◌≡◌, ◌+◌, ℕ, sym, ap, subst, ◌∙◌, arith}
 use Rattle.std.proofs.lemmas.Grind.{common_steps}
 use Rattle.at_ledger.specs.Book.{BookTerms}
-use Rattle.at_board.proofs.KnowledgeLaws.Kept.{IsSeat-step, IsSeatOf-IsSeat}
-use Rattle.at_board.proofs.StepLaws.Announce.{Announces-played, Announces-same, HasCounts-announce, MayAnnounce-same, MayAnnounce-slot, announces_at, place-MayAnnounce}
+use Rattle.at_board.proofs.KnowledgeLaws.Books.{to_caller, to_seat}
+use Rattle.at_board.specs.Knowledge.Seats.{IsKept}
+use Rattle.at_board.proofs.KnowledgeLaws.Kept.{IsKept-IsSeat, IsSeat-step}
+use Rattle.at_board.proofs.StepLaws.Announce.{HasCounts-announce, MayAnnounce-slot, announces_at, place-MayAnnounce}
 use Rattle.at_board.proofs.WordLaws.Addresses.{index_of-below}
 use Rattle.at_board.proofs.KnowledgeLaws.Asking.{same_slot}
 use Rattle.at_board.proofs.StepLaws.StoreRequestWord.{next_number}
 use Rattle.at_history.specs.declared.request.Request.{Request}
 use Rattle.at_board.specs.declared.knowledge.Knowledge.{Knowledge}
 use Rattle.at_board.specs.Steps.Announce.{MayAnnounce}
-use Rattle.at_board.specs.Words.Addresses.{announced_of, index_of}
+use Rattle.at_board.specs.Words.Addresses.{announced_of, index_of, word_count}
 use Rattle.at_board.specs.Steps.Announce.{Announces}
 use Rattle.at_ledger.specs.Book.{HasSlot}
 use Rattle.at_board.proofs.board.Board.announce.Given as given
 use Rattle.at_board.proofs.board.Board.announce.Goals.{After-from, After-store}
 use Rattle.at_board.proofs.board.Board.announce.Goals as goal
 
--- the seat and the board are those that callers see
+-- the seat is the one that callers see, and the board has the book that the seat knows
 mine : (c : After-from) → c.seat.inside.seat.me.0 ≡ c.args.seat.now.knows
 mine c = ap (λ s. s.knows) c.seat.view_is
 
-ours : (c : After-from) → c.self.inside.book ≡ c.args.self.now.book
-ours c = ap (λ t. t.book) c.self.view_is
+ours : (c : After-from) → c.self.inside.book ≡ c.seat.inside.seat.me.0.book
+ours c = ap (λ t. t.book) c.self.view_is ∙ sym (ap (λ (t : Knowledge). t.book) (mine c) ∙ c.requires.board.book)
 
-book : (c : After-from) → c.seat.inside.seat.me.0.book ≡ c.self.inside.book
-book c = ap (λ (t : Knowledge). t.book) (mine c) ∙ (c.requires.board.book ∙ sym (ours c))
+kept : (c : After-from) → IsKept c.seat.inside.seat.me.0
+kept c = IsKept-IsSeat c.seat.inside.seat.me.0 c.seat.inside.process c.seat.inside.published c.seat.invariant.1
 
 has : (c : After-from) → HasSlot c.args.self.now.book c.args.seat.now.knows.first c.args.account c.own_slot-own.result
 has c = subst (λ p. HasSlot c.args.self.now.book p c.args.account c.own_slot-own.result) c.process.ensures.process c.own_slot-own.ensures.slot
 
-at : (c : After-from) → c.announced_index-word.result ≡ index_of c.self.inside.book (announced_of c.args.account c.own_slot-own.result)
+at : (c : After-from) → c.announced_index-word.result ≡ index_of c.seat.inside.seat.me.0.book (announced_of c.args.account c.own_slot-own.result)
 at c =
-    subst (λ (t : BookTerms). c.announced_index-word.result ≡ index_of t (announced_of c.args.account c.own_slot-own.result)) (sym (ours c))
     c.announced_index-word.ensures.index
+    ∙ ap (λ t. index_of t (announced_of c.args.account c.own_slot-own.result)) (sym (ap (λ t. t.book) c.self.view_is) ∙ ours c)
 
 may : (c : After-from) (k : ℕ) (q : Request) → MayAnnounce c.args.self.now.book c.args.seat.now.knows c.args.account k q
-    → MayAnnounce c.self.inside.book c.seat.inside.seat.me.0 c.args.account c.own_slot-own.result q
+    → MayAnnounce c.seat.inside.seat.me.0.book c.seat.inside.seat.me.0 c.args.account c.own_slot-own.result q
 may c k q asked =
-    MayAnnounce-same c.args.self.now.book c.self.inside.book c.args.seat.now.knows c.seat.inside.seat.me.0 c.args.account c.own_slot-own.result q (ours c) (mine c)
-    (MayAnnounce-slot c.args.self.now.book c.args.seat.now.knows c.args.account k c.own_slot-own.result q asked (has c))
+    to_seat (λ b v. MayAnnounce b v c.args.account c.own_slot-own.result q) c.args.self.now.book c.args.seat.now.knows c.seat.inside.seat.me.0
+    c.requires.board.book (mine c) (MayAnnounce-slot c.args.self.now.book c.args.seat.now.knows c.args.account k c.own_slot-own.result q asked (has c))
 
 counted : (c : After-from) → c.announced-count.result ≡ next_number c.seat.inside.seat.me.0 c.args.account
 counted c = c.announced-count.ensures ∙ ap (λ u. next_number u c.args.account) (sym (mine c))
 
--- the step announces the request
-told : (c : After-store) (q : Request) → MayAnnounce c.self.inside.book c.seat.inside.seat.me.0 c.args.account c.own_slot-own.result q
-    → Announces c.self.inside.book c.seat.inside.seat.me.0 c.store.new.seat.me.0 c.args.account c.own_slot-own.result q
-told c q asks =
-    let before : After-from = (goal.at.After-store c).After-from in
-    Announces-played c.self.inside.book c.self.inside.table.shared.table_id.slots c.seat.inside.seat.me c.store.new.seat.me c.args.account
-    c.own_slot-own.result q c.announced_index-word.result c.from.result (book before) (at before) asks c.store.ensures.2
-
 pub store-requires : goal.store-requires
 store-requires c =
     let before : After-from = (goal.at.store-requires c).After-from in
-    let b : BookTerms = c.self.inside.book in
     let v : Knowledge = c.seat.inside.seat.me.0 in
     let a = c.args.account in
     let slot = c.own_slot-own.result in
     let r : Request = c.requires.request.1 in
     let asked = may before c.requires.request.0 r c.requires.request.2 in (
       ap (λ s. s.board) c.seat.view_is ∙ (c.requires.board.id ∙ sym (ap (λ t. t.id) c.self.view_is)),
-      omega (arith, c.self.invariant.1, at before, index_of-below b (announced_of a slot) (place-MayAnnounce b v a slot r asked)),
-      announces_at c.self.inside.table.shared.key.value b c.self.inside.table.shared.table_id.slots c.seat.inside.seat.id c.seat.inside.seat.me
-          a slot r c.announced_index-word.result c.from.result c.self.invariant.0 (at before) (omega (arith, c.from.ensures, counted before)) c.self.invariant.2.begun
-          (IsSeatOf-IsSeat b v c.seat.inside.process c.seat.inside.published (book before) c.seat.invariant.1) asked,
+      omega (
+        arith,
+        c.self.invariant.1,
+        ap word_count (ours before),
+        at before,
+        index_of-below v.book (announced_of a slot) (place-MayAnnounce v.book v a slot r asked),
+      ),
+      announces_at c.self.inside.table.shared.key.value c.self.inside.table.shared.table_id.slots c.seat.inside.seat.id c.seat.inside.seat.me
+          a slot r c.announced_index-word.result c.from.result (c.self.invariant.0 ∙ ours before) (at before) (omega (arith, c.from.ensures, counted before))
+          (kept before) asked,
     )
 
 pub invariant_of-seat : goal.invariant_of-seat
 invariant_of-seat c =
     let after : After-store = (goal.at.invariant_of-seat c).After-store in
     let before : After-from = (goal.at.After-store after).After-from in
-    let b : BookTerms = c.self.inside.book in
     let v : Knowledge = c.seat.inside.seat.me.0 in
     let w : Knowledge = c.store.new.seat.me.0 in
     let a = c.args.account in
     let slot = c.own_slot-own.result in
     let r : Request = c.requires.request.1 in
-    let asked = may before c.requires.request.0 r c.requires.request.2 in
-    let announced = told after r asked in (
+    let announced = c.store.ensures.2.2 a slot r (may before c.requires.request.0 r c.requires.request.2) (at before) in (
       c.store.ensures.2.0 ∙ c.seat.invariant.0,
       IsSeat-step v _ w _ c.seat.inside.process c.seat.inside.published c.seat.inside.published c.seat.invariant.1 refl refl announced.same
           c.seat.invariant.1.published_is c.store.ensures.2.1,
-      HasCounts-announce b v w a slot r (c.announced-count.result + 1) c.seat.inside.announced.items (omega (arith, c.seat.invariant.1.one_part)) c.seat.invariant.1.accounts
+      HasCounts-announce v.book v w a slot r (c.announced-count.result + 1) c.seat.inside.announced.items (omega (arith, c.seat.invariant.1.one_part)) c.seat.invariant.1.accounts
           (omega (arith, counted before)) announced c.seat.invariant.2,
     )
 
@@ -90,12 +87,15 @@ pub returns-clause-announced : goal.returns-clause-announced
 returns-clause-announced c = λ k q asks.
     let after : After-store = (goal.at.returns-clause-announced c).After-store in
     let before : After-from = (goal.at.After-store after).After-from in
+    let b : BookTerms = c.args.self.now.book in
     let v : Knowledge = c.args.seat.now.knows in
     let w : Knowledge = c.store.new.seat.me.0 in
     let a = c.args.account in
-    let here = Announces-same c.args.self.now.book c.self.inside.book v c.seat.inside.seat.me.0 w a c.own_slot-own.result q (ours before) (mine before)
-    (told after q (may before k q asks)) in
-    subst (λ n. Announces c.args.self.now.book v w a n q) (same_slot c.args.self.now.book v.first a c.own_slot-own.result k (has before) asks.asks.slot_in) here
+    let slot = c.own_slot-own.result in
+    let here : Announces b v w a slot q =
+    to_caller (λ t u. Announces t u w a slot q) b v c.seat.inside.seat.me.0 c.requires.board.book (mine before)
+    (c.store.ensures.2.2 a slot q (may before k q asks) (at before)) in
+    subst (λ n. Announces b v w a n q) (same_slot b v.first a slot k (has before) asks.asks.slot_in) here
 
 pub returns-clause-seat : goal.returns-clause-seat
 returns-clause-seat c = c.store.ensures.2.1

@@ -1,10 +1,10 @@
-use Rattle.std.proofs.Common.{refl, ◌≡◌, sym, ap, subst, ◌∙◌, arith}
+use Rattle.std.proofs.Common.{refl, ◌≡◌, ◌<◌, sym, ap, subst, ◌∙◌, arith}
 use Rattle.std.proofs.lemmas.Grind.{common_steps}
-use Rattle.at_ledger.specs.Book.{BookTerms, IsBegun}
-use Rattle.at_board.proofs.KnowledgeLaws.Kept.{IsSeat-step, IsSeatOf-IsSeat, count_of-IsHistory}
+use Rattle.at_board.proofs.KnowledgeLaws.Books.{to_caller}
+use Rattle.at_board.proofs.KnowledgeLaws.Kept.{IsKept-IsSeat, IsSeat-step, count_of-IsHistory}
 use Rattle.at_board.proofs.WordLaws.Addresses.{index_of-below}
 use Rattle.at_board.proofs.KnowledgeLaws.Counts.{HasCounts-load}
-use Rattle.at_board.proofs.StepLaws.Table.{LoadsLength-played, loads_length_at, index_of-length_of}
+use Rattle.at_board.proofs.StepLaws.Table.{index_of-length_of, loads_length_at}
 use Rattle.at_board.specs.declared.knowledge.Knowledge.{Knowledge}
 use Rattle.at_board.specs.Words.Addresses.{length_of, word_count}
 use Rattle.at_board.specs.Steps.LoadLength.{LoadsLength}
@@ -13,50 +13,51 @@ use Rattle.at_board.proofs.board.Board.load_length.Goals as goal
 
 pub load-length-requires : goal.load-length-requires
 load-length-requires c =
-    let b : BookTerms = c.args.self.now.book in
     let v : Knowledge = c.seat.inside.seat.me.0 in
-    let ours : c.self.inside.book ≡ b = ap (λ t. t.book) c.self.view_is in
-    let book : v.book ≡ b = ap (λ s. s.knows.book) c.seat.view_is ∙ c.requires.board.book in (
+    let book : v.book ≡ c.args.self.now.book = ap (λ s. s.knows.book) c.seat.view_is ∙ c.requires.board.book in
+    let ours : c.self.inside.book ≡ v.book = ap (λ t. t.book) c.self.view_is ∙ sym book in
+    let within : c.args.p < v.book.processes = subst (λ t. c.args.p < t.processes) (sym book) c.requires.process in (
       ap (λ s. s.board) c.seat.view_is ∙ (c.requires.board.id ∙ sym (ap (λ t. t.id) c.self.view_is)),
-      omega (arith, c.self.invariant.1, ap word_count ours, index_of-below b (length_of c.args.p) c.requires.process, index_of-length_of b c.args.p),
-      loads_length_at c.self.inside.table.shared.key.value b _ _ c.seat.inside.seat.me c.args.p c.args.p (c.self.invariant.0 ∙ ours)
-          (sym (index_of-length_of b c.args.p)) (subst IsBegun ours c.self.invariant.2.begun)
-          (IsSeatOf-IsSeat b v c.seat.inside.process c.seat.inside.published book c.seat.invariant.1) c.seat.invariant.0 c.requires.process,
+      omega (arith, c.self.invariant.1, ap word_count ours, index_of-below v.book (length_of c.args.p) within, index_of-length_of v.book c.args.p),
+      loads_length_at c.self.inside.table.shared.key.value _ _ c.seat.inside.seat.me c.args.p (c.self.invariant.0 ∙ ours)
+          (IsKept-IsSeat v c.seat.inside.process c.seat.inside.published c.seat.invariant.1) within,
     )
 
-book : (c : After-load-length) → c.seat.inside.seat.me.0.book ≡ c.args.self.now.book
-book c = ap (λ s. s.knows.book) c.seat.view_is ∙ c.requires.board.book
-
 -- the step loads the length
-told : (c : After-load-length) → LoadsLength c.args.self.now.book c.seat.inside.seat.me.0 c.load-length.new.seat.me.0 c.args.p c.load-length.result
-told c =
-    LoadsLength-played c.args.self.now.book c.self.inside.table.shared.table_id.slots c.seat.inside.seat.me c.load-length.new.seat.me c.args.p c.load-length.result
-    (book c) c.requires.process c.load-length.ensures.2
+told : (c : After-load-length) → c.args.p < c.seat.inside.seat.me.0.book.processes
+    → let v : Knowledge = c.seat.inside.seat.me.0 in LoadsLength v.book v c.load-length.new.seat.me.0 c.args.p c.load-length.result
+told c within = c.load-length.ensures.2.2 c.args.p within (sym (index_of-length_of c.seat.inside.seat.me.0.book c.args.p))
+
+within : (c : After-load-length) → c.args.p < c.seat.inside.seat.me.0.book.processes
+within c = subst (λ t. c.args.p < t.processes) (sym (ap (λ s. s.knows.book) c.seat.view_is ∙ c.requires.board.book)) c.requires.process
 
 pub overflow_cast-result : goal.overflow_cast-result
 overflow_cast-result c =
-    let b : BookTerms = c.args.self.now.book in
-    let begun = subst IsBegun (ap (λ t. t.book) c.self.view_is) c.self.invariant.2.begun in
-    let loaded = told (goal.at.overflow_cast-result c).After-load-length in
-    omega (arith, loaded.counted, count_of-IsHistory b c.load-length.new.seat.me.0.seen c.args.p begun c.requires.process loaded.history)
+    let after : After-load-length = (goal.at.overflow_cast-result c).After-load-length in
+    let loaded = told after (within after) in
+    omega (
+      arith,
+      loaded.counted,
+      count_of-IsHistory c.seat.inside.seat.me.0.book c.load-length.new.seat.me.0.seen c.args.p c.seat.invariant.1.book.begun (within after) loaded.history,
+    )
 
 pub invariant_of-seat : goal.invariant_of-seat
 invariant_of-seat c =
     let after : After-load-length = (goal.at.invariant_of-seat c).After-load-length in
-    let b : BookTerms = c.args.self.now.book in
     let v : Knowledge = c.seat.inside.seat.me.0 in
     let w : Knowledge = c.load-length.new.seat.me.0 in
-    let loaded = told after in (
+    let loaded = told after (within after) in (
       c.load-length.ensures.2.0 ∙ c.seat.invariant.0,
       IsSeat-step v _ w _ c.seat.inside.process c.seat.inside.published c.seat.inside.published c.seat.invariant.1 refl refl loaded.same
           c.seat.invariant.1.published_is c.load-length.ensures.2.1,
-      HasCounts-load b v w c.args.p c.load-length.result c.seat.inside.announced.items (omega (arith, c.seat.invariant.1.one_part)) loaded c.seat.invariant.2,
+      HasCounts-load v.book v w c.args.p c.load-length.result c.seat.inside.announced.items (omega (arith, c.seat.invariant.1.one_part)) loaded c.seat.invariant.2,
     )
 
 pub returns-clause-told : goal.returns-clause-told
 returns-clause-told c =
-    subst (λ (t : Knowledge). LoadsLength c.args.self.now.book t c.load-length.new.seat.me.0 c.args.p c.load-length.result) (ap (λ s. s.knows) c.seat.view_is)
-    (told (goal.at.returns-clause-told c).After-load-length)
+    let after : After-load-length = (goal.at.returns-clause-told c).After-load-length in
+    to_caller (λ b v. LoadsLength b v c.load-length.new.seat.me.0 c.args.p c.load-length.result) c.args.self.now.book c.args.seat.now.knows
+    c.seat.inside.seat.me.0 c.requires.board.book (ap (λ s. s.knows) c.seat.view_is) (told after (within after))
 
 pub returns-clause-seat : goal.returns-clause-seat
 returns-clause-seat c = c.load-length.ensures.2.1

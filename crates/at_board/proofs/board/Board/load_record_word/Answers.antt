@@ -1,44 +1,70 @@
-use Rattle.std.proofs.Common.{◌≡◌, sym, ap, ◌∙◌, arith}
+use Rattle.std.proofs.Common.{◌≡◌, sym, ap, subst, ◌∙◌, arith}
 use Rattle.std.proofs.lemmas.Grind.{common_steps}
-use Rattle.at_ledger.specs.Book.{BookTerms}
+use Rattle.at_board.proofs.KnowledgeLaws.Books.{to_seat}
+use Rattle.at_board.proofs.KnowledgeLaws.Kept.{IsKept-IsSeat}
+use Rattle.at_board.specs.Knowledge.Seats.{IsKept}
+use Rattle.at_board.specs.Knowledge.Records.{IsRecordWord}
+use Rattle.at_board.specs.Steps.LoadRecordWord.{MayLoadWord}
+use Rattle.at_board.specs.declared.knowledge.Knowledge.{Knowledge}
 use Rattle.at_board.proofs.WordLaws.Addresses.{index_of-below}
 use Rattle.at_board.proofs.KnowledgeLaws.Records.{IsAddress-MayLoadWord}
-use Rattle.at_board.proofs.StepLaws.LoadRecordWord.{IsRecordWord-played, loads_word}
-use Rattle.at_board.specs.Words.Addresses.{record_word, word_count}
-use Rattle.at_board.proofs.board.Board.load_record_word.Goals.{After-known}
+use Rattle.at_board.proofs.StepLaws.LoadRecordWord.{loads_word_at}
+use Rattle.at_board.specs.Words.Addresses.{IsAddress, index_of, record_word, word_count}
+use Rattle.at_board.proofs.board.Board.load_record_word.Goals.{After-known, After-record_index-index}
 use Rattle.at_board.proofs.board.Board.load_record_word.Goals as goal
 
+-- the seat is the one that callers see, and it knows the board's book
+mine : (c : After-known) → c.seat.inside.seat.me.0 ≡ c.args.seat.now.knows
+mine c = ap (λ s. s.knows) c.seat.view_is
+
 book : (c : After-known) → c.seat.inside.seat.me.0.book ≡ c.args.self.now.book
-book c = ap (λ s. s.knows.book) c.seat.view_is ∙ c.requires.board.book
+book c = ap (λ (t : Knowledge). t.book) (mine c) ∙ c.requires.board.book
+
+kept : (c : After-known) → IsKept c.seat.inside.seat.me.0
+kept c = IsKept-IsSeat c.seat.inside.seat.me.0 c.seat.inside.process c.seat.inside.published c.seat.invariant.1
+
+may : (c : After-known) → MayLoadWord c.seat.inside.seat.me.0.book c.seat.inside.seat.me.0 c.args.p c.args.i c.args.j
+may c =
+    to_seat (λ b v. MayLoadWord b v c.args.p c.args.i c.args.j) c.args.self.now.book c.args.seat.now.knows c.seat.inside.seat.me.0 c.requires.board.book (mine c)
+    c.requires.record
+
+-- the board has the word
+place : (c : After-known) → IsAddress c.seat.inside.seat.me.0.book (record_word c.args.p c.args.i c.args.j)
+place c = IsAddress-MayLoadWord c.seat.inside.seat.me.0 c.args.p c.args.i c.args.j (kept c) (may c)
 
 pub record_index-index-requires : goal.record_index-index-requires
 record_index-index-requires c =
-    IsAddress-MayLoadWord c.args.self.now.book c.seat.inside.seat.me.0 c.args.seat.now.knows c.seat.inside.process c.seat.inside.published c.args.p c.args.i c.args.j
-    (book c) c.seat.invariant.1 (ap (λ s. s.knows) c.seat.view_is) c.requires.record
+    subst (λ t. IsAddress t (record_word c.args.p c.args.i c.args.j)) (book c) (place c)
+
+at : (c : After-record_index-index) → c.record_index-index.result ≡ index_of c.seat.inside.seat.me.0.book (record_word c.args.p c.args.i c.args.j)
+at c =
+    let known : After-known = (goal.at.After-record_index-index c).After-known in
+    c.record_index-index.ensures.index ∙ ap (λ t. index_of t (record_word c.args.p c.args.i c.args.j)) (sym (book known))
 
 pub load-requires : goal.load-requires
 load-requires c =
-    let before : After-known = (goal.at.load-requires c).After-known in
-    let b : BookTerms = c.args.self.now.book in
-    let ours : c.self.inside.book ≡ b = ap (λ t. t.book) c.self.view_is in (
+    let indexed : After-record_index-index = (goal.at.load-requires c).After-record_index-index in
+    let known : After-known = (goal.at.After-record_index-index indexed).After-known in
+    let ours = ap (λ t. t.book) c.self.view_is ∙ sym (book known) in (
       ap (λ s. s.board) c.seat.view_is ∙ (c.requires.board.id ∙ sym (ap (λ t. t.id) c.self.view_is)),
       omega (
         arith,
         c.self.invariant.1,
         ap word_count ours,
-        c.record_index-index.ensures.index,
-        index_of-below b (record_word c.args.p c.args.i c.args.j) (record_index-index-requires before),
+        at indexed,
+        index_of-below c.seat.inside.seat.me.0.book (record_word c.args.p c.args.i c.args.j) (place known),
       ),
-      loads_word c.self.inside.table.shared.key.value b c.self.inside.table.shared.table_id.slots c.seat.inside.seat.id c.seat.inside.seat.me
-          c.record_index-index.result (c.self.invariant.0 ∙ ours) (book before),
+      loads_word_at c.self.inside.table.shared.key.value c.self.inside.table.shared.table_id.slots c.seat.inside.seat.id c.seat.inside.seat.me
+          c.record_index-index.result (c.self.invariant.0 ∙ ours),
     )
 
 pub returns-clause-word : goal.returns-clause-word
 returns-clause-word c =
-    let before : After-known = (goal.at.returns-clause-word c).After-known in
-    IsRecordWord-played c.args.self.now.book c.self.inside.table.shared.table_id.slots c.seat.inside.seat.me c.load.new.seat.me c.args.p c.args.i c.args.j
-    c.record_index-index.result c.load.result c.args.seat.now.knows c.seat.inside.process c.seat.inside.published (book before) c.seat.invariant.1 (ap (λ s. s.knows) c.seat.view_is)
-    c.requires.record c.record_index-index.ensures.index c.load.ensures.2
+    let indexed : After-record_index-index = (goal.at.returns-clause-word c).After-record_index-index in
+    let known : After-known = (goal.at.After-record_index-index indexed).After-known in
+    let here = place known in
+    subst (λ t. IsRecordWord t c.args.p c.args.i c.args.j c.load.result) (mine known)
+    (c.load.ensures.2.1 c.args.p c.args.i c.args.j here.0 here.2 (may known).seen (at indexed))
 
 pub invariant_of-seat : goal.invariant_of-seat
 invariant_of-seat c = grind (arith, common_steps)

@@ -1,81 +1,85 @@
 use Rattle.std.proofs.Common.{refl, ◌≡◌, sym, ap, subst, ◌∙◌, arith}
 use Rattle.std.proofs.lemmas.Grind.{common_steps}
-use Rattle.at_ledger.specs.Book.{BookTerms, IsBegun}
-use Rattle.at_board.proofs.KnowledgeLaws.Kept.{IsSeat-step, IsSeatOf-IsSeat}
+use Rattle.at_ledger.specs.Book.{BookTerms}
+use Rattle.at_board.proofs.KnowledgeLaws.Books.{to_caller}
+use Rattle.at_board.specs.Knowledge.Seats.{IsKept}
+use Rattle.at_board.proofs.KnowledgeLaws.Kept.{IsKept-IsSeat, IsSeat-step}
 use Rattle.at_board.proofs.WordLaws.Addresses.{index_of-below}
 use Rattle.at_board.proofs.StepLaws.LoadRequestWord.{place-MayLoadRequest}
-use Rattle.at_board.proofs.StepLaws.LoadRequestWord.{HasCounts-request, LoadsRequestWord-played, loads_request_word_at}
+use Rattle.at_board.proofs.StepLaws.LoadRequestWord.{HasCounts-request, loads_request_word_at}
 use Rattle.at_board.specs.declared.knowledge.Knowledge.{Knowledge}
-use Rattle.at_board.specs.Words.Addresses.{IsAddress, request_word, word_count}
+use Rattle.at_board.specs.Words.Addresses.{IsAddress, index_of, request_word, word_count}
 use Rattle.at_board.specs.Steps.LoadRequestWord.{MayLoadRequest}
 use Rattle.at_board.specs.Steps.LoadRequestWord.{LoadsRequestWord}
 use Rattle.at_board.proofs.board.Board.load_request_word.Given as given
-use Rattle.at_board.proofs.board.Board.load_request_word.Goals.{After-load, After-known}
+use Rattle.at_board.proofs.board.Board.load_request_word.Goals.{After-known, After-load, After-request_index-index}
 use Rattle.at_board.proofs.board.Board.load_request_word.Goals as goal
 
--- the seat is the one that callers see
+-- the seat is the one that callers see, and it knows the board's book
 mine : (c : After-known) → c.seat.inside.seat.me.0 ≡ c.args.seat.now.knows
 mine c = ap (λ s. s.knows) c.seat.view_is
 
 book : (c : After-known) → c.seat.inside.seat.me.0.book ≡ c.args.self.now.book
 book c = ap (λ (t : Knowledge). t.book) (mine c) ∙ c.requires.board.book
 
+kept : (c : After-known) → IsKept c.seat.inside.seat.me.0
+kept c = IsKept-IsSeat c.seat.inside.seat.me.0 c.seat.inside.process c.seat.inside.published c.seat.invariant.1
+
 may : (c : After-known) → MayLoadRequest c.seat.inside.seat.me.0 c.args.account c.args.slot c.args.number c.args.j
-may c = subst (λ (t : Knowledge). MayLoadRequest t c.args.account c.args.slot c.args.number c.args.j) (sym (mine c)) c.requires.request
+may c = subst (λ t. MayLoadRequest t c.args.account c.args.slot c.args.number c.args.j) (sym (mine c)) c.requires.request
+
+-- the board has the word
+place : (c : After-known) → IsAddress c.seat.inside.seat.me.0.book (request_word c.args.account c.args.slot c.args.number c.args.j)
+place c = place-MayLoadRequest c.seat.inside.seat.me.0 c.args.account c.args.slot c.args.number c.args.j (kept c).in_range (may c)
 
 pub request_index-index-requires : goal.request_index-index-requires
 request_index-index-requires c =
-    subst (λ (t : BookTerms). IsAddress t (request_word c.args.account c.args.slot c.args.number c.args.j)) c.requires.board.book
-    (place-MayLoadRequest c.args.seat.now.knows c.args.account c.args.slot c.args.number c.args.j c.known.ensures.seat.in_range c.requires.request)
+    subst (λ t. IsAddress t (request_word c.args.account c.args.slot c.args.number c.args.j)) (book c) (place c)
+
+at : (c : After-request_index-index) → c.request_index-index.result
+    ≡ index_of c.seat.inside.seat.me.0.book (request_word c.args.account c.args.slot c.args.number c.args.j)
+at c =
+    let known : After-known = (goal.at.After-request_index-index c).After-known in
+    let x = request_word c.args.account c.args.slot c.args.number c.args.j in
+    c.request_index-index.ensures.index ∙ ap (λ t. index_of t x) (sym (book known))
 
 -- the step loads the word
-told : (c : After-load) → LoadsRequestWord c.args.self.now.book c.seat.inside.seat.me.0 c.load.new.seat.me.0 c.args.account c.args.slot
-    c.args.number c.args.j c.load.result
+told : (c : After-load) → let v : Knowledge = c.seat.inside.seat.me.0 in
+    LoadsRequestWord v.book v c.load.new.seat.me.0 c.args.account c.args.slot c.args.number c.args.j c.load.result
 told c =
-    let before : After-known = (goal.at.After-load c).After-known in
-    LoadsRequestWord-played c.args.self.now.book c.self.inside.table.shared.table_id.slots c.seat.inside.seat.me c.load.new.seat.me c.args.account c.args.slot
-    c.args.number c.args.j c.load.result c.request_index-index.result (book before) c.request_index-index.ensures.index (request_index-index-requires before)
-    (may before) c.load.ensures.2
+    let indexed : After-request_index-index = (goal.at.After-load c).After-request_index-index in
+    let known : After-known = (goal.at.After-request_index-index indexed).After-known in
+    c.load.ensures.2.2 c.args.account c.args.slot c.args.number c.args.j (place known) (may known) (at indexed)
 
 pub load-requires : goal.load-requires
 load-requires c =
-    let before : After-known = (goal.at.load-requires c).After-known in
-    let b : BookTerms = c.args.self.now.book in
-    let v : Knowledge = c.seat.inside.seat.me.0 in
-    let ours : c.self.inside.book ≡ b = ap (λ t. t.book) c.self.view_is in
-    let is : IsAddress b (request_word c.args.account c.args.slot c.args.number c.args.j) = request_index-index-requires before in (
+    let indexed : After-request_index-index = (goal.at.load-requires c).After-request_index-index in
+    let known : After-known = (goal.at.After-request_index-index indexed).After-known in
+    let b : BookTerms = c.seat.inside.seat.me.0.book in
+    let x = request_word c.args.account c.args.slot c.args.number c.args.j in
+    let ours = ap (λ t. t.book) c.self.view_is ∙ sym (book known) in (
       ap (λ s. s.board) c.seat.view_is ∙ (c.requires.board.id ∙ sym (ap (λ t. t.id) c.self.view_is)),
-      omega (
-        arith,
-        c.self.invariant.1,
-        ap word_count ours,
-        c.request_index-index.ensures.index,
-        index_of-below b (request_word c.args.account c.args.slot c.args.number c.args.j) is,
-      ),
-      loads_request_word_at c.self.inside.table.shared.key.value b c.self.inside.table.shared.table_id.slots c.seat.inside.seat.id c.seat.inside.seat.me
-          c.args.account c.args.slot c.args.number c.args.j c.request_index-index.result (c.self.invariant.0 ∙ ours) c.request_index-index.ensures.index
-          (subst IsBegun ours c.self.invariant.2.begun) (IsSeatOf-IsSeat b v c.seat.inside.process c.seat.inside.published (book before) c.seat.invariant.1) is (may before),
+      omega (arith, c.self.invariant.1, ap word_count ours, at indexed, index_of-below b x (place known)),
+      loads_request_word_at c.self.inside.table.shared.key.value c.self.inside.table.shared.table_id.slots c.seat.inside.seat.id c.seat.inside.seat.me
+          c.args.account c.args.slot c.args.number c.args.j c.request_index-index.result (c.self.invariant.0 ∙ ours) (at indexed) (kept known) (place known) (may known),
     )
 
 pub invariant_of-seat : goal.invariant_of-seat
 invariant_of-seat c =
-    let before : After-known = (goal.at.After-load c).After-known in
-    let b : BookTerms = c.args.self.now.book in
     let v : Knowledge = c.seat.inside.seat.me.0 in
-    let w : Knowledge = c.load.new.seat.me.0 in (
+    let w : Knowledge = c.load.new.seat.me.0 in
+    let loaded = told (goal.at.invariant_of-seat c).After-load in (
       c.load.ensures.2.0 ∙ c.seat.invariant.0,
-      IsSeat-step v _ w _ c.seat.inside.process c.seat.inside.published c.seat.inside.published c.seat.invariant.1 refl refl (told c).same
+      IsSeat-step v _ w _ c.seat.inside.process c.seat.inside.published c.seat.inside.published c.seat.invariant.1 refl refl loaded.same
           c.seat.invariant.1.published_is c.load.ensures.2.1,
-      HasCounts-request b v w c.args.account c.args.slot c.args.number c.args.j c.load.result c.seat.inside.announced.items (omega (arith, c.seat.invariant.1.one_part))
-          c.seat.invariant.1.accounts (told c) c.seat.invariant.2,
+      HasCounts-request v.book v w c.args.account c.args.slot c.args.number c.args.j c.load.result c.seat.inside.announced.items (omega (arith, c.seat.invariant.1.one_part))
+          c.seat.invariant.1.accounts loaded c.seat.invariant.2,
     )
 
 pub returns-clause-told : goal.returns-clause-told
 returns-clause-told c =
-    let after : After-load = (goal.at.returns-clause-told c).After-load in
-    let before : After-known = (goal.at.After-load after).After-known in
-    subst (λ (t : Knowledge). LoadsRequestWord c.args.self.now.book t c.load.new.seat.me.0 c.args.account c.args.slot c.args.number c.args.j c.load.result)
-    (mine before) (told after)
+    to_caller (λ b v. LoadsRequestWord b v c.load.new.seat.me.0 c.args.account c.args.slot c.args.number c.args.j c.load.result) c.args.self.now.book
+    c.args.seat.now.knows c.seat.inside.seat.me.0 c.requires.board.book (ap (λ s. s.knows) c.seat.view_is) (told (goal.at.returns-clause-told c).After-load)
 
 pub returns-clause-seat : goal.returns-clause-seat
 returns-clause-seat c = c.load.ensures.2.1

@@ -1,60 +1,66 @@
 use Rattle.std.proofs.Common.{refl, ◌≡◌, sym, ap, subst, ◌∙◌, arith}
 use Rattle.std.proofs.lemmas.Grind.{common_steps}
-use Rattle.at_ledger.specs.Book.{BookTerms}
-use Rattle.at_board.proofs.KnowledgeLaws.Kept.{IsSeat-step, IsSeatOf-IsSeat, next_record}
+use Rattle.at_board.proofs.KnowledgeLaws.Books.{to_seat}
+use Rattle.at_board.specs.Knowledge.Seats.{IsKept}
+use Rattle.at_board.proofs.KnowledgeLaws.Kept.{IsKept-IsSeat, IsSeat-step, next_record}
 use Rattle.at_board.proofs.WordLaws.Addresses.{index_of-below}
 use Rattle.at_board.proofs.KnowledgeLaws.Counts.{HasCounts-store}
-use Rattle.at_board.proofs.StepLaws.Table.{StoresWord-played, stores_word_at}
+use Rattle.at_board.proofs.StepLaws.Table.{stores_word_at}
 use Rattle.at_board.specs.declared.knowledge.Knowledge.{Knowledge}
 use Rattle.at_board.specs.Steps.StoreRecordWord.{MayStoreWord}
 use Rattle.at_board.specs.Words.Addresses.{index_of, record_word, word_count}
 use Rattle.at_board.specs.Steps.StoreRecordWord.{StoresWord}
 use Rattle.at_board.specs.Knowledge.Parts.{own_part}
-use Rattle.at_board.proofs.board.Board.store_record_word.Goals.{After-seat, After-store}
+use Rattle.at_board.proofs.board.Board.store_record_word.Goals.{After-record_index-index, After-seat, After-store}
 use Rattle.at_board.proofs.board.Board.store_record_word.Goals as goal
 
--- the seat is the one that callers see
+-- the seat is the one that callers see, and it knows the board's book
 mine : (c : After-seat) → c.seat.inside.seat.me.0 ≡ c.args.seat.now.knows
 mine c = ap (λ s. s.knows) c.seat.view_is
 
 book : (c : After-seat) → c.seat.inside.seat.me.0.book ≡ c.args.self.now.book
 book c = ap (λ (t : Knowledge). t.book) (mine c) ∙ c.requires.board.book
 
-may : (c : After-seat) → MayStoreWord c.args.self.now.book c.seat.inside.seat.me.0 c.args.j
-may c = subst (λ (t : Knowledge). MayStoreWord c.args.self.now.book t c.args.j) (sym (mine c)) c.requires.word
+kept : (c : After-seat) → IsKept c.seat.inside.seat.me.0
+kept c = IsKept-IsSeat c.seat.inside.seat.me.0 c.seat.inside.process c.seat.inside.published c.seat.invariant.1
+
+may : (c : After-seat) → MayStoreWord c.seat.inside.seat.me.0.book c.seat.inside.seat.me.0 c.args.j
+may c = to_seat (λ b v. MayStoreWord b v c.args.j) c.args.self.now.book c.args.seat.now.knows c.seat.inside.seat.me.0 c.requires.board.book (mine c) c.requires.word
 
 -- the word's address, by what the seat knows
-at : (c : After-seat) → index_of c.args.self.now.book (record_word c.seat.inside.process c.seat.inside.published c.args.j)
-    ≡ index_of c.args.self.now.book (record_word c.seat.inside.seat.me.0.first (own_part c.seat.inside.seat.me.0).published c.args.j)
+at : (c : After-record_index-index) → let v : Knowledge = c.seat.inside.seat.me.0 in
+    c.record_index-index.result ≡ index_of v.book (record_word v.first (own_part v).published c.args.j)
 at c =
-    ap (index_of c.args.self.now.book) (next_record c.seat.inside.seat.me.0 c.seat.inside.process c.seat.inside.published c.args.j c.seat.invariant.1)
+    let v : Knowledge = c.seat.inside.seat.me.0 in
+    let known : After-seat = (goal.at.After-record_index-index c).After-seat in
+    c.record_index-index.ensures.index
+    ∙ (ap (λ t. index_of t (record_word c.seat.inside.process c.seat.inside.published c.args.j)) (sym (book known))
+    ∙ ap (index_of v.book) (next_record v c.seat.inside.process c.seat.inside.published c.args.j c.seat.invariant.1))
 
 -- the step stores the word
 told : (c : After-store) → StoresWord c.seat.inside.seat.me.0 c.store.new.seat.me.0 c.args.j c.args.w
 told c =
-    let before : After-seat = (goal.at.After-store c).After-seat in
-    StoresWord-played c.args.self.now.book c.self.inside.table.shared.table_id.slots c.seat.inside.seat.me c.store.new.seat.me c.args.j c.args.w
-    c.record_index-index.result (book before) (c.record_index-index.ensures.index ∙ at before) (may before) c.store.ensures.2
+    let indexed : After-record_index-index = (goal.at.After-store c).After-record_index-index in
+    let asked = may (goal.at.After-record_index-index indexed).After-seat in
+    c.store.ensures.2.2 c.args.j asked.word asked.room (at indexed)
 
 pub store-requires : goal.store-requires
 store-requires c =
-    let before : After-seat = (goal.at.store-requires c).After-seat in
-    let b : BookTerms = c.args.self.now.book in
+    let indexed : After-record_index-index = (goal.at.store-requires c).After-record_index-index in
+    let known : After-seat = (goal.at.After-record_index-index indexed).After-seat in
     let v : Knowledge = c.seat.inside.seat.me.0 in
-    let ours : c.self.inside.book ≡ b = ap (λ t. t.book) c.self.view_is in
-    let seat = IsSeatOf-IsSeat b v c.seat.inside.process c.seat.inside.published (book before) c.seat.invariant.1 in
-    let place = c.record_index-index.ensures.index ∙ at before in
-    let asked = may before in (
+    let asked = may known in
+    let ours = ap (λ t. t.book) c.self.view_is ∙ sym (book known) in (
       ap (λ s. s.board) c.seat.view_is ∙ (c.requires.board.id ∙ sym (ap (λ t. t.id) c.self.view_is)),
       omega (
         arith,
         c.self.invariant.1,
         ap word_count ours,
-        place,
-        index_of-below b (record_word v.first (own_part v).published c.args.j) (seat.known, asked.room, asked.word),
+        at indexed,
+        index_of-below v.book (record_word v.first (own_part v).published c.args.j) (c.seat.invariant.1.known, asked.room, asked.word),
       ),
-      stores_word_at c.self.inside.table.shared.key.value b c.self.inside.table.shared.table_id.slots c.seat.inside.seat.id c.seat.inside.seat.me c.args.j c.args.w
-          c.record_index-index.result (c.self.invariant.0 ∙ ours) place seat c.seat.invariant.0 asked,
+      stores_word_at c.self.inside.table.shared.key.value c.self.inside.table.shared.table_id.slots c.seat.inside.seat.id c.seat.inside.seat.me c.args.j c.args.w
+          c.record_index-index.result (c.self.invariant.0 ∙ ours) (at indexed) (kept known) asked,
     )
 
 pub invariant_of-seat : goal.invariant_of-seat
@@ -69,9 +75,7 @@ invariant_of-seat c =
 
 pub returns-clause-stored : goal.returns-clause-stored
 returns-clause-stored c =
-    let after : After-store = (goal.at.returns-clause-stored c).After-store in
-    let before : After-seat = (goal.at.After-store after).After-seat in
-    subst (λ (t : Knowledge). StoresWord t c.store.new.seat.me.0 c.args.j c.args.w) (mine before) (told after)
+    subst (λ t. StoresWord t c.store.new.seat.me.0 c.args.j c.args.w) (ap (λ s. s.knows) c.seat.view_is) (told (goal.at.returns-clause-stored c).After-store)
 
 pub returns-clause-seat : goal.returns-clause-seat
 returns-clause-seat c = c.store.ensures.2.1
