@@ -4,15 +4,8 @@ use denote.Param.SendFields.{declared_send, variants_send}
 use Rattle.std.proofs.Crossing.{crosses}
 use Rattle.at_agree.specs.contracts.voice.Voice as voice
 use Rattle.at_agree.specs.contracts.votes.Vote as vote
-use Rattle.at_ledger.specs.contracts.call.Call as call
-use Rattle.at_log.specs.contracts.receipt.Receipt as receipt
+use Rattle.at_log.proofs.Sharing.{receipt_send}
 use Rattle.at_object.proofs.Sharing.{pass_send}
-
-call_send : IsSend call.the_row
-call_send = search (sendable, crosses) depth 40 fits 100000
-
-receipt_send : IsSend receipt.the_row
-receipt_send = search (sendable, crosses, call_send) depth 40 fits 100000
 
 inside_send : IsSend voice.TheInside.the_row
 inside_send = search (sendable, crosses, declared_send, pass_send, receipt_send) depth 20

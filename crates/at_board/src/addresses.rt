@@ -1,11 +1,10 @@
-//! The index of each word of a board. No other module knows how the words lie; the definition is `specs/Words/Addresses.antt`.
+//! Where the groups of a board's words begin, and how many words there are. The definition is `specs/Words/Addresses.antt`.
 
 ghost use Rattle.std.specs.Prelude.{◌≡◌, ◌+◌, ◌<◌, ◌≤◌, IfOk, length, sum_by, take, ◌^◌};
-ghost use Rattle.at_board.specs.Words.Addresses.{IsAddress, index_of, record_word, words_max, announced_of, request_word, cell_of, word_count, AreLogStarts, AreSlotsBefore};
+ghost use Rattle.at_board.specs.Words.Addresses.{IsAddress, index_of, record_word, words_max, word_count, AreLogStarts, AreSlotsBefore};
 ghost use Rattle.at_ledger.specs.Account.{slots_of};
 
 use crate::NoMemory;
-use crate::board::Board;
 use crate::words::{RECORD_WORDS, REQUEST_WORDS};
 use arrayvec::ArrayVec;
 use at_ledger::Book;
@@ -85,55 +84,4 @@ fn slot_count(book: &Book) -> u32
         slots += book.slot_count(account);
     }
     slots
-}
-
-impl Board {
-    /// Where a word of a record stands.
-    pub(crate) fn record_index(&self, p: u32, i: u32, j: u32) -> usize
-        requires { IsAddress self.now.book (record_word p i j) }
-        ensures index { result ≡ index_of self.now.book (record_word p i j) }
-    {
-        record_index(&self.book, &self.log_starts, p, i, j)
-    }
-
-    /// Where the announced word of a slot stands.
-    pub(crate) fn announced_index(&self, account: u32, slot: u32) -> usize
-        requires { IsAddress self.now.book (announced_of account slot) }
-        ensures index { result ≡ index_of self.now.book (announced_of account slot) }
-    {
-        self.slots_start + self.first_slot(account) + slot as usize
-    }
-
-    /// Where a word of a request stands.
-    pub(crate) fn request_index(&self, account: u32, slot: u32, number: u32, j: u32) -> usize
-        requires { IsAddress self.now.book (request_word account slot number j) }
-        ensures index { result ≡ index_of self.now.book (request_word account slot number j) }
-    {
-        let start = self.slots_start + self.first_slot(self.book.accounts());
-        let slots = self.first_slot(account) + slot as usize;
-        let requests = slots * self.book.request_room() as usize + number as usize;
-        start + requests * REQUEST_WORDS as usize + j as usize
-    }
-
-    /// Where the cell of a round stands.
-    pub(crate) fn cell_index(&self, account: u32, round: u32) -> usize
-        requires { IsAddress self.now.book (cell_of account round) }
-        ensures index { result ≡ index_of self.now.book (cell_of account round) }
-    {
-        let slots = self.first_slot(self.book.accounts());
-        let room = self.book.request_room() as usize;
-        self.slots_start
-            + slots
-            + REQUEST_WORDS as usize * (slots * room)
-            + self.first_slot(account) * room
-            + round as usize
-    }
-
-    /// How many slots the accounts before this one have.
-    pub(crate) fn first_slot(&self, account: u32) -> usize
-        requires { account ≤ length self.now.book.accounts }
-        ensures { result ≡ sum_by slots_of (take account self.now.book.accounts) }
-    {
-        self.slots_before[account as usize] as usize
-    }
 }

@@ -38,7 +38,7 @@ impl Board {
     {
         let own = self.own_slot(account, seat.process());
         let count = self.announced(seat, account) + 1;
-        let word = self.announced_index(account, own);
+        let word = self.layout.announced_index(account, own);
         seat.made.count_step();
         // Right here: this one store makes the request one of the row, and its words stand. Before, others may have published,
         // announced and decided; all that this process asked earlier is settled, and stays so.
@@ -54,6 +54,6 @@ impl Board {
         requires { (slot : ℕ) × HasSlot self.now.book process account slot }
         ensures slot { HasSlot self.now.book process account result }
     {
-        self.book.slot_of(account, process).unwrap()
+        self.layout.book.slot_of(account, process).unwrap()
     }
 }

@@ -1,16 +1,16 @@
 //! The board that threads share.
 
-ghost use Rattle.std.specs.Prelude.{◌≡◌, ◌<◌, ◌≤◌, IfOk};
+ghost use Rattle.std.specs.Prelude.{◌≡◌, ◌≤◌, IfOk};
 ghost use Rattle.at_board.specs.Ends.Opening.{AreNew};
-ghost use Rattle.at_board.specs.Words.Addresses.{index_of, record_word, words_max, word_count, AreLogStarts, AreSlotsBefore};
+ghost use Rattle.at_board.specs.Words.Addresses.{words_max};
 
 use crate::NoMemory;
-use crate::addresses::{log_starts, records_end, slots_before, word_count};
+use crate::addresses::word_count;
 use crate::deal::deal;
 use crate::knowledge::Knowledge;
+use crate::layout::Layout;
 use crate::rule::BoardRule;
 use crate::seat::BoardSeat;
-use arrayvec::ArrayVec;
 use at_ledger::Book;
 use atomic_table::Table;
 use std::alloc::Global;
@@ -21,29 +21,22 @@ use std::snapshot::Snapshot;
 #[derive(Drop)]
 pub struct Board {
     pub(crate) table: Table<(), Knowledge, Snapshot<Book>, BoardRule, Global>,
-    pub(crate) book: Book,
-    pub(crate) log_starts: ArrayVec<u32, 16>,
-    /// Where the announced words begin.
-    pub(crate) slots_start: usize,
-    /// How many slots stand before those of each account, and at the end how many there are.
-    pub(crate) slots_before: Vec<u32>,
+    pub(crate) layout: Layout,
 }
 
 impl Model for Board {
     ghost use Rattle.std.specs.Prelude.{◌≡◌};
     ghost use Rattle.at_ledger.specs.Book.{IsBook};
-    ghost use Rattle.at_board.specs.Words.Addresses.{AreLogStarts, AreSlotsBefore, index_of, record_word, word_count};
+    ghost use Rattle.at_board.specs.Words.Addresses.{IsLayout, word_count};
     ghost use Rattle.at_board.specs.Knowledge.Seats.{BoardTerms};
 
     ghost Value = { BoardTerms };
 
-    ghost view = { λ b. record { id = b.table.shared.table_id; book = b.book } };
+    ghost view = { λ b. record { id = b.table.shared.table_id; book = b.layout.book } };
 
-    ghost invariant = { λ b. (b.table.shared.key.value ≡ b.book)
-        × (b.table.shared.table_id.words ≡ word_count b.book) × IsBook b.book
-        × AreLogStarts b.book b.log_starts.items
-        × (b.slots_start ≡ index_of b.book (record_word b.book.processes 0 0))
-        × AreSlotsBefore b.book b.slots_before.items × (b.table.shared.table_id.slots ≡ 0) };
+    ghost invariant = { λ b. (b.table.shared.key.value ≡ b.layout.book)
+        × (b.table.shared.table_id.words ≡ word_count b.layout.book) × IsBook b.layout.book
+        × IsLayout b.layout × (b.table.shared.table_id.slots ≡ 0) };
 }
 
 impl Board {
@@ -57,23 +50,15 @@ impl Board {
         book.known();
         let words = vec![in alloc; 0u64; word_count(book)]?;
         let (table, first) = Table::of_words(alloc, words.as_slice(), &Snapshot::of(book))?;
-        let copy = book.copy(alloc)?;
-        let before = slots_before(alloc, book)?;
+        let layout = Layout::of(alloc, book)?;
         let seats = deal(alloc, &table.shared, first, book)?;
-        let board = Board {
-            table,
-            book: copy,
-            log_starts: log_starts(book),
-            slots_start: records_end(book),
-            slots_before: before,
-        };
-        Ok((board, seats))
+        Ok((Board { table, layout }, seats))
     }
 
     /// The book that the board was made for.
     pub fn book(&self) -> &Book
         ensures { result.now ≡ self.now.book }
     {
-        &self.book
+        &self.layout.book
     }
 }

@@ -6,6 +6,7 @@ ghost use Rattle.at_board.specs.Ends.Closing.{AreAllFree, Gathers, IsEnd};
 use crate::board::Board;
 use crate::board_end::BoardEnd;
 use crate::knowledge::Knowledge;
+use crate::layout::Layout;
 use crate::meet::meet;
 use crate::plays::Gather;
 use crate::rule::BoardRule;
@@ -22,13 +23,13 @@ impl Board {
         ensures book { result.book ≡ self.book }
         ensures end { IsEnd result seats.items }
     {
-        let Board {
-            table,
+        let Board { table, layout } = self;
+        let Layout {
             book,
             log_starts,
             slots_start: _,
             slots_before: _,
-        } = self;
+        } = layout;
         let last = gather(&table.shared, &book, seats);
         BoardEnd {
             book,

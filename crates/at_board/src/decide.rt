@@ -26,7 +26,7 @@ impl Board {
         ensures exchanges { seat.new.exchanges ≡ raised seat.old.exchanges 1 }
     {
         seat.known();
-        let index = self.cell_index(account, round);
+        let index = self.layout.cell_index(account, round);
         seat.made.count_exchange();
         // Right here: the exchange stores only where it finds 0. Others may have decided this round before; then their word stands,
         // and is the answer. Where none has, this round is the next one, and the proposal keeps the laws at its place, since

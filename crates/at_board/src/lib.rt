@@ -24,6 +24,7 @@ mod crossing;
 mod deal;
 mod decide;
 mod knowledge;
+mod layout;
 mod load_announced;
 mod load_length;
 mod load_record_word;

@@ -24,7 +24,7 @@ impl Board {
         ensures steps { seat.new.steps ≡ raised seat.old.steps 1 }
         ensures exchanges { seat.new.exchanges ≡ seat.old.exchanges }
     {
-        let index = self.announced_index(account, slot);
+        let index = self.layout.announced_index(account, slot);
         seat.made.count_step();
         // Right here: each request that the word counts was whole before it was counted, and never changes. The owner may have
         // announced more before than this seat knew of, and may announce more at once after.

@@ -6,7 +6,6 @@ ghost use Rattle.at_board.specs.Knowledge.Seats.{IsOf};
 ghost use Rattle.at_board.specs.Steps.LoadRecordWord.{MayLoadWord};
 ghost use Rattle.at_board.specs.Knowledge.Records.{IsRecordWord};
 
-use crate::addresses::record_index;
 use crate::board::Board;
 use crate::plays::LoadWord;
 use crate::seat::BoardSeat;
@@ -20,7 +19,7 @@ impl Board {
         ensures same { seat.new ≡ stepped seat.old 1 }
     {
         seat.known();
-        let index = self.record_index(p, i, j);
+        let index = self.layout.record_index(p, i, j);
         seat.made.count_step();
         // Right here: the record was published before, and no step changes a published record, whatever others have done since.
         self.table.shared.load::<LoadWord>(&mut seat.seat, index)

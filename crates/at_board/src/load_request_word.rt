@@ -29,7 +29,7 @@ impl Board {
         ensures exchanges { seat.new.exchanges ≡ seat.old.exchanges }
     {
         seat.known();
-        let index = self.request_index(account, slot, number, j);
+        let index = self.layout.request_index(account, slot, number, j);
         seat.made.count_step();
         // Right here: the request is announced, since the seat has seen its number or a decision that names it, and no step changes
         // an announced request, whatever others have done since.

@@ -5,7 +5,6 @@ ghost use Rattle.at_board.specs.Counting.{raised};
 ghost use Rattle.at_board.specs.Steps.StoreRecordWord.{MayStoreWord, StoresWord};
 ghost use Rattle.at_board.specs.Knowledge.Seats.{IsKept, IsOf};
 
-use crate::addresses::record_index;
 use crate::board::Board;
 use crate::plays::StoreWord;
 use crate::seat::BoardSeat;
@@ -22,7 +21,7 @@ impl Board {
         ensures steps { seat.new.steps ≡ raised seat.old.steps 1 }
         ensures exchanges { seat.new.exchanges ≡ seat.old.exchanges }
     {
-        let index = self.record_index(seat.process, seat.published, j);
+        let index = self.layout.record_index(seat.process, seat.published, j);
         seat.made.count_step();
         // Right here: the record lies past the end of its process's log, so no step of another seat reads the word. Before, others
         // may have published anything; none of that touches it.

@@ -25,7 +25,7 @@ impl Board {
     {
         let slot = self.own_slot(account, seat.process());
         let next = self.announced(seat, account);
-        let index = self.request_index(account, slot, next, j);
+        let index = self.layout.request_index(account, slot, next, j);
         seat.made.count_step();
         // Right here: the request isn't announced, so no step of another seat reads the word. Before, others may have published,
         // announced and decided anything; none of that touches it.

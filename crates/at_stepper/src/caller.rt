@@ -18,6 +18,7 @@ use at_board::{Board, BoardSeat};
 use at_calling::Calling;
 use at_ledger::Call;
 use at_log::{At, Receipt};
+use at_machines::become_next;
 use at_object::{Pass, Rest};
 use std::marker::Model;
 
@@ -151,13 +152,6 @@ impl Caller {
         } = self;
         (Pass::from_parts(seat, rest), receipts)
     }
-}
-
-/// Goes on with this call.
-fn become_next(making: &mut Making, next: Making)
-    ensures { making.new ≡ next }
-{
-    *making = next;
 }
 
 /// Keeps the receipt of the call that was made last, and begins the next one.

@@ -1,10 +1,9 @@
 -- The words of the records that a seat has seen.
-use Rattle.std.proofs.Common.{◌≡◌, ℕ, ◌<◌, List, get_or, sym, ap, subst, ◌∙◌, arith}
+use Rattle.std.proofs.Common.{ℕ, ◌<◌, List, get_or, ap, ◌∙◌, arith}
 use Rattle.at_ledger.specs.Book.{BookTerms}
 use Rattle.at_history.proofs.Laws.Histories.{process-IsHistory}
 use Rattle.at_history.proofs.Laws.Prefixes.{IsPrefix-count_of, publications_of-IsPrefix}
 use Rattle.at_history.specs.BoardState.{BoardState}
-use Rattle.at_history.specs.Histories.{IsHistory}
 use Rattle.at_history.specs.Publications.{count_of}
 use Rattle.at_history.specs.declared.publication.Publication.{Publication}
 use Rattle.at_board.specs.Knowledge.Knows.{Knows}

@@ -131,6 +131,11 @@ module _ {S : Type 0} where
       AgreesWithSeen-Knows b met.0.words ruled.state (learned v w) ruled.sound
       (Knows-learned b met.0.words ruled.state v w part (ruled.knows id v met.3) (ruled.knows other w met.4))
 
+-- the same by the book that the key is
+pub AreSeen-key : {S : Type 0} (key b : BookTerms) (id other : ℕ) (v w : Knowledge) → key ≡ b
+    → AreSeen {S = S} (λ s. Ruled key s.words s.views) id v other w → AreSeen {S = S} (λ s. Ruled b s.words s.views) id v other w
+AreSeen-key {S} key b id other v w is = subst (λ t. AreSeen {S = S} (λ s. Ruled t s.words s.views) id v other w) is
+
 -- what the seat has then seen
 pub Learns-learned : {S : Type 0} (b : BookTerms) (id other : ℕ) (v w : Knowledge) (process published : ℕ) → v.book ≡ b → w.book ≡ b → IsSeat v process published → IsNote w
     → AreSeen {S = S} (λ s. Ruled b s.words s.views) id v other w → Learns b v w (learned v w)

@@ -18,7 +18,6 @@ use Rattle.at_board.specs.Knowledge.Agreement.{DecisionInRange, SeesInRange}
 use Rattle.at_board.specs.Knowledge.Parts.{own_part}
 use Rattle.at_board.specs.Knowledge.Seats.{IsSeat}
 use Rattle.at_board.specs.Steps.Publish.{KnowsRound, MayEnter}
-use Rattle.at_board.specs.declared.knowledge.SeenDecision.{SeenDecision}
 use Rattle.at_board.specs.declared.knowledge.Knowledge.{Knowledge}
 
 -- an account has room for a round that a seat knows

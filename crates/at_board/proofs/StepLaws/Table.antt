@@ -1,9 +1,9 @@
 -- What the steps of a table ask of the rule.
-use Rattle.std.proofs.Common.{◌∙◌, ◌≡◌, ℕ, sym, subst, ◌+◌, ◌<◌, [], length, get_or, set, refl, ap, arith}
+use Rattle.std.proofs.Common.{◌∙◌, ◌≡◌, ℕ, sym, subst, ◌<◌, length, get_or, set, refl, ap, arith}
 use mathlib.Core.Option.{none}
 use Rattle.std.proofs.lemmas.List.{length-set, set-get_or}
 use Rattle.atomic_table.specs.Table.{Allows, Me, keeps, step}
-use Rattle.at_ledger.specs.Book.{BookTerms, IsBegun, log_room_of}
+use Rattle.at_ledger.specs.Book.{BookTerms}
 use Rattle.at_board.proofs.KnowledgeLaws.Kept.{IsKept-step}
 use Rattle.at_board.specs.Knowledge.Seats.{IsKept}
 use Rattle.at_board.proofs.StepLaws.LoadLength.{LoadsLength-Ruled}
@@ -13,8 +13,8 @@ use Rattle.at_board.specs.Knowledge.Parts.{with_part, own_part}
 use Rattle.at_board.specs.Rule.{Ruled}
 use Rattle.at_board.specs.Steps.LoadLength.{LoadsLength}
 use Rattle.at_board.specs.Steps.Plays.{loaded_length, stored_word}
-use Rattle.at_board.specs.Steps.StoreRecordWord.{MayStoreWord, StoresWord, with_word}
-use Rattle.at_board.specs.Words.Addresses.{IsAddress, length_of, index_of, record_width, record_word}
+use Rattle.at_board.specs.Steps.StoreRecordWord.{MayStoreWord, with_word}
+use Rattle.at_board.specs.Words.Addresses.{IsAddress, length_of, index_of, record_word}
 use Rattle.at_board.specs.declared.knowledge.Knowledge.{Knowledge}
 
 module _ {S : Type 0} where

@@ -5,6 +5,7 @@ use Rattle.at_ledger.specs.Account.{rounds_room, slots_of}
 use Rattle.at_ledger.specs.Book.{BookTerms, account_of, log_room_of}
 use Rattle.at_ledger.specs.declared.draft.TheConstants.{PROCESSES_MAX, ROUNDS_MAX}
 use Rattle.at_history.specs.Fronts.{places_max}
+use Rattle.at_board.specs.declared.layout.Layout.{Layout}
 use Rattle.at_board.specs.declared.words.TheConstants.{RECORD_WORDS, REQUEST_WORDS}
 
 -- each word by what it means
@@ -102,3 +103,9 @@ pub record AreLogStarts (b : BookTerms) (starts : List ℕ) : Type 0 where
 pub record AreSlotsBefore (b : BookTerms) (before : List ℕ) : Type 0 where
   pub count : length before ≡ length b.accounts + 1
   pub each : (a : ℕ) → a ≤ length b.accounts → slice_index before a ≡ sum_by slots_of (take a b.accounts)
+
+-- where the words of a board of its book stand
+pub record IsLayout (l : Layout) : Type 0 where
+  pub logs : AreLogStarts l.book l.log_starts.items
+  pub slots : l.slots_start ≡ index_of l.book (record_word l.book.processes 0 0)
+  pub before : AreSlotsBefore l.book l.slots_before.items

@@ -14,7 +14,6 @@ use Rattle.at_board.specs.Steps.Announce.{MayAnnounce}
 use Rattle.at_board.specs.Words.Addresses.{announced_of, index_of, word_count}
 use Rattle.at_board.specs.Steps.Announce.{Announces}
 use Rattle.at_ledger.specs.Book.{HasSlot}
-use Rattle.at_board.proofs.board.Board.announce.Given as given
 use Rattle.at_board.proofs.board.Board.announce.Goals.{After-from, After-store}
 use Rattle.at_board.proofs.board.Board.announce.Goals as goal
 
@@ -22,7 +21,7 @@ use Rattle.at_board.proofs.board.Board.announce.Goals as goal
 mine : (c : After-from) → c.seat.inside.seat.me.0 ≡ c.args.seat.now.knows
 mine c = ap (λ s. s.knows) c.seat.view_is
 
-ours : (c : After-from) → c.self.inside.book ≡ c.seat.inside.seat.me.0.book
+ours : (c : After-from) → c.self.inside.layout.book ≡ c.seat.inside.seat.me.0.book
 ours c = ap (λ t. t.book) c.self.view_is ∙ sym (ap (λ (t : Knowledge). t.book) (mine c) ∙ c.requires.board.book)
 
 kept : (c : After-from) → IsKept c.seat.inside.seat.me.0
@@ -34,7 +33,7 @@ has c = subst (λ p. HasSlot c.args.self.now.book p c.args.account c.own_slot-ow
 at : (c : After-from) → c.announced_index-word.result ≡ index_of c.seat.inside.seat.me.0.book (announced_of c.args.account c.own_slot-own.result)
 at c =
     c.announced_index-word.ensures.index
-    ∙ ap (λ t. index_of t (announced_of c.args.account c.own_slot-own.result)) (sym (ap (λ t. t.book) c.self.view_is) ∙ ours c)
+    ∙ ap (λ t. index_of t (announced_of c.args.account c.own_slot-own.result)) (ours c)
 
 may : (c : After-from) (k : ℕ) (q : Request) → MayAnnounce c.args.self.now.book c.args.seat.now.knows c.args.account k q
     → MayAnnounce c.seat.inside.seat.me.0.book c.seat.inside.seat.me.0 c.args.account c.own_slot-own.result q

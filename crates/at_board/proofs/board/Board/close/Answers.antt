@@ -8,11 +8,11 @@ use Rattle.at_board.specs.Knowledge.Seats.{BoardTerms}
 use Rattle.at_board.proofs.board.Board.close.Goals as goal
 
 pub gather-last-requires-clause-words : goal.gather-last-requires-clause-words
-gather-last-requires-clause-words c = omega (arith, c.self.invariant.1, word_count-some c.self.inside.book c.self.invariant.2)
+gather-last-requires-clause-words c = omega (arith, c.self.invariant.1, word_count-some c.self.inside.layout.book c.self.invariant.2)
 
 pub returns-clause-end : goal.returns-clause-end
 returns-clause-end c =
-    let b : BookTerms = c.self.inside.book in
+    let b : BookTerms = c.self.inside.layout.book in
     let words = slots_items c.close_with.result.words in
     let slots = slots_items c.close_with.result.slots in
     let all = c.requires.count ∙ sym (ap (λ (t : BoardTerms). t.book.processes) c.self.view_is) in

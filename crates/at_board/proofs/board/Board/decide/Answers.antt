@@ -13,40 +13,38 @@ use Rattle.at_board.specs.declared.knowledge.Knowledge.{Knowledge}
 use Rattle.at_board.specs.Steps.Decide.{MayPropose}
 use Rattle.at_board.specs.Steps.Decide.{Decides, word_after}
 use Rattle.at_board.specs.Words.Addresses.{IsAddress, cell_of, index_of, word_count}
-use Rattle.at_board.proofs.board.Board.decide.Given as given
-use Rattle.at_board.proofs.board.Board.decide.Goals.{After-cell_index-index, After-compare_exchange-found, After-known}
+use Rattle.at_board.proofs.board.Board.decide.Goals.{After-cell_index-index, After-compare_exchange-found, After-self}
 use Rattle.at_board.proofs.board.Board.decide.Goals as goal
 
--- the seat is the one that callers see, and it knows the board's book
-mine : (c : After-known) → c.seat.inside.seat.me.0 ≡ c.args.seat.now.knows
+-- the seat is the one that callers see, and the board has the book that the seat knows
+mine : (c : After-self) → c.seat.inside.seat.me.0 ≡ c.args.seat.now.knows
 mine c = ap (λ s. s.knows) c.seat.view_is
 
-book : (c : After-known) → c.seat.inside.seat.me.0.book ≡ c.args.self.now.book
-book c = ap (λ (t : Knowledge). t.book) (mine c) ∙ c.requires.board.book
+ours : (c : After-self) → c.self.inside.layout.book ≡ c.seat.inside.seat.me.0.book
+ours c = ap (λ t. t.book) c.self.view_is ∙ sym (ap (λ (t : Knowledge). t.book) (mine c) ∙ c.requires.board.book)
 
-kept : (c : After-known) → IsKept c.seat.inside.seat.me.0
+kept : (c : After-self) → IsKept c.seat.inside.seat.me.0
 kept c = IsKept-IsSeat c.seat.inside.seat.me.0 c.seat.inside.process c.seat.inside.published c.seat.invariant.1
 
-may : (c : After-known) (d : Decision) (r : Request) → MayPropose c.args.self.now.book c.args.seat.now.knows c.args.account c.args.round d r
+may : (c : After-self) (d : Decision) (r : Request) → MayPropose c.args.self.now.book c.args.seat.now.knows c.args.account c.args.round d r
     → MayPropose c.seat.inside.seat.me.0.book c.seat.inside.seat.me.0 c.args.account c.args.round d r
 may c d r =
     to_seat (λ b v. MayPropose b v c.args.account c.args.round d r) c.args.self.now.book c.args.seat.now.knows c.seat.inside.seat.me.0 c.requires.board.book (mine c)
 
 -- the board has the cell
-place : (c : After-known) → IsAddress c.seat.inside.seat.me.0.book (cell_of c.args.account c.args.round)
+place : (c : After-self) → IsAddress c.seat.inside.seat.me.0.book (cell_of c.args.account c.args.round)
 place c =
     let d : Decision = c.requires.proposal.0 in
     let r : Request = c.requires.proposal.1 in
     IsAddress-MayPropose c.seat.inside.seat.me.0 c.args.account c.args.round d r (kept c).history (kept c).in_range (may c d r c.requires.proposal.2)
 
-pub cell_index-index-requires : goal.cell_index-index-requires
-cell_index-index-requires c =
-    subst (λ t. IsAddress t (cell_of c.args.account c.args.round)) (book c) (place c)
+pub cell_index-index-requires-clause-place : goal.cell_index-index-requires-clause-place
+cell_index-index-requires-clause-place c = subst (λ t. IsAddress t (cell_of c.args.account c.args.round)) (sym (ours c)) (place c)
 
 at : (c : After-cell_index-index) → c.cell_index-index.result ≡ index_of c.seat.inside.seat.me.0.book (cell_of c.args.account c.args.round)
 at c =
-    let known : After-known = (goal.at.After-cell_index-index c).After-known in
-    c.cell_index-index.ensures.index ∙ ap (λ t. index_of t (cell_of c.args.account c.args.round)) (sym (book known))
+    let known : After-self = (goal.at.After-cell_index-index c).After-self in
+    c.cell_index-index.ensures.index ∙ ap (λ t. index_of t (cell_of c.args.account c.args.round)) (ours known)
 
 -- the step decides the round, or finds what decided it
 told : (c : After-compare_exchange-found) (d : Decision) (r : Request)
@@ -55,26 +53,25 @@ told : (c : After-compare_exchange-found) (d : Decision) (r : Request)
     Decides v.book v c.compare_exchange-found.new.seat.me.0 c.args.account c.args.round d (word_after c.compare_exchange-found.result c.args.proposal)
 told c d r asked word =
     let indexed : After-cell_index-index = (goal.at.After-compare_exchange-found c).After-cell_index-index in
-    let known : After-known = (goal.at.After-cell_index-index indexed).After-known in
+    let known : After-self = (goal.at.After-cell_index-index indexed).After-self in
     c.compare_exchange-found.ensures.2.2 c.args.account c.args.round d r (may known d r asked) (at indexed) word
 
 pub compare_exchange-found-requires : goal.compare_exchange-found-requires
 compare_exchange-found-requires c =
     let indexed : After-cell_index-index = (goal.at.compare_exchange-found-requires c).After-cell_index-index in
-    let known : After-known = (goal.at.After-cell_index-index indexed).After-known in
+    let known : After-self = (goal.at.After-cell_index-index indexed).After-self in
     let d : Decision = c.requires.proposal.0 in
-    let r : Request = c.requires.proposal.1 in
-    let ours = ap (λ t. t.book) c.self.view_is ∙ sym (book known) in (
+    let r : Request = c.requires.proposal.1 in (
       ap (λ s. s.board) c.seat.view_is ∙ (c.requires.board.id ∙ sym (ap (λ t. t.id) c.self.view_is)),
       omega (
         arith,
         c.self.invariant.1,
-        ap word_count ours,
+        ap word_count (ours known),
         at indexed,
         index_of-below c.seat.inside.seat.me.0.book (cell_of c.args.account c.args.round) (place known),
       ),
       decides_at c.self.inside.table.shared.key.value c.self.inside.table.shared.table_id.slots c.seat.inside.seat.id c.seat.inside.seat.me
-          c.args.account c.args.round d r c.cell_index-index.result c.args.proposal (c.self.invariant.0 ∙ ours) (at indexed)
+          c.args.account c.args.round d r c.cell_index-index.result c.args.proposal (c.self.invariant.0 ∙ ours known) (at indexed)
           c.requires.proposal.3 (kept known) (may known d r c.requires.proposal.2),
     )
 

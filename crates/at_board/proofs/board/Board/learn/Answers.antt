@@ -1,12 +1,10 @@
 use Rattle.std.proofs.Common.{◌≡◌, ◌<◌, length, sym, ap, subst, ◌∙◌, arith}
 use Rattle.std.proofs.lemmas.Grind.{common_steps}
 use Rattle.at_ledger.specs.Book.{BookTerms}
-use Rattle.at_board.proofs.StepLaws.Learn.{HasCounts-learned, IsSeat-learned, Learns-learned, learns}
+use Rattle.at_board.proofs.StepLaws.Learn.{AreSeen-key, HasCounts-learned, IsSeat-learned, Learns-learned, learns}
 use Rattle.at_board.proofs.StepLaws.Note.{word_count-some}
 use Rattle.at_board.specs.declared.knowledge.Knowledge.{Knowledge}
 use Rattle.at_board.specs.Steps.Learn.{Learns, learned}
-use Rattle.at_board.specs.Steps.Meetings.{AreSeen}
-use Rattle.at_board.specs.Rule.{Ruled}
 use Rattle.at_board.specs.Knowledge.Seats.{HasCounts}
 use Rattle.at_board.specs.Knowledge.Seats.{IsSeat}
 use Rattle.at_board.proofs.KnowledgeLaws.Kept.{IsKept-IsSeat}
@@ -28,7 +26,7 @@ join_seat-requires c =
       ap (λ s. s.table_id) one ∙ (ap (λ s. s.board) c.seat.view_is ∙ (c.requires.board.id ∙ ours)),
       ap (λ s. s.table_id) other ∙ (ap (λ s. s.board) c.note.view_is ∙ (c.requires.note.id ∙ ours)),
       ap (λ s. s.me.1) other ∙ c.note.invariant.0,
-      omega (arith, c.self.invariant.1, word_count-some c.self.inside.book c.self.invariant.2),
+      omega (arith, c.self.invariant.1, word_count-some c.self.inside.layout.book c.self.invariant.2),
       learns c.self.inside.table.shared.key.value c.meet.new.one.id c.meet.new.other.id c.meet.new.one.me.0 c.meet.new.other.me.0
           (subst (λ (t : Knowledge). 0 < length t.parts) (sym (ap (λ s. s.me.0) one)) (omega (arith, c.seat.invariant.1.one_part)))
           (ap (λ s. length s.me.0.parts) other ∙ c.note.invariant.1.no_part),
@@ -45,9 +43,8 @@ seat c =
     let w : Knowledge = c.note.inside.seat.me.0 in
     let book : v.book ≡ b = ap (λ s. s.knows.book) c.seat.view_is ∙ c.requires.board.book in
     let note_book : w.book ≡ b = ap (λ s. s.knows.book) c.note.view_is ∙ c.requires.note.book in
-    let ours : c.self.inside.table.shared.key.value ≡ b = c.self.invariant.0 ∙ ap (λ t. t.book) c.self.view_is in
-    let met : AreSeen (λ s. Ruled b s.words s.views) c.seat.inside.seat.id v c.note.inside.seat.id w =
-    subst (λ (t : BookTerms). AreSeen (λ s. Ruled t s.words s.views) c.seat.inside.seat.id v c.note.inside.seat.id w) ours c.meet.ensures.seen in
+    let met = AreSeen-key c.self.inside.table.shared.key.value b c.seat.inside.seat.id c.note.inside.seat.id v w (c.self.invariant.0 ∙ ap (λ t. t.book) c.self.view_is)
+    c.meet.ensures.seen in
     subst (λ t. IsSeat t c.seat.inside.process c.seat.inside.published) (learned_is c)
     (IsSeat-learned b c.seat.inside.seat.id c.note.inside.seat.id v w c.seat.inside.process c.seat.inside.published book note_book c.seat.invariant.1 c.note.invariant.1 met)
 
@@ -75,14 +72,12 @@ returns-clause-learned c =
     let theirs : w ≡ c.args.note.knows = ap (λ s. s.knows) c.note.view_is in
     let book : v.book ≡ b = ap (λ (t : Knowledge). t.book) mine ∙ c.requires.board.book in
     let note_book : w.book ≡ b = ap (λ (t : Knowledge). t.book) theirs ∙ c.requires.note.book in
-    let ours : c.self.inside.table.shared.key.value ≡ b = c.self.invariant.0 ∙ ap (λ t. t.book) c.self.view_is in
-    let met : AreSeen (λ s. Ruled b s.words s.views) c.seat.inside.seat.id v c.note.inside.seat.id w =
-    subst (λ (t : BookTerms). AreSeen (λ s. Ruled t s.words s.views) c.seat.inside.seat.id v c.note.inside.seat.id w) ours c.meet.ensures.seen in
-    let after : learned v w ≡ c.join_seat.new.seat.me.0 =
-    sym (ap (λ m. m.0) c.join_seat.ensures.2 ∙ (λ t. learned (c.meet.ensures.one t).me.0 (c.meet.ensures.other t).me.0)) in
+    let met = AreSeen-key c.self.inside.table.shared.key.value b c.seat.inside.seat.id c.note.inside.seat.id v w (c.self.invariant.0 ∙ ap (λ t. t.book) c.self.view_is)
+    c.meet.ensures.seen in
+    let after : After-join_seat = (goal.at.returns-clause-learned c).After-join_seat in
     let told = Learns-learned b c.seat.inside.seat.id c.note.inside.seat.id v w c.seat.inside.process c.seat.inside.published book note_book c.seat.invariant.1 c.note.invariant.1 met in
     subst (λ (t : Knowledge). Learns b t c.args.note.knows c.join_seat.new.seat.me.0) mine
-    (subst (λ (t : Knowledge). Learns b v t c.join_seat.new.seat.me.0) theirs (subst (Learns b v w) after told))
+    (subst (λ (t : Knowledge). Learns b v t c.join_seat.new.seat.me.0) theirs (subst (Learns b v w) (learned_is after) told))
 
 pub returns-clause-exchanges : goal.returns-clause-exchanges
 returns-clause-exchanges c = grind (arith, common_steps)

@@ -15,9 +15,9 @@ load-count-requires c =
     let v : Knowledge = c.seat.inside.seat.me.0 in
     let x = announced_of c.args.account c.args.slot in
     let book : v.book ≡ c.args.self.now.book = ap (λ s. s.knows.book) c.seat.view_is ∙ c.requires.board.book in
-    let ours : c.self.inside.book ≡ v.book = ap (λ t. t.book) c.self.view_is ∙ sym book in
+    let ours : c.self.inside.layout.book ≡ v.book = ap (λ t. t.book) c.self.view_is ∙ sym book in
     let is : IsAddress v.book x = subst (λ t. IsAddress t x) (sym book) (c.requires.account, c.requires.slot) in
-    let at = c.announced_index-index.ensures.index ∙ ap (λ t. index_of t x) (sym book) in (
+    let at = c.announced_index-index.ensures.index ∙ ap (λ t. index_of t x) ours in (
       ap (λ s. s.board) c.seat.view_is ∙ (c.requires.board.id ∙ sym (ap (λ t. t.id) c.self.view_is)),
       omega (arith, c.self.invariant.1, ap word_count ours, at, index_of-below v.book x is),
       loads_announced_at c.self.inside.table.shared.key.value c.self.inside.table.shared.table_id.slots c.seat.inside.seat.id c.seat.inside.seat.me
@@ -31,8 +31,9 @@ told : (c : After-load-count) → let v : Knowledge = c.seat.inside.seat.me.0 in
 told c =
     let x = announced_of c.args.account c.args.slot in
     let book = ap (λ s. s.knows.book) c.seat.view_is ∙ c.requires.board.book in
+    let ours = ap (λ t. t.book) c.self.view_is ∙ sym book in
     c.load-count.ensures.2.2 c.args.account c.args.slot (subst (λ t. IsAddress t x) (sym book) (c.requires.account, c.requires.slot))
-    (c.announced_index-index.ensures.index ∙ ap (λ t. index_of t x) (sym book))
+    (c.announced_index-index.ensures.index ∙ ap (λ t. index_of t x) ours)
 
 pub invariant_of-seat : goal.invariant_of-seat
 invariant_of-seat c =

@@ -15,7 +15,7 @@ pub load-length-requires : goal.load-length-requires
 load-length-requires c =
     let v : Knowledge = c.seat.inside.seat.me.0 in
     let book : v.book ≡ c.args.self.now.book = ap (λ s. s.knows.book) c.seat.view_is ∙ c.requires.board.book in
-    let ours : c.self.inside.book ≡ v.book = ap (λ t. t.book) c.self.view_is ∙ sym book in
+    let ours : c.self.inside.layout.book ≡ v.book = ap (λ t. t.book) c.self.view_is ∙ sym book in
     let within : c.args.p < v.book.processes = subst (λ t. c.args.p < t.processes) (sym book) c.requires.process in (
       ap (λ s. s.board) c.seat.view_is ∙ (c.requires.board.id ∙ sym (ap (λ t. t.id) c.self.view_is)),
       omega (arith, c.self.invariant.1, ap word_count ours, index_of-below v.book (length_of c.args.p) within, index_of-length_of v.book c.args.p),

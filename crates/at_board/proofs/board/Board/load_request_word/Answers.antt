@@ -11,57 +11,54 @@ use Rattle.at_board.specs.declared.knowledge.Knowledge.{Knowledge}
 use Rattle.at_board.specs.Words.Addresses.{IsAddress, index_of, request_word, word_count}
 use Rattle.at_board.specs.Steps.LoadRequestWord.{MayLoadRequest}
 use Rattle.at_board.specs.Steps.LoadRequestWord.{LoadsRequestWord}
-use Rattle.at_board.proofs.board.Board.load_request_word.Given as given
-use Rattle.at_board.proofs.board.Board.load_request_word.Goals.{After-known, After-load, After-request_index-index}
+use Rattle.at_board.proofs.board.Board.load_request_word.Goals.{After-self, After-load, After-request_index-index}
 use Rattle.at_board.proofs.board.Board.load_request_word.Goals as goal
 
--- the seat is the one that callers see, and it knows the board's book
-mine : (c : After-known) → c.seat.inside.seat.me.0 ≡ c.args.seat.now.knows
+-- the seat is the one that callers see, and the board has the book that the seat knows
+mine : (c : After-self) → c.seat.inside.seat.me.0 ≡ c.args.seat.now.knows
 mine c = ap (λ s. s.knows) c.seat.view_is
 
-book : (c : After-known) → c.seat.inside.seat.me.0.book ≡ c.args.self.now.book
-book c = ap (λ (t : Knowledge). t.book) (mine c) ∙ c.requires.board.book
+ours : (c : After-self) → c.self.inside.layout.book ≡ c.seat.inside.seat.me.0.book
+ours c = ap (λ t. t.book) c.self.view_is ∙ sym (ap (λ (t : Knowledge). t.book) (mine c) ∙ c.requires.board.book)
 
-kept : (c : After-known) → IsKept c.seat.inside.seat.me.0
+kept : (c : After-self) → IsKept c.seat.inside.seat.me.0
 kept c = IsKept-IsSeat c.seat.inside.seat.me.0 c.seat.inside.process c.seat.inside.published c.seat.invariant.1
 
-may : (c : After-known) → MayLoadRequest c.seat.inside.seat.me.0 c.args.account c.args.slot c.args.number c.args.j
+may : (c : After-self) → MayLoadRequest c.seat.inside.seat.me.0 c.args.account c.args.slot c.args.number c.args.j
 may c = subst (λ t. MayLoadRequest t c.args.account c.args.slot c.args.number c.args.j) (sym (mine c)) c.requires.request
 
 -- the board has the word
-place : (c : After-known) → IsAddress c.seat.inside.seat.me.0.book (request_word c.args.account c.args.slot c.args.number c.args.j)
+place : (c : After-self) → IsAddress c.seat.inside.seat.me.0.book (request_word c.args.account c.args.slot c.args.number c.args.j)
 place c = place-MayLoadRequest c.seat.inside.seat.me.0 c.args.account c.args.slot c.args.number c.args.j (kept c).in_range (may c)
 
-pub request_index-index-requires : goal.request_index-index-requires
-request_index-index-requires c =
-    subst (λ t. IsAddress t (request_word c.args.account c.args.slot c.args.number c.args.j)) (book c) (place c)
+pub request_index-index-requires-clause-place : goal.request_index-index-requires-clause-place
+request_index-index-requires-clause-place c = subst (λ t. IsAddress t (request_word c.args.account c.args.slot c.args.number c.args.j)) (sym (ours c)) (place c)
 
 at : (c : After-request_index-index) → c.request_index-index.result
     ≡ index_of c.seat.inside.seat.me.0.book (request_word c.args.account c.args.slot c.args.number c.args.j)
 at c =
-    let known : After-known = (goal.at.After-request_index-index c).After-known in
+    let known : After-self = (goal.at.After-request_index-index c).After-self in
     let x = request_word c.args.account c.args.slot c.args.number c.args.j in
-    c.request_index-index.ensures.index ∙ ap (λ t. index_of t x) (sym (book known))
+    c.request_index-index.ensures.index ∙ ap (λ t. index_of t x) (ours known)
 
 -- the step loads the word
 told : (c : After-load) → let v : Knowledge = c.seat.inside.seat.me.0 in
     LoadsRequestWord v.book v c.load.new.seat.me.0 c.args.account c.args.slot c.args.number c.args.j c.load.result
 told c =
     let indexed : After-request_index-index = (goal.at.After-load c).After-request_index-index in
-    let known : After-known = (goal.at.After-request_index-index indexed).After-known in
+    let known : After-self = (goal.at.After-request_index-index indexed).After-self in
     c.load.ensures.2.2 c.args.account c.args.slot c.args.number c.args.j (place known) (may known) (at indexed)
 
 pub load-requires : goal.load-requires
 load-requires c =
     let indexed : After-request_index-index = (goal.at.load-requires c).After-request_index-index in
-    let known : After-known = (goal.at.After-request_index-index indexed).After-known in
+    let known : After-self = (goal.at.After-request_index-index indexed).After-self in
     let b : BookTerms = c.seat.inside.seat.me.0.book in
-    let x = request_word c.args.account c.args.slot c.args.number c.args.j in
-    let ours = ap (λ t. t.book) c.self.view_is ∙ sym (book known) in (
+    let x = request_word c.args.account c.args.slot c.args.number c.args.j in (
       ap (λ s. s.board) c.seat.view_is ∙ (c.requires.board.id ∙ sym (ap (λ t. t.id) c.self.view_is)),
-      omega (arith, c.self.invariant.1, ap word_count ours, at indexed, index_of-below b x (place known)),
+      omega (arith, c.self.invariant.1, ap word_count (ours known), at indexed, index_of-below b x (place known)),
       loads_request_word_at c.self.inside.table.shared.key.value c.self.inside.table.shared.table_id.slots c.seat.inside.seat.id c.seat.inside.seat.me
-          c.args.account c.args.slot c.args.number c.args.j c.request_index-index.result (c.self.invariant.0 ∙ ours) (at indexed) (kept known) (place known) (may known),
+          c.args.account c.args.slot c.args.number c.args.j c.request_index-index.result (c.self.invariant.0 ∙ ours known) (at indexed) (kept known) (place known) (may known),
     )
 
 pub invariant_of-seat : goal.invariant_of-seat

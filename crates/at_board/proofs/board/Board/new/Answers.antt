@@ -14,11 +14,8 @@ returns-clause-few c = grind (arith, common_steps)
 pub deal-requires-clause-first : goal.deal-requires-clause-first
 deal-requires-clause-first c = grind (arith, common_steps)
 
-pub invariant_of-board : goal.invariant_of-board
-invariant_of-board c = grind (arith, common_steps)
+pub invariant_of-result : goal.invariant_of-result
+invariant_of-result c = grind (arith, common_steps)
 
 pub returns-clause-seats : goal.returns-clause-seats
 returns-clause-seats c = grind (arith, common_steps)
-
-pub same-copy : goal.same-copy
-same-copy c = grind (arith, common_steps)

@@ -7,7 +7,7 @@ use Rattle.at_board.proofs.board.Board.note.Goals as goal
 pub split_seat-requires : goal.split_seat-requires
 split_seat-requires c = (
   ap (λ s. s.board) c.seat.view_is ∙ (c.requires.board.id ∙ sym (ap (λ t. t.id) c.self.view_is)),
-  omega (arith, c.self.invariant.1, word_count-some c.self.inside.book c.self.invariant.2),
+  omega (arith, c.self.invariant.1, word_count-some c.self.inside.layout.book c.self.invariant.2),
   notes c.self.inside.table.shared.key.value c.seat.inside.seat.id c.seat.inside.seat.me.0,
 )
 

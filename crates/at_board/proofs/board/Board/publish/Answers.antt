@@ -1,6 +1,6 @@
 use Rattle.std.proofs.Common.{refl, ◌≡◌, ◌+◌, ◌<◌, sym, ap, ◌∙◌, arith}
 use Rattle.std.proofs.lemmas.Grind.{common_steps}
-use Rattle.at_ledger.specs.Book.{BookTerms, log_room_of}
+use Rattle.at_ledger.specs.Book.{log_room_of}
 use Rattle.at_board.proofs.KnowledgeLaws.Books.{to_caller, to_seat}
 use Rattle.at_board.proofs.KnowledgeLaws.Kept.{IsKept-IsSeat, IsSeat-step}
 use Rattle.at_board.specs.Knowledge.Seats.{IsKept}
@@ -23,7 +23,7 @@ use Rattle.at_board.proofs.board.Board.publish.Goals as goal
 mine : (c : After-from) → c.seat.inside.seat.me.0 ≡ c.args.seat.now.knows
 mine c = ap (λ s. s.knows) c.seat.view_is
 
-ours : (c : After-from) → c.self.inside.book ≡ c.seat.inside.seat.me.0.book
+ours : (c : After-from) → c.self.inside.layout.book ≡ c.seat.inside.seat.me.0.book
 ours c = ap (λ t. t.book) c.self.view_is ∙ sym (ap (λ (t : Knowledge). t.book) (mine c) ∙ c.requires.board.book)
 
 kept : (c : After-from) → IsKept c.seat.inside.seat.me.0

@@ -14,12 +14,12 @@ use Rattle.at_board.specs.Knowledge.Parts.{own_part}
 use Rattle.at_board.proofs.board.Board.store_record_word.Goals.{After-record_index-index, After-seat, After-store}
 use Rattle.at_board.proofs.board.Board.store_record_word.Goals as goal
 
--- the seat is the one that callers see, and it knows the board's book
+-- the seat is the one that callers see, and the board has the book that the seat knows
 mine : (c : After-seat) → c.seat.inside.seat.me.0 ≡ c.args.seat.now.knows
 mine c = ap (λ s. s.knows) c.seat.view_is
 
-book : (c : After-seat) → c.seat.inside.seat.me.0.book ≡ c.args.self.now.book
-book c = ap (λ (t : Knowledge). t.book) (mine c) ∙ c.requires.board.book
+ours : (c : After-seat) → c.self.inside.layout.book ≡ c.seat.inside.seat.me.0.book
+ours c = ap (λ t. t.book) c.self.view_is ∙ sym (ap (λ (t : Knowledge). t.book) (mine c) ∙ c.requires.board.book)
 
 kept : (c : After-seat) → IsKept c.seat.inside.seat.me.0
 kept c = IsKept-IsSeat c.seat.inside.seat.me.0 c.seat.inside.process c.seat.inside.published c.seat.invariant.1
@@ -34,7 +34,7 @@ at c =
     let v : Knowledge = c.seat.inside.seat.me.0 in
     let known : After-seat = (goal.at.After-record_index-index c).After-seat in
     c.record_index-index.ensures.index
-    ∙ (ap (λ t. index_of t (record_word c.seat.inside.process c.seat.inside.published c.args.j)) (sym (book known))
+    ∙ (ap (λ t. index_of t (record_word c.seat.inside.process c.seat.inside.published c.args.j)) (ours known)
     ∙ ap (index_of v.book) (next_record v c.seat.inside.process c.seat.inside.published c.args.j c.seat.invariant.1))
 
 -- the step stores the word
@@ -49,18 +49,17 @@ store-requires c =
     let indexed : After-record_index-index = (goal.at.store-requires c).After-record_index-index in
     let known : After-seat = (goal.at.After-record_index-index indexed).After-seat in
     let v : Knowledge = c.seat.inside.seat.me.0 in
-    let asked = may known in
-    let ours = ap (λ t. t.book) c.self.view_is ∙ sym (book known) in (
+    let asked = may known in (
       ap (λ s. s.board) c.seat.view_is ∙ (c.requires.board.id ∙ sym (ap (λ t. t.id) c.self.view_is)),
       omega (
         arith,
         c.self.invariant.1,
-        ap word_count ours,
+        ap word_count (ours known),
         at indexed,
         index_of-below v.book (record_word v.first (own_part v).published c.args.j) (c.seat.invariant.1.known, asked.room, asked.word),
       ),
       stores_word_at c.self.inside.table.shared.key.value c.self.inside.table.shared.table_id.slots c.seat.inside.seat.id c.seat.inside.seat.me c.args.j c.args.w
-          c.record_index-index.result (c.self.invariant.0 ∙ ours) (at indexed) (kept known) asked,
+          c.record_index-index.result (c.self.invariant.0 ∙ ours known) (at indexed) (kept known) asked,
     )
 
 pub invariant_of-seat : goal.invariant_of-seat
@@ -79,9 +78,6 @@ returns-clause-stored c =
 
 pub returns-clause-seat : goal.returns-clause-seat
 returns-clause-seat c = c.store.ensures.2.1
-
-pub record_index-index-requires : goal.record_index-index-requires
-record_index-index-requires c = grind (arith, common_steps)
 
 pub returns-clause-exchanges : goal.returns-clause-exchanges
 returns-clause-exchanges c = grind (arith, common_steps)

@@ -11,21 +11,20 @@ use Rattle.at_board.specs.Steps.StoreRequestWord.{MayStoreRequest}
 use Rattle.at_board.specs.Words.Addresses.{index_of, request_word, word_count}
 use Rattle.at_board.specs.Steps.StoreRequestWord.{StoresRequestWord}
 use Rattle.at_ledger.specs.Book.{HasSlot}
-use Rattle.at_board.proofs.board.Board.store_request_word.Given as given
-use Rattle.at_board.proofs.board.Board.store_request_word.Goals.{After-announced-next, After-request_index-index, After-store}
+use Rattle.at_board.proofs.board.Board.store_request_word.Goals.{After-self, After-request_index-index, After-store}
 use Rattle.at_board.proofs.board.Board.store_request_word.Goals as goal
 
--- the seat is the one that callers see, and it knows the board's book
-mine : (c : After-announced-next) → c.seat.inside.seat.me.0 ≡ c.args.seat.now.knows
+-- the seat is the one that callers see, and the board has the book that the seat knows
+mine : (c : After-self) → c.seat.inside.seat.me.0 ≡ c.args.seat.now.knows
 mine c = ap (λ s. s.knows) c.seat.view_is
 
-book : (c : After-announced-next) → c.seat.inside.seat.me.0.book ≡ c.args.self.now.book
-book c = ap (λ (t : Knowledge). t.book) (mine c) ∙ c.requires.board.book
+ours : (c : After-self) → c.self.inside.layout.book ≡ c.seat.inside.seat.me.0.book
+ours c = ap (λ t. t.book) c.self.view_is ∙ sym (ap (λ (t : Knowledge). t.book) (mine c) ∙ c.requires.board.book)
 
-kept : (c : After-announced-next) → IsKept c.seat.inside.seat.me.0
+kept : (c : After-self) → IsKept c.seat.inside.seat.me.0
 kept c = IsKept-IsSeat c.seat.inside.seat.me.0 c.seat.inside.process c.seat.inside.published c.seat.invariant.1
 
-may : (c : After-announced-next) → MayStoreRequest c.seat.inside.seat.me.0.book c.seat.inside.seat.me.0 c.args.account c.own_slot-slot.result
+may : (c : After-self) → MayStoreRequest c.seat.inside.seat.me.0.book c.seat.inside.seat.me.0 c.args.account c.own_slot-slot.result
 may c =
     let b : BookTerms = c.args.self.now.book in
     let a = c.args.account in
@@ -39,9 +38,9 @@ at : (c : After-request_index-index) → let v : Knowledge = c.seat.inside.seat.
     c.request_index-index.result ≡ index_of v.book (request_word c.args.account c.own_slot-slot.result (next_number v c.args.account) c.args.j)
 at c =
     let v : Knowledge = c.seat.inside.seat.me.0 in
-    let known : After-announced-next = (goal.at.After-request_index-index c).After-announced-next in
+    let known : After-self = (goal.at.After-request_index-index c).After-self in
     c.request_index-index.ensures.index
-    ∙ (ap (λ t. index_of t (request_word c.args.account c.own_slot-slot.result c.announced-next.result c.args.j)) (sym (book known))
+    ∙ (ap (λ t. index_of t (request_word c.args.account c.own_slot-slot.result c.announced-next.result c.args.j)) (ours known)
     ∙ ap (λ n. index_of v.book (request_word c.args.account c.own_slot-slot.result n c.args.j))
     (c.announced-next.ensures ∙ ap (λ u. next_number u c.args.account) (sym (mine known))))
 
@@ -49,27 +48,26 @@ at c =
 told : (c : After-store) → StoresRequestWord c.seat.inside.seat.me.0 c.store.new.seat.me.0 c.args.account c.args.j c.args.w
 told c =
     let indexed : After-request_index-index = (goal.at.After-store c).After-request_index-index in
-    let known : After-announced-next = (goal.at.After-request_index-index indexed).After-announced-next in
+    let known : After-self = (goal.at.After-request_index-index indexed).After-self in
     c.store.ensures.2.2 c.args.account c.own_slot-slot.result c.args.j (may known) c.requires.word (at indexed)
 
 pub store-requires : goal.store-requires
 store-requires c =
     let indexed : After-request_index-index = (goal.at.store-requires c).After-request_index-index in
-    let known : After-announced-next = (goal.at.After-request_index-index indexed).After-announced-next in
+    let known : After-self = (goal.at.After-request_index-index indexed).After-self in
     let v : Knowledge = c.seat.inside.seat.me.0 in
     let a = c.args.account in
-    let slot = c.own_slot-slot.result in
-    let ours = ap (λ t. t.book) c.self.view_is ∙ sym (book known) in (
+    let slot = c.own_slot-slot.result in (
       ap (λ s. s.board) c.seat.view_is ∙ (c.requires.board.id ∙ sym (ap (λ t. t.id) c.self.view_is)),
       omega (
         arith,
         c.self.invariant.1,
-        ap word_count ours,
+        ap word_count (ours known),
         at indexed,
         index_of-below v.book (request_word a slot (next_number v a) c.args.j) (place-MayStoreRequest v.book v a slot c.args.j (may known) c.requires.word),
       ),
       stores_request_word_at c.self.inside.table.shared.key.value c.self.inside.table.shared.table_id.slots c.seat.inside.seat.id c.seat.inside.seat.me
-          a slot c.args.j c.args.w c.request_index-index.result (c.self.invariant.0 ∙ ours) (at indexed) (kept known) (may known) c.requires.word,
+          a slot c.args.j c.args.w c.request_index-index.result (c.self.invariant.0 ∙ ours known) (at indexed) (kept known) (may known) c.requires.word,
     )
 
 pub invariant_of-seat : goal.invariant_of-seat

@@ -1,0 +1,7 @@
+-- A receipt may be moved to another thread.
+use denote.Param.Send.{IsSend, sendable}
+use Rattle.std.proofs.Crossing.{crosses}
+use Rattle.at_log.specs.contracts.receipt.Receipt as receipt
+
+pub receipt_send : IsSend receipt.the_row
+receipt_send = search (sendable, crosses) depth 40 fits 100000
