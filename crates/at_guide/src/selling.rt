@@ -1,0 +1,33 @@
+//! The sequential ledger in a program.
+
+ghost use Rattle.std.specs.Prelude.{◌≡◌, ◌<◌, length, sum};
+ghost use Rattle.at_ledger.specs.Call.{IsCallOn};
+
+use at_ledger::{Book, Call, Reply, State};
+use std::alloc::{AllocError, Global};
+
+/// What is sold on a new ledger: the reply of one transfer, where the book has its process and accounts.
+pub fn sell(alloc: Global, book: &Book, amount: u64) -> Result<Option<Reply>, AllocError> {
+    let mut state = State::new(alloc, book)?;
+    if book.accounts() < 2 || book.processes() < 1 {
+        return Ok(None);
+    }
+    let call = Call::Transfer {
+        from: 0,
+        to: 1,
+        amount,
+    };
+    Ok(Some(state.step(0, &call)))
+}
+
+/// Makes a call. The sum of the balances stays what it was.
+pub fn settle(state: &mut State, process: u32, call: &Call) -> Reply
+    requires process_in { process < state.old.book.processes }
+    requires call_in { IsCallOn (length state.old.book.accounts) call.now }
+    ensures total { sum state.new.balances ≡ sum state.old.balances }
+{
+    let _before = state.total();
+    let reply = state.step(process, call);
+    let _after = state.total();
+    reply
+}
