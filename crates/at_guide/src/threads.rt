@@ -1,6 +1,7 @@
 //! Calls from threads.
 
-ghost use Rattle.std.specs.Prelude.{◌≡◌, ◌^◌, ◌<◌, All, AllZip, IfOk, length};
+ghost use Rattle.std.specs.Prelude.{◌≡◌, ◌^◌, ◌<◌, All, IfOk, length};
+ghost use Rattle.std.specs.List.{AllZip};
 ghost use Rattle.at_ledger.specs.Call.{IsCallOn};
 ghost use Rattle.at_object.specs.Passes.{IsNewPass};
 ghost use Rattle.at_workers.specs.Jobs.{IsReady, Ran};

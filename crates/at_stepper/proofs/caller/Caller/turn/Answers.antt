@@ -14,7 +14,7 @@ use Rattle.at_stepper.proofs.caller.Caller.turn.Goals as goal
 
 -- the next call is begun with the calls of the caller, behind its receipts
 next_begun : (c : After-become_next) → IsCallBegun c.args.board.now.book c.turn-made.new.seat c.turn-made.new.rest c.self.inside.calls.items
-    (length c.keep-next.new.receipts.items) c.become_next.new.making.calling
+    (length c.keep-next.new.receipts.items) c.become_next.new.stage.calling
 next_begun c =
     let number = length c.keep-next.new.receipts.items in
     subst (λ (making : Making). IsCallBegun c.args.board.now.book c.turn-made.new.seat c.turn-made.new.rest c.self.inside.calls.items number
@@ -40,13 +40,13 @@ invariant_of-self-2 c =
     c.turn-made.new.rest c.known.ensures.seat c.turn-made.ensures.board.book c.turn-made.ensures.call c.turn-made.ensures.start
     c.turn-made.ensures.was c.turn-made.ensures.turns c.turn-made.ensures.exchanges_made c.turn-made.ensures.left c.turn-made.ensures.so_far
     c.in-Some-made.receipt c.in-Some-made.ensures.made c.in-Some-made.ensures.stands c.in-Some-made.ensures.kept c.in-Some-made.ensures.calls
-    c.in-Some-made.ensures.within c.in-Some-made.ensures.refused c.keep-next.new.receipts.items c.keep-next.ensures.receipts c.become_next.new.making.calling (next_begun c)
+    c.in-Some-made.ensures.within c.in-Some-made.ensures.refused c.keep-next.new.receipts.items c.keep-next.ensures.receipts c.become_next.new.stage.calling (next_begun c)
     (vec_capacity c.keep-next.new.receipts) c.keep-next.ensures.capacity
 
 pub returns-clause-turned : goal.returns-clause-turned
 returns-clause-turned c =
     let answered : CallerTerms =
-    caller_of c.turn-made.new.seat c.turn-made.new.rest c.self.inside.calls.items c.keep-next.new.receipts.items c.become_next.new.making.calling in
+    caller_of c.turn-made.new.seat c.turn-made.new.rest c.self.inside.calls.items c.keep-next.new.receipts.items c.become_next.new.stage.calling in
     subst (λ (r : Receipt). IsAnswered c.args.board.now.book c.args.self.now answered r) (sym c.copy_of-answer.ensures)
     (subst (λ (t : CallerTerms). IsAnswered c.args.board.now.book t answered c.in-Some-made.receipt) (was_making c)
     (IsAnswered-turned c.args.board.now.book c.self.inside.seat c.self.inside.rest c.self.inside.calls.items c.self.inside.receipts.items
@@ -57,7 +57,7 @@ returns-clause-turned c =
     c.turn-made.new.rest c.known.ensures.seat c.turn-made.ensures.board.book c.turn-made.ensures.call c.turn-made.ensures.start
     c.turn-made.ensures.was c.turn-made.ensures.turns c.turn-made.ensures.exchanges_made c.turn-made.ensures.left c.turn-made.ensures.so_far
     c.in-Some-made.receipt c.in-Some-made.ensures.made c.in-Some-made.ensures.stands c.in-Some-made.ensures.kept c.in-Some-made.ensures.calls
-    c.in-Some-made.ensures.within c.in-Some-made.ensures.refused c.keep-next.new.receipts.items c.keep-next.ensures.receipts c.become_next.new.making.calling (next_begun c)))
+    c.in-Some-made.ensures.within c.in-Some-made.ensures.refused c.keep-next.new.receipts.items c.keep-next.ensures.receipts c.become_next.new.stage.calling (next_begun c)))
 
 pub returns-clause-process : goal.returns-clause-process
 returns-clause-process c =
@@ -69,7 +69,7 @@ returns-clause-process c =
     c.turn-made.new.rest c.known.ensures.seat c.turn-made.ensures.board.book c.turn-made.ensures.call c.turn-made.ensures.start
     c.turn-made.ensures.was c.turn-made.ensures.turns c.turn-made.ensures.exchanges_made c.turn-made.ensures.left c.turn-made.ensures.so_far
     c.in-Some-made.receipt c.in-Some-made.ensures.made c.in-Some-made.ensures.stands c.in-Some-made.ensures.kept c.in-Some-made.ensures.calls
-    c.in-Some-made.ensures.within c.in-Some-made.ensures.refused c.keep-next.new.receipts.items c.keep-next.ensures.receipts c.become_next.new.making.calling (next_begun c)
+    c.in-Some-made.ensures.within c.in-Some-made.ensures.refused c.keep-next.new.receipts.items c.keep-next.ensures.receipts c.become_next.new.stage.calling (next_begun c)
     ∙ ap (λ (t : CallerTerms). t.pass.knows.first) (was_making c)
 
 pub returns-clause-steps : goal.returns-clause-steps
@@ -82,7 +82,7 @@ returns-clause-steps c =
     c.turn-made.new.rest c.known.ensures.seat c.turn-made.ensures.board.book c.turn-made.ensures.call c.turn-made.ensures.start
     c.turn-made.ensures.was c.turn-made.ensures.turns c.turn-made.ensures.exchanges_made c.turn-made.ensures.left c.turn-made.ensures.so_far
     c.in-Some-made.receipt c.in-Some-made.ensures.made c.in-Some-made.ensures.stands c.in-Some-made.ensures.kept c.in-Some-made.ensures.calls
-    c.in-Some-made.ensures.within c.in-Some-made.ensures.refused c.keep-next.new.receipts.items c.keep-next.ensures.receipts c.become_next.new.making.calling (next_begun c)
+    c.in-Some-made.ensures.within c.in-Some-made.ensures.refused c.keep-next.new.receipts.items c.keep-next.ensures.receipts c.become_next.new.stage.calling (next_begun c)
     ∙ ap (λ (r : Receipt). steps_in (Answer r)) (sym c.copy_of-answer.ensures) in
     omega (arith, c.turn-made.ensures.steps, made, ap (λ (t : CallerTerms). t.seat.steps) c.self.view_is)
 
