@@ -158,6 +158,7 @@ runs=$showing
 tried 'kinds' 0 kinds "$owners/book.csv" "$owners"/pay*.csv
 tried 'kinds, of names' 0 kinds "$household/book.csv" "$household/ann.csv" "$household/bob.csv"
 tried 'costs' 0 costs "$examples/usual/book.csv" "$examples/usual/pay0.csv"
+tried 'orders' 0 orders book.csv pay0.csv pay1.csv
 tried 'ledger' 0 ledger "$examples/usual/book.csv" "$examples/usual/pay0.csv"
 tried 'a refusal of the second program' 0 kinds "$household/book.csv" "$household/book.csv" "$household/bob.csv"
 

@@ -573,19 +573,114 @@ mv ends out
 lines '1970-01-01 openings' '    account:0  8192' >wanted
 printed 'the journal of the most calls' wanted
 
-usage='usage: kinds BOOK PAY... | costs BOOK PAY... | ledger BOOK PAY...'
+# The replies that calls have in some order of all calls. Those of the examples were found by another program.
+for name in usual owners realistic; do
+    shows orders "$examples/$name/book.csv" "$examples/$name"/pay*.csv
+    printed "the orders of the example $name" "$examples/$name/$name.orders"
+done
+shows orders "$household/book.csv" "$household/ann.csv" "$household/bob.csv"
+printed 'the orders of the example household' "$household/household.orders"
+
+ordered() {
+    { echo process,line,call,account,kind,replies && cat; } >wanted
+    shows orders book.csv "$@"
+}
+lines book,1 processes,2 limits,4,4 'account,0,100,0 1' account,1,0, >book.csv
+lines transfer,0,1,60 >pay0.csv
+ordered pay0.csv pay0.csv <<END
+0,1,transfer,0,agreed,done short
+1,1,transfer,0,agreed,done short
+END
+printed 'two owners of whom one alone can pay' wanted
+lines book,1 processes,2 limits,4,4 'account,0,120,0 1' account,1,0, >book.csv
+ordered pay0.csv pay0.csv <<END
+0,1,transfer,0,agreed,done
+1,1,transfer,0,agreed,done
+END
+printed 'two owners who both can pay' wanted
+
+lines book,1 processes,2 limits,1,1 account,0,10,0 account,1,50,1 >book.csv
+lines transfer,0,1,30 read,0 transfer,0,1,30 transfer,1,0,1 >pay0.csv
+lines transfer,1,0,20 read,1 >pay1.csv
+ordered pay0.csv pay1.csv <<END
+0,1,transfer,0,alone,done short
+0,2,read,0,read,0 30
+0,3,transfer,0,alone,done short full
+0,4,transfer,1,refused,not-owner
+1,1,transfer,1,alone,done
+1,2,read,1,read,30 60
+END
+printed 'a payment that is short unless a credit comes first, and the one after it' wanted
+
+lines book,2 processes,a,b,c limits,1,1 'account,ab,100,a b' account,c,7,c >book.csv
+lines pay,ab,c,60,ab,5 transfer,ab,c,1 >pay0.csv
+lines transfer,ab,c,60 transfer,ab,c,1 >pay1.csv
+ordered pay0.csv pay1.csv nothing.csv <<END
+a,1,pay,ab,agreed,done short
+a,2,transfer,ab,agreed,full
+b,1,transfer,ab,agreed,done short
+b,2,transfer,ab,agreed,full
+END
+printed 'a room of one request that a short payment uses too' wanted
+
+# Whether process 1 can pay depends on process 0, and what processes 2 and 3 are answered depends on process 1.
+lines book,1 processes,4 limits,4,4 account,0,10,0 account,1,0,1 account,2,0,2 account,3,0, >book.csv
+lines transfer,0,1,10 >pay0.csv
+lines transfer,1,2,10 >pay1.csv
+lines transfer,2,3,10 >pay2.csv
+lines read,3 >pay3.csv
+ordered pay0.csv pay1.csv pay2.csv pay3.csv <<END
+0,1,transfer,0,alone,done
+1,1,transfer,1,alone,done short
+2,1,transfer,2,alone,done short
+3,1,read,3,read,0 10
+END
+printed 'a chain of accounts in which one payment decides three replies' wanted
+ordered nothing.csv pay1.csv pay2.csv pay3.csv <<END
+1,1,transfer,1,alone,short
+2,1,transfer,2,alone,short
+3,1,read,3,read,0
+END
+printed 'the same chain without that payment' wanted
+ordered nothing.csv nothing.csv nothing.csv nothing.csv </dev/null
+printed 'the orders of no calls' wanted
+
+# Two files of 1,023 reads go through 1024 * 1024 stages, which is the most, and one read more through more.
+lines book,1 processes,2 limits,1,1 account,0,5, >book.csv
+yes read,0 | head -n 1023 >reads.csv
+awk 'BEGIN { for (p = 0; p < 2; p++) for (i = 1; i < 1024; i++) print p "," i ",read,0,read,5" }' </dev/null >both
+ordered reads.csv reads.csv <both
+printed 'the orders of the most stages' wanted
+{ cat reads.csv && echo read,0; } >more.csv
+shows orders book.csv reads.csv more.csv
+refused 'one stage more than the most' 13 'too many orders'
+
+# Small files that are made at random, against all their orders one by one.
+if command -v python3 >python; then
+    python3 "$root/.ci/orders.py" "$showing" 500 >tried && good=yes || good=no
+    grep '^failed' tried
+    count "$good" "orders of random files: $(tail -n 1 tried)"
+else
+    echo 'program.sh: no python3 is on the path, so orders of random files are not tried'
+fi
+
+usage='usage: kinds BOOK PAY... | costs BOOK PAY... | orders BOOK PAY... | ledger BOOK PAY...'
 shows --help
 refused 'words of no form for the second program' 2 "$usage"
 shows kinds
 refused 'kinds alone' 2 "$usage"
 shows costs
 refused 'costs alone' 2 "$usage"
+shows orders
+refused 'orders alone' 2 "$usage"
 shows run "$usual/book.csv" "$usual/pay0.csv"
 refused 'words of the first program for the second' 2 "$usage"
 shows kinds "$(printf '\377')"
 refused 'words that are not text for the second program' 2 "$usage"
 shows ledger "$usual/book.csv"
 refused 'too few files for the second program' 2 'files: wanted 1, given 0'
+shows orders "$usual/book.csv" "$usual/book.csv"
+refused 'bad payments for orders' 4 'payments 0: line 1: shape'
 shows kinds "$usual/pay0.csv" "$usual/pay0.csv"
 refused 'a bad book for the second program' 3 'book: line 1: shape'
 shows ledger "$usual/book.csv" "$usual/book.csv"
@@ -599,7 +694,7 @@ refused 'a file that is too long for the second program' 8 'too long: file 1'
 status=$?
 refused 'too little memory for the second program' 7 'no memory'
 : >out
-for command in kinds costs ledger; do
+for command in kinds costs orders ledger; do
     "$showing" "$command" "$usual/book.csv" "$usual/pay0.csv" >/dev/full 2>err
     status=$?
     refused "a full device for $command" 6 'write fault'

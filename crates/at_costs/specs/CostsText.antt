@@ -2,16 +2,12 @@
 use Rattle.std.specs.Prelude.{◌≡◌, ℕ, ◌+◌, ◌<◌, List, [], ◌∷◌, ◌++◌, All, codes, decimal, flat_map, length, map, slice_index_or}
 use Rattle.std.specs.List.{range_with_len}
 use Rattle.at_ledger.specs.Book.{BookTerms}
-use Rattle.at_ledger.specs.Call.{IsCallOn, first_account}
-use Rattle.at_ledger.specs.declared.call.Call.{Call}
-use Rattle.at_ledger.specs.declared.call.Call.TheVariants.{Transfer, Read, Pay}
-use Rattle.at_files.specs.Names.{NameList, account_name, process_name}
-use Rattle.at_kinds.specs.Kinds.{kind_of}
-use Rattle.at_kinds.specs.declared.kind.Kind.{Kind}
-use Rattle.at_kinds.specs.declared.kind.Kind.TheVariants as kinds
+use Rattle.at_ledger.specs.Call.{IsCallOn}
+use Rattle.at_files.specs.Names.{NameList, process_name}
+use Rattle.at_kinds.specs.CallFields.{call_fields}
 use Rattle.at_log.specs.Receipts.{receipt_at}
 use Rattle.at_log.specs.declared.receipt.Receipt.{Receipt}
-use Rattle.at_report.specs.Lines.{Word, Words, reply_word}
+use Rattle.at_report.specs.Lines.{Words, reply_word}
 use Rattle.at_report.specs.Records.{record_text, records_text}
 use Rattle.at_costs.specs.Bounds.{most_exchanges, most_steps}
 use Rattle.at_object.specs.Passes.{PassTerms}
@@ -23,25 +19,12 @@ costs_head =
     codes "process" ∷ codes "line" ∷ codes "call" ∷ codes "account" ∷ codes "kind" ∷ codes "reply" ∷ codes "steps" ∷ codes "exchanges"
     ∷ codes "new" ∷ codes "most_steps" ∷ codes "most_exchanges" ∷ []
 
--- what is called
-abbrev pub call_word : Call → Word
-call_word (Transfer from to amount) = codes "transfer"
-call_word (Read account) = codes "read"
-call_word (Pay from targets) = codes "pay"
-
--- the word of a kind
-abbrev pub kind_word : Kind → Word
-kind_word kinds.Read = codes "read"
-kind_word kinds.Refused = codes "refused"
-kind_word kinds.Alone = codes "alone"
-kind_word kinds.Agreed = codes "agreed"
-
 -- the fields of a call of the process, with its number among that process's calls
 abbrev pub cost_fields : BookTerms → NameList → ℕ → ℕ → Receipt → CostTerms → Words
 cost_fields b names process number r cost =
-    process_name names process ∷ decimal number ∷ call_word r.call ∷ account_name names (first_account r.call)
-    ∷ kind_word (kind_of b process r.call) ∷ reply_word r.reply ∷ decimal cost.steps ∷ decimal cost.exchanges ∷ decimal cost.new_records
-    ∷ decimal (most_steps b r cost.new_records) ∷ decimal (most_exchanges b r) ∷ []
+    process_name names process ∷ decimal number
+    ∷ (call_fields b names process r.call ++ reply_word r.reply ∷ decimal cost.steps ∷ decimal cost.exchanges ∷ decimal cost.new_records
+    ∷ decimal (most_steps b r cost.new_records) ∷ decimal (most_exchanges b r) ∷ [])
 
 -- a cost of the list
 abbrev pub cost_at : List CostTerms → ℕ → CostTerms

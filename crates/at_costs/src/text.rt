@@ -1,47 +1,23 @@
 //! The text of `costs`.
 
 ghost use Rattle.std.specs.Prelude.{◌≡◌, ◌<◌, ◌+◌, ◌++◌, ℕ, [], ◌∷◌, All, IfOk, OnOk, decimal, length, slice_index_or};
-ghost use Rattle.at_ledger.specs.Call.{IsCallOn, first_account};
-ghost use Rattle.at_files.specs.Names.{AreNamesOf, account_name};
-ghost use Rattle.at_kinds.specs.Kinds.{kind_of};
+ghost use Rattle.at_ledger.specs.Call.{IsCallOn};
+ghost use Rattle.at_files.specs.Names.{AreNamesOf};
 ghost use Rattle.at_log.specs.ClosingTerms.{receipts_of};
 ghost use Rattle.at_log.specs.Receipts.{lists_in};
 ghost use Rattle.at_report.specs.Lines.{reply_word};
 ghost use Rattle.at_report.specs.Records.{comma_led, record_text, records_text};
 ghost use Rattle.at_costs.specs.Bounds.{AreCostsWithin, most_exchanges, most_steps};
-ghost use Rattle.at_costs.specs.CostsText.{HaveCosts, call_word, cost_fields, costs_head, costs_records, costs_text, kind_word, process_costs};
+ghost use Rattle.at_costs.specs.CostsText.{HaveCosts, cost_fields, costs_head, costs_records, costs_text, process_costs};
 
 use crate::bounds::{most_exchanges, most_steps};
 use at_files::Names;
-use at_kinds::{Kind, kind_of};
-use at_ledger::{Book, Call, NoMemory};
+use at_kinds::push_call_fields;
+use at_ledger::{Book, NoMemory};
 use at_log::{Closing, Receipt};
-use at_report::{push_field, push_number_field, push_reply_field};
+use at_report::{push_number_field, push_reply_field};
 use at_workers::CallCost;
 use std::alloc::Global;
-
-/// What is called.
-fn call_word(call: &Call) -> &'static [u8]
-    ensures { result.now ≡ call_word call.now }
-{
-    match call {
-        Call::Transfer { .. } => b"transfer",
-        Call::Read { .. } => b"read",
-        Call::Pay { .. } => b"pay",
-    }
-}
-
-/// The word of a kind.
-fn kind_word(kind: Kind) -> &'static [u8]
-    ensures { result.now ≡ kind_word kind }
-{
-    match kind {
-        Kind::Read => b"read",
-        Kind::Refused => b"refused",
-        Kind::Alone => b"alone",
-        Kind::Agreed => b"agreed",
-    }
-}
 
 /// Adds the names of the fields.
 fn push_head(out: &mut Vec<u8>) -> Result<(), NoMemory>
@@ -52,28 +28,7 @@ fn push_head(out: &mut Vec<u8>) -> Result<(), NoMemory>
     )
 }
 
-/// Adds what was called, of what kind it is, and the reply.
-fn push_call(
-    out: &mut Vec<u8>,
-    book: &Book,
-    names: &Names,
-    process: u32,
-    receipt: &Receipt,
-) -> Result<(), NoMemory>
-    requires accounts { length names.now.accounts ≡ length book.now.accounts }
-    requires call { IsCallOn (length book.now.accounts) receipt.now.call }
-    ensures { OnOk result (out.new.items ≡ out.old.items
-        ++ comma_led (call_word receipt.now.call
-        ∷ account_name names.now (first_account receipt.now.call)
-        ∷ kind_word (kind_of book.now process receipt.now.call) ∷ reply_word receipt.now.reply ∷ [])) }
-{
-    push_field(out, call_word(&receipt.call))?;
-    push_field(out, names.account(receipt.call.first_account()))?;
-    push_field(out, kind_word(kind_of(book, process, &receipt.call)))?;
-    push_reply_field(out, receipt.reply)
-}
-
-/// Adds what the call cost, and the most that it may cost.
+/// Adds the reply, what the call cost, and the most that it may cost.
 fn push_cost(
     out: &mut Vec<u8>,
     book: &Book,
@@ -82,10 +37,12 @@ fn push_cost(
 ) -> Result<(), NoMemory>
     requires { IsCallOn (length book.now.accounts) receipt.now.call }
     ensures { OnOk result (out.new.items ≡ out.old.items
-        ++ comma_led (decimal cost.now.steps ∷ decimal cost.now.exchanges
-        ∷ decimal cost.now.new_records ∷ decimal (most_steps book.now receipt.now cost.now.new_records)
+        ++ comma_led (reply_word receipt.now.reply ∷ decimal cost.now.steps
+        ∷ decimal cost.now.exchanges ∷ decimal cost.now.new_records
+        ∷ decimal (most_steps book.now receipt.now cost.now.new_records)
         ∷ decimal (most_exchanges book.now receipt.now) ∷ [])) }
 {
+    push_reply_field(out, receipt.reply)?;
     push_number_field(out, cost.steps())?;
     push_number_field(out, cost.exchanges())?;
     push_number_field(out, cost.new_records())?;
@@ -111,7 +68,7 @@ fn push_record(
 {
     out.extend_from_slice(names.process(process))?;
     push_number_field(out, number)?;
-    push_call(out, book, names, process, receipt)?;
+    push_call_fields(out, book, names, process, &receipt.call)?;
     push_cost(out, book, receipt, cost)?;
     out.push(b'\n')?;
     Ok(())

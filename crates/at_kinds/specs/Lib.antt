@@ -4,3 +4,4 @@ pub mod KindsText
 pub mod Groups
 pub mod GroupKeys
 pub mod Totals
+pub mod CallFields

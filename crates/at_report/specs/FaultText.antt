@@ -7,7 +7,7 @@ use Rattle.at_files.specs.declared.book_fault.BookWhy.TheVariants as book
 use Rattle.at_files.specs.declared.payments_fault.PaymentsWhy.{PaymentsWhy}
 use Rattle.at_files.specs.declared.payments_fault.PaymentsWhy.TheVariants as payments
 use Rattle.at_report.specs.declared.status.Status.{Status}
-use Rattle.at_report.specs.declared.status.Status.TheVariants.{Done, Usage, BadBook, BadPayments, ReadFault, WriteFault, NoMemory, TooLong, BadSchedule, BadOrder, BadMessages, NotLegal}
+use Rattle.at_report.specs.declared.status.Status.TheVariants.{Done, Usage, BadBook, BadPayments, ReadFault, WriteFault, NoMemory, TooLong, BadSchedule, BadOrder, BadMessages, NotLegal, TooManyOrders}
 use Rattle.at_report.specs.declared.status.UsageFault.{UsageFault}
 use Rattle.at_report.specs.declared.status.UsageFault.TheVariants as usage
 use Rattle.at_files.specs.declared.schedule.ScheduleWhy.{ScheduleWhy}
@@ -94,6 +94,7 @@ fault_words (BadSchedule line why) = codes "schedule" ++ line_and_cause line (sc
 fault_words (BadOrder line why) = codes "order" ++ line_and_cause line (order_cause why)
 fault_words (BadMessages process line why) = codes "messages " ++ decimal process ++ line_and_cause line (messages_cause why)
 fault_words (NotLegal line) = codes "report" ++ line_and_cause line (codes "not legal")
+fault_words TooManyOrders = codes "too many orders"
 
 -- the line of a refusal, with its newline
 abbrev pub fault_line : Status → List ℕ

@@ -1,7 +1,7 @@
 -- The exit status of each answer.
 use Rattle.std.specs.Prelude.{ℕ}
 use Rattle.at_report.specs.declared.status.Status.{Status}
-use Rattle.at_report.specs.declared.status.Status.TheVariants.{Done, Usage, BadBook, BadPayments, ReadFault, WriteFault, NoMemory, TooLong, BadSchedule, BadOrder, BadMessages, NotLegal}
+use Rattle.at_report.specs.declared.status.Status.TheVariants.{Done, Usage, BadBook, BadPayments, ReadFault, WriteFault, NoMemory, TooLong, BadSchedule, BadOrder, BadMessages, NotLegal, TooManyOrders}
 
 abbrev pub code_of : Status → ℕ
 code_of Done = 0
@@ -16,3 +16,4 @@ code_of (BadSchedule line why) = 9
 code_of (BadOrder line why) = 10
 code_of (BadMessages process line why) = 11
 code_of (NotLegal line) = 12
+code_of TooManyOrders = 13

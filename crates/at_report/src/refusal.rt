@@ -199,6 +199,7 @@ fn push_words(out: &mut FaultText, status: &Status)
             messages_cause(why),
         ),
         Status::NotLegal { line } => push_bad(out, "report", *line, "not legal"),
+        Status::TooManyOrders => push_text(out, "too many orders"),
     }
 }
 

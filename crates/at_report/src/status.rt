@@ -60,6 +60,8 @@ pub enum Status {
     NotLegal {
         line: u32,
     },
+    /// The orders of the calls are more than are walked.
+    TooManyOrders,
 }
 
 impl Status {
@@ -82,6 +84,7 @@ impl Status {
             Status::BadOrder { .. } => 10,
             Status::BadMessages { .. } => 11,
             Status::NotLegal { .. } => 12,
+            Status::TooManyOrders => 13,
         }
     }
 }

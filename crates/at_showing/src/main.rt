@@ -1,5 +1,5 @@
-//! The second program: shows of a book and payments what needs agreement and what each call of a run cost, and prints the
-//! journal of a run for other programs.
+//! The second program: shows of a book and payments what needs agreement, what each call of a run cost and which replies each
+//! call has in some order, and prints the journal of a run for other programs.
 //!
 //! `show_all` of `at_shows` does it all, over any shelf and sinks; here it has the real ones.
 #![tactic(auto)]

@@ -12,7 +12,8 @@ const TWO: &[u8] =
 const THREE: &[u8] =
     b"book,2\nprocesses,a,b,c\nlimits,4,4\naccount,pair,60,a b\naccount,all,60,a b c\naccount,none,0,\n";
 
-const USAGE: &str = "usage: kinds BOOK PAY... | costs BOOK PAY... | ledger BOOK PAY...\n";
+const USAGE: &str =
+    "usage: kinds BOOK PAY... | costs BOOK PAY... | orders BOOK PAY... | ledger BOOK PAY...\n";
 
 /// Reads, refused payments and such from an account without owners are counted apart, two accounts of the same owners are one
 /// group, and a set that is part of another is a group of its own.
@@ -55,6 +56,40 @@ pub(crate) const KINDS: &[Case] = &[
     ),
 ];
 
+/// Two owners of whom one alone can pay, a payment that is short unless a credit comes first, and the one after it, which finds
+/// the room used up where the first was done.
+pub(crate) const ORDERS: &[Case] = &[
+    (
+        "orders book 0",
+        &[
+            ONE,
+            b"transfer,0,1,30\nread,0\ntransfer,0,1,80\ntransfer,1,0,1\ntransfer,0,1,1\n",
+        ],
+        0,
+        "process,line,call,account,kind,replies\n0,1,transfer,0,alone,done\n0,2,read,0,read,70\n0,3,transfer,0,alone,full\n0,4,transfer,1,refused,not-owner\n0,5,transfer,0,alone,full\n",
+    ),
+    (
+        "orders book 0 1",
+        &[
+            b"book,2\nprocesses,a,b\nlimits,1,1\naccount,ab,100,a b\naccount,b,0,b\n",
+            b"pay,ab,b,60,ab,5\ntransfer,ab,b,1\n",
+            b"transfer,ab,b,60\ntransfer,b,ab,60\nread,ab\n",
+        ],
+        0,
+        "process,line,call,account,kind,replies\na,1,pay,ab,agreed,done short\na,2,transfer,ab,agreed,full\nb,1,transfer,ab,agreed,done short\nb,2,transfer,b,alone,done\nb,3,read,ab,read,40 100\n",
+    ),
+    (
+        "orders book 0 1",
+        &[
+            b"book,1\nprocesses,2\nlimits,1,1\naccount,0,10,0\naccount,1,50,1\n",
+            b"transfer,0,1,30\ntransfer,0,1,30\n",
+            b"transfer,1,0,20\n",
+        ],
+        0,
+        "process,line,call,account,kind,replies\n0,1,transfer,0,alone,done short\n0,2,transfer,0,alone,done short full\n1,1,transfer,1,alone,done\n",
+    ),
+];
+
 /// One process runs alone, so the order is fixed.
 pub(crate) const LEDGERS: &[Case] = &[
     (
@@ -86,6 +121,7 @@ pub(crate) const LEDGERS: &[Case] = &[
 pub(crate) const REFUSED: &[Case] = &[
     ("", &[ONE], 2, USAGE),
     ("kinds", &[ONE], 2, USAGE),
+    ("orders", &[ONE], 2, USAGE),
     ("ledger", &[ONE], 2, USAGE),
     ("--help", &[ONE], 2, USAGE),
     ("run book 0", &[ONE, b""], 2, USAGE),

@@ -1,6 +1,6 @@
 //! Rows of `show_all`, over shelves and sinks in memory.
 
-use crate::test_rows::{Case, KINDS, LEDGERS, REFUSED};
+use crate::test_rows::{Case, KINDS, LEDGERS, ORDERS, REFUSED};
 use at_io::{MemoryShelf, MemorySink};
 use at_report::Status;
 use at_shows::show_all;
@@ -92,6 +92,12 @@ fn first_wrong<R: Threads + Sync>(
 #[test]
 fn kinds(rt: HostRuntime) -> Result<(), Fail> {
     assert_eq!(rt; first_wrong(&rt, rt.alloc(), KINDS)?, None);
+    Ok(())
+}
+
+#[test]
+fn orders(rt: HostRuntime) -> Result<(), Fail> {
+    assert_eq!(rt; first_wrong(&rt, rt.alloc(), ORDERS)?, None);
     Ok(())
 }
 

@@ -1,3 +1,4 @@
 pub mod Formless
 pub mod Refusals
+pub mod Refusing
 pub mod PlayedCosts

@@ -1,4 +1,5 @@
 pub mod Words
 pub mod Usage
 pub mod Views
+pub mod Refused
 pub mod Answered

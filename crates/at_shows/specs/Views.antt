@@ -1,5 +1,5 @@
 -- What each command shows of a book and payments.
-use Rattle.std.specs.Prelude.{◌≡◌, ℕ, ◌<◌, Bool, true, List, [], length, slice_index_or, Ok, Option, Some, None}
+use Rattle.std.specs.Prelude.{◌≡◌, ℕ, ◌<◌, Bool, true, false, List, [], length, slice_index_or, Ok, Option, Some, None}
 use Rattle.at_commands.specs.Running.{IsPlayed, IsPlayedNoting}
 use Rattle.at_costs.specs.Bounds.{AreCostsWithin}
 use Rattle.at_costs.specs.CostsText.{costs_text}
@@ -11,8 +11,11 @@ use Rattle.at_loading.specs.Loading.{Files, Loaded, Spelled, loaded}
 use Rattle.at_loading.specs.Words.{Form}
 use Rattle.at_log.specs.ClosingTerms.{receipts_of}
 use Rattle.at_object.specs.Closings.{ClosedTerms}
+use Rattle.at_orders.specs.Orders.{AreAnswers}
+use Rattle.at_orders.specs.declared.replies.Replies.{Replies}
+use Rattle.at_replies.specs.OrdersText.{orders_text}
 use Rattle.at_shows.specs.declared.words.View.{View}
-use Rattle.at_shows.specs.declared.words.View.TheVariants.{Costs, Kinds, Ledger}
+use Rattle.at_shows.specs.declared.words.View.TheVariants.{Costs, Kinds, Ledger, Orders}
 use Rattle.at_workers.specs.Costs.{CostTerms}
 
 -- `kinds`: the text is that of the kinds of the calls. Its groups are just the sets of owners that have payments to agree on
@@ -34,10 +37,24 @@ pub record ShowsLedger (l : Loaded) (closed : ClosedTerms) (text : List ℕ) : T
   pub played : IsPlayed l.book l.files closed lines
   pub printed : text ≡ ledger_text l.book l.names lines
 
+-- `orders`: the text has for each call just the replies that some order of all calls gives it
+pub record ShowsOrders (l : Loaded) (text : List ℕ) : Type 0 where
+  pub answers : List (List Replies)
+  pub are : AreAnswers l.book l.files answers
+  pub printed : text ≡ orders_text l.book l.names l.files answers
+
+-- whether the calls are made for the view
+abbrev pub is_run : View → Bool
+is_run Kinds = false
+is_run Costs = true
+is_run Orders = false
+is_run Ledger = true
+
 -- what a view shows of what was loaded, and the closed ledger that it keeps
 abbrev pub Shows : View → Loaded → Option ClosedTerms → List ℕ → Type 0
 Shows Kinds l kept text = (kept ≡ None) × ShowsKinds l text
 Shows Costs l kept text = (closed : ClosedTerms) × (kept ≡ Some closed) × ShowsCosts l closed text
+Shows Orders l kept text = (kept ≡ None) × ShowsOrders l text
 Shows Ledger l kept text = (closed : ClosedTerms) × (kept ≡ Some closed) × ShowsLedger l closed text
 
 -- the text is the view's of what was read of the words' files: the calls of one file for each of the words. Where the files are told,

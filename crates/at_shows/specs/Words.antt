@@ -5,7 +5,7 @@ use Rattle.at_loading.specs.Words.{Form, form_shown}
 use Rattle.at_loading.specs.declared.words.Command.TheVariants.{Check}
 use Rattle.at_shows.specs.declared.words.Asked as program
 use Rattle.at_shows.specs.declared.words.View.{View}
-use Rattle.at_shows.specs.declared.words.View.TheVariants.{Costs, Kinds, Ledger}
+use Rattle.at_shows.specs.declared.words.View.TheVariants.{Costs, Kinds, Ledger, Orders}
 
 -- what words ask to be shown: a view of a book and payments, whose files are read as for `check`
 pub data Showing : Type 0 where
@@ -21,6 +21,7 @@ abbrev pub showing_of : List Word → Option Showing
 showing_of (word ∷ words) =
     if bytes_eq word (codes "kinds") then view_wanted Kinds words
     else if bytes_eq word (codes "costs") then view_wanted Costs words
+    else if bytes_eq word (codes "orders") then view_wanted Orders words
     else if bytes_eq word (codes "ledger") then view_wanted Ledger words
     else None
 showing_of [] = None

@@ -1,13 +1,14 @@
 //! What is answered of what the words ask.
 
-ghost use Rattle.std.specs.Prelude.{◌≡◌, ◌≢◌, ◌≤◌, ℕ, length, None, Err, IfOk, IfErr, OnOk, option_map};
+ghost use Rattle.std.specs.Prelude.{◌≡◌, ◌≢◌, ◌≤◌, ℕ, length, false, None, Err, IfOk, IfErr, OnOk, option_map};
 ghost use Rattle.at_io.specs.Faults.{Rose};
 ghost use Rattle.at_io.specs.Shelf.{SameFiles};
-ghost use Rattle.at_loading.specs.Faults.{HasFileNumbers, MayRefuse};
+ghost use Rattle.at_loading.specs.Faults.{HasFileNumbers};
 ghost use Rattle.at_loading.specs.Loading.{MayReach, loaded};
 ghost use Rattle.at_loading.specs.Words.{form_shown};
 ghost use Rattle.at_shows.specs.Answered.{AnsweredView, LeavesShown};
-ghost use Rattle.at_shows.specs.Views.{ShowsRead};
+ghost use Rattle.at_shows.specs.Refused.{MayRefuseView};
+ghost use Rattle.at_shows.specs.Views.{ShowsRead, is_run};
 ghost use Rattle.at_shows.specs.Words.{showing_shown};
 
 use crate::views::view_shown;
@@ -16,6 +17,7 @@ use at_commands::{Printed, end_keeping};
 use at_io::{Shelf, Sink};
 use at_loading::{Form, Loaded, load};
 use at_object::Closed;
+use at_orders::OrdersError;
 use at_report::{Status, UsageFault};
 use at_workers::Gate;
 use std::alloc::Global;
@@ -37,9 +39,9 @@ fn view_printed<R: Threads + Sync, F: Shelf, G: Gate + Sync>(
     ensures printed { IfOk result
         (λ p. ShowsRead view (F.tells shelf.old) (F.file shelf.old) (form_shown form.now)
         p.closed p.text.items) }
-    ensures unrun { view ≡ View.Kinds → IfOk result (λ p. p.closed ≡ None) }
+    ensures unrun { is_run view ≡ false → IfOk result (λ p. p.closed ≡ None) }
     ensures err { IfErr result
-        (λ refusal. MayRefuse (F.tells shelf.old) (loaded (F.file shelf.old) (form_shown form.now))
+        (λ refusal. MayRefuseView view (F.tells shelf.old) (loaded (F.file shelf.old) (form_shown form.now))
         (F.faults shelf.old) (F.faults shelf.new) refusal) }
     ensures reached { (file : ℕ) → result ≡ Err (Status.ReadFault file)
         → MayReach (F.tells shelf.old) (F.file shelf.old) (form_shown form.now) file }
@@ -51,7 +53,8 @@ fn view_printed<R: Threads + Sync, F: Shelf, G: Gate + Sync>(
     };
     match view_shown(rt, alloc, view, &book, &names, files, gate) {
         Ok(printed) => Ok(printed),
-        Err(_) => Err(Status::NoMemory),
+        Err(OrdersError::TooManyOrders) => Err(Status::TooManyOrders),
+        Err(OrdersError::NoMemory) => Err(Status::NoMemory),
     }
 }
 

@@ -1,5 +1,5 @@
-//! What the second program shows of a book and payments: what needs agreement, what each call of a run cost, and the journal
-//! of a run for other programs.
+//! What the second program shows of a book and payments: what needs agreement, what each call of a run cost, which replies
+//! each call has in some order of all calls, and the journal of a run for other programs.
 //!
 //! `show_all` does what the words ask, from the bytes of the files to the bytes of the text. What it does with words, files,
 //! streams and refusals is what the first program does, by the same calls.

@@ -17,7 +17,8 @@ use at_workers::Gate;
 use std::alloc::Global;
 use std::thread::Threads;
 
-const USAGE: &str = "usage: kinds BOOK PAY... | costs BOOK PAY... | ledger BOOK PAY...\n";
+const USAGE: &str =
+    "usage: kinds BOOK PAY... | costs BOOK PAY... | orders BOOK PAY... | ledger BOOK PAY...\n";
 
 /// Whether the words have no form.
 fn is_formless(status: &Status) -> bool
@@ -36,7 +37,8 @@ fn is_formless(status: &Status) -> bool
         | Status::BadSchedule { .. }
         | Status::BadOrder { .. }
         | Status::BadMessages { .. }
-        | Status::NotLegal { .. } => false,
+        | Status::NotLegal { .. }
+        | Status::TooManyOrders => false,
     }
 }
 
@@ -74,8 +76,8 @@ fn tell_unless_done<E: Sink>(err: &mut E, status: &Status)
 /// words ask to be shown to `out`, or the line of the first refusal to `err`. The whole text is made before the first
 /// write. `words` are those after the program's name. `costs` and `ledger` make the calls of all processes at once on one
 /// ledger, by a thread for each process where threads can be had; the gate is told of each call, and under `Done` and a
-/// write fault that ledger is left, closed, in `kept`. The work grows with the bytes of the files and the calls, and for
-/// `kinds` by a logarithm of the accounts more.
+/// write fault that ledger is left, closed, in `kept`. The work grows with the bytes of the files and the calls, for
+/// `kinds` by a logarithm of the accounts more, and for `orders` with the stages that the orders go through.
 pub fn show_all<R: Threads + Sync, F: Shelf, O: Sink, E: Sink, G: Gate + Sync>(
     rt: &R,
     alloc: Global,

@@ -1,8 +1,9 @@
 //! What each view shows of what was loaded.
 
-ghost use Rattle.std.specs.Prelude.{◌≡◌, All, IfOk, length};
+ghost use Rattle.std.specs.Prelude.{◌≡◌, All, Err, IfOk, length};
 ghost use Rattle.at_files.specs.Files.{IsPlayable, contents_of};
 ghost use Rattle.at_files.specs.Names.{AreNamesOf};
+ghost use Rattle.at_shows.specs.Refused.{HasTooMany};
 ghost use Rattle.at_shows.specs.Views.{Shows};
 
 use crate::words::View;
@@ -12,6 +13,8 @@ use at_files::Names;
 use at_hledger::ledger;
 use at_kinds::kinds;
 use at_ledger::{Book, Call};
+use at_orders::{OrdersError, orders};
+use at_replies::orders_text;
 use at_workers::Gate;
 use std::alloc::{AllocError, Global};
 use std::thread::Threads;
@@ -58,6 +61,27 @@ fn costs_shown<R: Threads + Sync, G: Gate + Sync>(
     })
 }
 
+/// The replies that each call has in some order of all calls. Nothing is run.
+fn orders_shown(
+    alloc: Global,
+    book: &Book,
+    names: &Names,
+    files: &[Vec<Call>],
+) -> Result<Printed, OrdersError>
+    requires names { AreNamesOf book.now names.now }
+    requires count { length files.now ≡ book.now.processes }
+    requires known { All (IsPlayable (length book.now.accounts)) (contents_of files.now) }
+    ensures shown { IfOk result (λ p. Shows View.Orders
+        (record { book = book.now; names = names.now; files = contents_of files.now })
+        p.closed p.text.items) }
+    ensures many { result ≡ Err OrdersError.TooManyOrders → HasTooMany View.Orders
+        (record { book = book.now; names = names.now; files = contents_of files.now }) }
+{
+    let answers = orders(alloc, book, files)?;
+    let text = orders_text(alloc, book, names, files, answers.as_slice())?;
+    Ok(Printed { text, closed: None })
+}
+
 /// The journal of a run of the files, all of them at once.
 fn ledger_shown<R: Threads + Sync, G: Gate + Sync>(
     rt: &R,
@@ -91,17 +115,20 @@ pub(crate) fn view_shown<R: Threads + Sync, G: Gate + Sync>(
     names: &Names,
     files: Vec<Vec<Call>>,
     gate: &G,
-) -> Result<Printed, AllocError>
+) -> Result<Printed, OrdersError>
     requires names { AreNamesOf book.now names.now }
     requires count { length files.items ≡ book.now.processes }
     requires known { All (IsPlayable (length book.now.accounts)) (contents_of files.items) }
-    ensures { IfOk result (λ p. Shows view
+    ensures shown { IfOk result (λ p. Shows view
         (record { book = book.now; names = names.now; files = contents_of files.items })
         p.closed p.text.items) }
+    ensures many { result ≡ Err OrdersError.TooManyOrders → HasTooMany view
+        (record { book = book.now; names = names.now; files = contents_of files.items }) }
 {
     match view {
-        View::Kinds => kinds_shown(alloc, book, names, files.as_slice()),
-        View::Costs => costs_shown(rt, alloc, book, names, files, gate),
-        View::Ledger => ledger_shown(rt, alloc, book, names, files, gate),
+        View::Kinds => Ok(kinds_shown(alloc, book, names, files.as_slice())?),
+        View::Costs => Ok(costs_shown(rt, alloc, book, names, files, gate)?),
+        View::Orders => orders_shown(alloc, book, names, files.as_slice()),
+        View::Ledger => Ok(ledger_shown(rt, alloc, book, names, files, gate)?),
     }
 }

@@ -13,6 +13,8 @@ pub enum View {
     Kinds,
     /// What each call of a run cost, beside the most that it may cost.
     Costs,
+    /// The replies that each call has in some order of all calls. Nothing is run.
+    Orders,
     /// The journal of a run, for hledger and ledger-cli.
     Ledger,
 }
@@ -50,6 +52,7 @@ pub fn shown_by(words: &[String]) -> Option<Asked<'_>>
     match command.as_str() {
         "kinds" => view_asked(View::Kinds, words),
         "costs" => view_asked(View::Costs, words),
+        "orders" => view_asked(View::Orders, words),
         "ledger" => view_asked(View::Ledger, words),
         _ => None,
     }

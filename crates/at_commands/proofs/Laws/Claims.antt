@@ -2,7 +2,7 @@
 use Rattle.std.proofs.Common.{◌≡◌, ◌≢◌, ℕ, List, Bool, true, Result, Ok, Err, IfErr, ◌⊎◌, inl, inr, refl}
 use Rattle.at_io.specs.Faults.{Rose}
 use Rattle.at_report.specs.declared.status.Status.{Status}
-use Rattle.at_report.specs.declared.status.Status.TheVariants.{Done, Usage, BadBook, BadPayments, ReadFault, WriteFault, NoMemory, TooLong, BadSchedule, BadOrder, BadMessages, NotLegal}
+use Rattle.at_report.specs.declared.status.Status.TheVariants.{Done, Usage, BadBook, BadPayments, ReadFault, WriteFault, NoMemory, TooLong, BadSchedule, BadOrder, BadMessages, NotLegal, TooManyOrders}
 use Rattle.at_report.specs.declared.status.UsageFault.TheVariants as usage
 use Rattle.at_loading.specs.Words.{Verifying}
 use Rattle.at_loading.specs.Loading.{Files, Loaded, fetched, loaded}
@@ -93,6 +93,7 @@ AnswersVerify-exact tells expected before now (Usage usage.Words) told shelf ref
 AnswersVerify-exact tells expected before now (BadBook bad) told shelf refuses right = rw ((refuses (λ e. cc) (λ e. cc)).1 told) (inr refl)
 AnswersVerify-exact tells expected before now (BadPayments process bad) told shelf refuses right = rw ((refuses (λ e. cc) (λ e. cc)).1 told) (inr refl)
 AnswersVerify-exact tells expected before now (TooLong file) told shelf refuses right = rw ((refuses (λ e. cc) (λ e. cc)).1 told) (inr refl)
+AnswersVerify-exact tells expected before now TooManyOrders told shelf refuses right = absurd (refuses (λ e. cc) (λ e. cc))
 AnswersVerify-exact tells expected before now (BadSchedule line why) told shelf refuses right = absurd (refuses (λ e. cc) (λ e. cc))
 AnswersVerify-exact tells expected before now (BadOrder line why) told shelf refuses right = absurd (refuses (λ e. cc) (λ e. cc))
 AnswersVerify-exact tells expected before now (BadMessages process line why) told shelf refuses right = absurd (refuses (λ e. cc) (λ e. cc))

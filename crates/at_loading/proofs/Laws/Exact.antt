@@ -1,7 +1,7 @@
 -- What is answered where no fault of the shelf is counted.
 use Rattle.std.proofs.Common.{◌≡◌, ◌≢◌, ◌⊎◌, ℕ, Bool, true, Result, Ok, Err, inl, inr, refl}
 use Rattle.at_report.specs.declared.status.Status.{Status}
-use Rattle.at_report.specs.declared.status.Status.TheVariants.{Done, Usage, BadBook, BadPayments, ReadFault, WriteFault, NoMemory, TooLong, BadSchedule, BadOrder, BadMessages, NotLegal}
+use Rattle.at_report.specs.declared.status.Status.TheVariants.{Done, Usage, BadBook, BadPayments, ReadFault, WriteFault, NoMemory, TooLong, BadSchedule, BadOrder, BadMessages, NotLegal, TooManyOrders}
 use Rattle.at_report.specs.declared.status.UsageFault.TheVariants as usage
 use Rattle.at_loading.specs.Faults.{Answers, IsFaultless, IsUnread, IsWritten, Kind, MayRefuseOf}
 use Rattle.at_loading.specs.Faults.Kind.{payments, scheduled, messages}
@@ -24,6 +24,7 @@ refusal-brought kind tells expected before now (Usage usage.Words) told faultles
 refusal-brought kind tells expected before now Done told faultless h = absurd h
 refusal-brought kind tells expected before now WriteFault told faultless h = absurd h
 refusal-brought kind tells expected before now (NotLegal line) told faultless h = absurd h
+refusal-brought kind tells expected before now TooManyOrders told faultless h = absurd h
 refusal-brought payments tells expected before now (BadPayments process bad) told faultless h = inr (h.1 told)
 refusal-brought scheduled tells expected before now (BadPayments process bad) told faultless h = inr (h.1 told)
 refusal-brought messages tells expected before now (BadPayments process bad) told faultless h = absurd h

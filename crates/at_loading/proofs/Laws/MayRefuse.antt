@@ -1,7 +1,7 @@
 -- When a refusal of a part is one of the whole.
 use Rattle.std.proofs.Common.{◌≡◌, ◌≢◌, ◌+◌, ◌-◌, ◌^◌, ◌<◌, arith, refl, ℕ, Bool, true, Result, Ok, Err, ◌⊎◌, inl, inr}
 use Rattle.at_report.specs.declared.status.Status.{Status}
-use Rattle.at_report.specs.declared.status.Status.TheVariants.{Done, Usage, BadBook, BadPayments, ReadFault, WriteFault, NoMemory, TooLong, BadSchedule, BadOrder, BadMessages, NotLegal}
+use Rattle.at_report.specs.declared.status.Status.TheVariants.{Done, Usage, BadBook, BadPayments, ReadFault, WriteFault, NoMemory, TooLong, BadSchedule, BadOrder, BadMessages, NotLegal, TooManyOrders}
 use Rattle.at_report.specs.declared.status.UsageFault.TheVariants as usage
 use Rattle.at_loading.specs.Faults.{HasFileNumbers, HasFurtherNumbers, IsBrought, IsFaultless, IsUnfetched, IsUnread, Kind, MayRefuseOf, RefusesFile}
 use Rattle.at_loading.specs.Faults.Kind.{payments, scheduled, messages}
@@ -45,6 +45,7 @@ MayRefuse-whole messages tells part whole before now (BadMessages process line w
 MayRefuse-whole kind tells part whole before now Done leads h = absurd h
 MayRefuse-whole kind tells part whole before now WriteFault leads h = absurd h
 MayRefuse-whole kind tells part whole before now (NotLegal line) leads h = absurd h
+MayRefuse-whole kind tells part whole before now TooManyOrders leads h = absurd h
 
 -- a refusal of a process's file is one of loading
 pub MayRefuse-file : {A B : Type 0} (kind : Kind) (tells : Bool) (given : Result A Status) (whole : Result B Status) (process before now : ℕ) (refusal : Status)
@@ -66,6 +67,7 @@ MayRefuse-file kind tells given whole process before now WriteFault kept leads h
 MayRefuse-file kind tells given whole process before now (BadSchedule line why) kept leads h = absurd h
 MayRefuse-file kind tells given whole process before now (BadOrder line why) kept leads h = absurd h
 MayRefuse-file kind tells given whole process before now (NotLegal line) kept leads h = absurd h
+MayRefuse-file kind tells given whole process before now TooManyOrders kept leads h = absurd h
 
 -- the numbers of a refusal before the further file, and of a further file that was not fetched
 pub HasFurtherNumbers-loading : (files : ℕ) (refusal : Status) → HasFileNumbers files refusal → HasFurtherNumbers files refusal
@@ -132,3 +134,4 @@ MayRefuse-loaded scheduled tells expected l before now out_before out_now (BadMe
 MayRefuse-loaded messages tells expected l before now out_before out_now (BadMessages process line why) told is shelf out writes refuses =
     absurd (IsBrought-loaded tells expected l before now (BadMessages process line why) told is (refuses (λ e. cc) (λ e. cc)))
 MayRefuse-loaded kind tells expected l before now out_before out_now (NotLegal line) told is shelf out writes refuses = absurd (refuses (λ e. cc) (λ e. cc))
+MayRefuse-loaded kind tells expected l before now out_before out_now TooManyOrders told is shelf out writes refuses = absurd (refuses (λ e. cc) (λ e. cc))

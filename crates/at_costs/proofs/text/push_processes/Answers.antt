@@ -6,7 +6,7 @@ use Rattle.at_log.specs.Receipts.{lists_in}
 use Rattle.at_report.specs.Lines.{Words}
 use Rattle.at_report.specs.Records.{records_text}
 use Rattle.at_costs.specs.CostsText.{process_costs}
-use Rattle.at_costs.proofs.TextLaws.{records_text-flat_map_more}
+use Rattle.at_report.proofs.RecordLaws.{records_text-flat_map_more}
 use Rattle.at_costs.proofs.text.push_processes.Goals as goal
 use Rattle.at_workers.specs.Costs.{CostTerms}
 

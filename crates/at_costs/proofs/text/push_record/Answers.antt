@@ -1,11 +1,8 @@
 use Rattle.std.proofs.Common.{[], ◌∷◌, decimal}
-use Rattle.at_ledger.specs.Call.{first_account}
-use Rattle.at_files.specs.Names.{account_name}
-use Rattle.at_kinds.specs.Kinds.{kind_of}
+use Rattle.at_kinds.specs.CallFields.{call_fields}
 use Rattle.at_report.specs.Lines.{Words, reply_word}
+use Rattle.at_report.proofs.RecordLaws.{record_text-three}
 use Rattle.at_costs.specs.Bounds.{most_exchanges, most_steps}
-use Rattle.at_costs.specs.CostsText.{call_word, kind_word}
-use Rattle.at_costs.proofs.TextLaws.{record_text-three}
 use Rattle.at_costs.proofs.text.push_record.Goals as goal
 
 pub returns : goal.returns
@@ -13,8 +10,8 @@ returns c =
     let b = c.args.book.now in
     let r = c.args.receipt.now in
     let cost = c.args.cost.now in
-    let called : Words = call_word r.call ∷ account_name c.args.names.now (first_account r.call) ∷ kind_word (kind_of b c.args.process r.call) ∷ reply_word r.reply ∷ [] in
+    let called : Words = call_fields b c.args.names.now c.args.process r.call in
     let costs : Words =
-    decimal cost.steps ∷ decimal cost.exchanges ∷ decimal cost.new_records ∷ decimal (most_steps b r cost.new_records) ∷ decimal (most_exchanges b r) ∷ [] in
-    rw (c.in_ok-push.ensures.items, c.in_ok-push_cost.ensures, c.in_ok-push_call.ensures, c.in_ok-push_number_field.ensures, c.in_ok-extend_from_slice.ensures.items, c.process.ensures.name)
+    reply_word r.reply ∷ decimal cost.steps ∷ decimal cost.exchanges ∷ decimal cost.new_records ∷ decimal (most_steps b r cost.new_records) ∷ decimal (most_exchanges b r) ∷ [] in
+    rw (c.in_ok-push.ensures.items, c.in_ok-push_cost.ensures, c.in_ok-push_call_fields.ensures, c.in_ok-push_number_field.ensures, c.in_ok-extend_from_slice.ensures.items, c.process.ensures.name)
     (record_text-three c.args.out.now.items _ (decimal c.args.number ∷ []) called costs)

@@ -2,16 +2,15 @@ use Rattle.std.proofs.Common.{◌≡◌, ◌∙◌, ℕ, true, Ok, List, Option,
 use Rattle.std.specs.Result.{IfOk}
 use Rattle.std.proofs.lemmas.List.{length-map}
 use Rattle.at_object.specs.Closings.{ClosedTerms}
-use Rattle.at_loading.specs.Faults.{HasFileNumbers, IsWritten, MayRefuse}
-use Rattle.at_loading.specs.Faults.Kind.{payments}
+use Rattle.at_loading.specs.Faults.{HasFileNumbers, IsWritten}
 use Rattle.at_loading.specs.Loading.{Loaded, MayReach, loaded}
 use Rattle.at_loading.specs.Words.{form_shown}
-use Rattle.at_loading.proofs.Laws.Exact.{MayRefuse-exact}
-use Rattle.at_loading.proofs.Laws.MayRefuse.{MayRefuse-loaded}
 use Rattle.at_loading.proofs.Laws.SpelledLoaded.{loaded-Spelled}
 use Rattle.at_shows.specs.Views.{ShowsRead}
 use Rattle.at_commands.specs.declared.ending.Printed.{Printed}
-use Rattle.at_commands.proofs.Endings.{Ends-faults, Ends-kept, Ends-refusal, LeavesOf-Ends, Refuses-loading, IfOk-kept, none-kept}
+use Rattle.at_commands.proofs.Endings.{Ends-faults, Ends-kept, Ends-refusal, LeavesOf-Ends, IfOk-kept, none-kept}
+use Rattle.at_shows.specs.Refused.{MayRefuseView}
+use Rattle.at_shows.proofs.Refusing.{AnswersView-exact, MayRefuseView-loaded, Refuses-view}
 use Rattle.at_shows.proofs.answering.answer_view.Goals as goal
 
 abbrev text_of : Printed → List ℕ
@@ -28,11 +27,11 @@ returns-clause-answered g c =
     let made = c.view_printed-made.result in
     let does = c.view_printed-made.ensures in
     let ends = c.end_keeping.ensures.ends in
-    let never = Refuses-loading payments tells (loaded files asked) before now in
+    let never = Refuses-view view tells (loaded files asked) before now in
     let kept = c.end_keeping.new.kept in
     let printed : IfOk made (λ p. ShowsRead view tells files asked kept p.text.items) =
     IfOk-kept (λ (k : Option ClosedTerms) (p : Printed). ShowsRead view tells files asked k p.text.items) (λ p. p.closed) made kept c.end_keeping.ensures.kept does.printed in
-    let left = LeavesOf-Ends text_of (λ text. ShowsRead view tells files asked kept text) (λ refusal. MayRefuse tells (loaded files asked) before now refusal) (λ file. MayReach tells files asked file) (HasFileNumbers (length asked.payments)) true made _ ends never tt tt (λ _. printed) does.err does.reached
+    let left = LeavesOf-Ends text_of (λ text. ShowsRead view tells files asked kept text) (λ refusal. MayRefuseView view tells (loaded files asked) before now refusal) (λ file. MayReach tells files asked file) (HasFileNumbers (length asked.payments)) true made _ ends never tt tt (λ _. printed) does.err does.reached
     (rw (length-map c.args.form.now.payments.now string_bytes) does.numbered) in
     let loads : tells ≡ true → IsWritten c.end_keeping.result → (l : Loaded) × (loaded files asked ≡ Ok l) = λ told written. let ran = (left.printed refl written).printed in (ran.what, ran.read told) in
     record {
@@ -40,9 +39,9 @@ returns-clause-answered g c =
       prefix = λ is. left.prefix is refl;
       ran = λ written. let p = left.printed refl written in (p.text, p.printed);
       unrun = λ is. none-kept _ (λ p. p.closed) made _ kept c.end_keeping.ensures.kept c.end_keeping.ensures.untouched c.requires (does.unrun is);
-      complete = λ what told spells shelf out. MayRefuse-loaded payments _ (loaded files asked) what _ _ _ _ _ told (loaded-Spelled files asked what spells) shelf out (λ is. (Ends-faults text_of _ made _ ends never does.err (inr is)).1.fault is) left.refusal;
+      complete = λ what told spells shelf out. MayRefuseView-loaded view _ (loaded files asked) what _ _ _ _ _ told (loaded-Spelled files asked what spells) shelf out (λ is. (Ends-faults text_of _ made _ ends never does.err (inr is)).1.fault is) left.refusal;
       refusal = left.refusal;
-      exact = λ told faultless. MayRefuse-exact payments _ (loaded files asked) _ _ _ told faultless loads left.refusal;
+      exact = λ told faultless. AnswersView-exact view _ (loaded files asked) _ _ _ told faultless loads left.refusal;
       reached = left.reached;
       numbered = left.numbered;
       formed = left.formed;
@@ -51,7 +50,7 @@ returns-clause-answered g c =
 pub returns-clause-done_kept : goal.returns-clause-done_kept
 returns-clause-done_kept g c is =
     let does = c.view_printed-made.ensures in
-    let never = Refuses-loading payments (g.F.Shelf.tells c.args.shelf.now) (loaded (g.F.Shelf.file c.args.shelf.now) (form_shown c.args.form.now)) (g.F.Shelf.faults c.args.shelf.now) (g.F.Shelf.faults c.view_printed-made.new.shelf) in (
+    let never = Refuses-view c.args.view (g.F.Shelf.tells c.args.shelf.now) (loaded (g.F.Shelf.file c.args.shelf.now) (form_shown c.args.form.now)) (g.F.Shelf.faults c.args.shelf.now) (g.F.Shelf.faults c.view_printed-made.new.shelf) in (
       Ends-kept text_of _ _ c.view_printed-made.result _ c.end_keeping.ensures.ends never does.err does.kept (inl is),
       (Ends-faults text_of _ c.view_printed-made.result _ c.end_keeping.ensures.ends never does.err (inl is)).1.kept is,
     )
@@ -59,7 +58,7 @@ returns-clause-done_kept g c is =
 pub returns-clause-write_fault : goal.returns-clause-write_fault
 returns-clause-write_fault g c is =
     let does = c.view_printed-made.ensures in
-    let never = Refuses-loading payments (g.F.Shelf.tells c.args.shelf.now) (loaded (g.F.Shelf.file c.args.shelf.now) (form_shown c.args.form.now)) (g.F.Shelf.faults c.args.shelf.now) (g.F.Shelf.faults c.view_printed-made.new.shelf) in (
+    let never = Refuses-view c.args.view (g.F.Shelf.tells c.args.shelf.now) (loaded (g.F.Shelf.file c.args.shelf.now) (form_shown c.args.form.now)) (g.F.Shelf.faults c.args.shelf.now) (g.F.Shelf.faults c.view_printed-made.new.shelf) in (
       (Ends-faults text_of _ c.view_printed-made.result _ c.end_keeping.ensures.ends never does.err (inr is)).1.fault is,
       Ends-kept text_of _ _ c.view_printed-made.result _ c.end_keeping.ensures.ends never does.err does.kept (inr is),
     )

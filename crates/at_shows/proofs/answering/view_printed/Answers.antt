@@ -18,5 +18,5 @@ returns-in-Ok-view_shown-clause-printed g c =
       count = length-contents_of c.in-Ok.loaded.files.items ∙ (loads.count ∙ (sym loads.given ∙ sym (length-map c.args.form.now.payments.now string_bytes)));
       read = loads.ok;
       spelled = loads.spelled;
-      shown = c.in-Ok-view_shown.ensures;
+      shown = c.in-Ok-view_shown.ensures.shown;
     }

@@ -1,0 +1,2 @@
+pub mod OrdersText
+pub mod Parted
