@@ -1,3 +1,7 @@
+pub mod Placing
+pub mod Keeping
+pub mod Counting
+pub mod Requests
 pub mod Reaching
 pub mod Hearing
 pub mod Walking

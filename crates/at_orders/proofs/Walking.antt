@@ -8,7 +8,6 @@ use Rattle.std.proofs.lemmas.Map.Keys.{apart_from_distinct}
 use Rattle.std.proofs.lemmas.List.{get_or-map, length-map, get_or-append-add, get_or_append_left, get_or-set_other, get_or-set_same, length-append, length-set, append_assoc, append-nil}
 use Rattle.std.proofs.Math.Seq.{get_or-append_seam}
 use Rattle.std.proofs.lemmas.List.Elements.{All-append, All-contains, All-map, All-push, All-weaker, Contains-append_left, Contains-append_right, Contains-push, Contains-push_cases}
-use Rattle.at_ledger.specs.Book.{BookTerms}
 use Rattle.at_ledger.specs.State.{LedgerState, opening_state, step}
 use Rattle.at_ledger.specs.declared.call.Call.{Call}
 use Rattle.at_ledger.specs.declared.call.Line.{Line}
@@ -17,7 +16,7 @@ use Rattle.at_verify.specs.Walk.{IsNextOfProcess, with_made}
 use Rattle.at_verify.proofs.Continuing.{none_made}
 use Rattle.at_orders.specs.Orders.{AreAnswers, Comes}
 use Rattle.at_orders.specs.Replies.{AreJust, no_replies, replies_with}
-use Rattle.at_orders.specs.Stages.{HasMoreStages, IsStage, StageTerms, first_stage, ledger_at, stage_after, stage_at}
+use Rattle.at_orders.specs.Stages.{GroundTerms, HasMoreStages, IsStage, StageTerms, first_stage, ledger_at, stage_after, stage_at}
 use Rattle.at_orders.specs.Walk.{AreAllHeard, AreAllStages, AreApart, AreHeard, AreHeardInPart, Grows, HasAllNext, HasMoreNext, HasNext, HasStage, IsHeard, IsNextLevel, IsSeen, IsWalkedTo}
 use Rattle.at_orders.specs.declared.replies.Replies.{Replies}
 use Rattle.at_orders.specs.declared.stage.Stage.{Stage}
@@ -37,43 +36,44 @@ grows-trans xs ys zs a b = record {
 pub grows-length : (xs ys : List Stage) → Grows xs ys → length xs ≤ length ys
 grows-length xs ys grows = let same = ap (length {A = Stage}) grows.is in let size = length-append xs grows.more in omega arith
 
-has-grows : (b : BookTerms) (xs ys : List Stage) (t : StageTerms) → Grows xs ys → HasStage b xs t → HasStage b ys t
-has-grows b xs ys t grows has = record {
+has-grows : (g : GroundTerms) (xs ys : List Stage) (t : StageTerms) → Grows xs ys → HasStage g xs t → HasStage g ys t
+has-grows g xs ys t grows has = record {
   one = has.one;
   there = subst (λ (ws : List Stage). Contains ws has.one) (sym grows.is) (Contains-append_left xs grows.more has.one has.there);
   is = has.is;
 }
 
-pub next-grows : (b : BookTerms) (files : List (List Call)) (xs ys : List Stage) (s : Stage) (p : ℕ) → Grows xs ys → HasNext b files xs s p → HasNext b files ys s p
-next-grows b files xs ys s p grows next call is = has-grows b xs ys (stage_after (stage_at b s) p call) grows (next call is)
+pub next-grows : (g : GroundTerms) (xs ys : List Stage) (s : Stage) (p : ℕ) → Grows xs ys → HasNext g xs s p → HasNext g ys s p
+next-grows g xs ys s p grows next call is = has-grows g xs ys (stage_after (stage_at g s) p call) grows (next call is)
 
-pub all-next-grows : (b : BookTerms) (files : List (List Call)) (xs ys stages : List Stage) → Grows xs ys → All (HasAllNext b files xs) stages → All (HasAllNext b files ys) stages
-all-next-grows b files xs ys stages grows looked =
-    All-weaker (HasAllNext b files xs) (HasAllNext b files ys) (λ s next p known. next-grows b files xs ys s p grows (next p known)) stages looked
+pub all-next-grows : (g : GroundTerms) (xs ys stages : List Stage) → Grows xs ys → All (HasAllNext g xs) stages → All (HasAllNext g ys) stages
+all-next-grows g xs ys stages grows looked =
+    All-weaker (HasAllNext g xs) (HasAllNext g ys) (λ s next p known. next-grows g xs ys s p grows (next p known)) stages looked
 
 -- one more process
-pub next-more : (b : BookTerms) (files : List (List Call)) (xs ys : List Stage) (s : Stage) (process : ℕ) → Grows xs ys
-    → ((p : ℕ) → p < process → HasNext b files xs s p) → HasNext b files ys s process → (p : ℕ) → p < process + 1 → HasNext b files ys s p
-next-more b files xs ys s process grows looked next p less =
+pub next-more : (g : GroundTerms) (xs ys : List Stage) (s : Stage) (process : ℕ) → Grows xs ys
+    → ((p : ℕ) → p < process → HasNext g xs s p) → HasNext g ys s process → (p : ℕ) → p < process + 1 → HasNext g ys s p
+next-more g xs ys s process grows looked next p less =
     let cases : (p < process) ⊎ (p ≡ process) = grind arith in
     ⊎_elim
-    (λ before. next-grows b files xs ys s p grows (looked p before))
-    (λ same. subst (λ (q : ℕ). HasNext b files ys s q) (sym same) next)
+    (λ before. next-grows g xs ys s p grows (looked p before))
+    (λ same. subst (λ (q : ℕ). HasNext g ys s q) (sym same) next)
     cases
 
 -- stages that are told apart
-pub apart-distinct : (b : BookTerms) (eq : Stage → Stage → Bool) (xs : List Stage) → ((x y : Stage) → stage_at b x ≡ stage_at b y → eq x y ≡ true) → IsDistinct eq xs → AreApart b xs
-apart-distinct b eq xs same distinct i j s less within equal =
+pub apart-distinct : (g : GroundTerms) (eq : Stage → Stage → Bool) (xs : List Stage) → ((x y : Stage) → IsSeen g x → IsSeen g y → stage_at g x ≡ stage_at g y → eq x y ≡ true)
+    → All (IsSeen g) xs → IsDistinct eq xs → AreApart g xs
+apart-distinct g eq xs same seen distinct i j s less within equal =
     let differ = apart_from_distinct eq xs i j s distinct less within in
-    true≢false (sym (same (get_or xs i s) (get_or xs j s) equal) ∙ differ)
+    true≢false (sym (same (get_or xs i s) (get_or xs j s) (seen i s (omega arith)) (seen j s within) equal) ∙ differ)
 
-sum-same : (b : BookTerms) (x y : Stage) → stage_at b x ≡ stage_at b y → sum x.made.items ≡ sum y.made.items
-sum-same b x y is = ap (λ (t : StageTerms). sum t.made) is
+sum-same : (g : GroundTerms) (x y : Stage) → stage_at g x ≡ stage_at g y → sum x.made.items ≡ sum y.made.items
+sum-same g x y is = ap (λ (t : StageTerms). sum t.made) is
 
 -- stages of two parts, told apart by how many calls were made
-apart-append : (b : BookTerms) (xs ys : List Stage) (made : ℕ) → AreApart b xs → AreApart b ys → All (λ (s : Stage). sum s.made.items < made) xs
-    → All (λ (s : Stage). sum s.made.items ≡ made) ys → AreApart b (xs ++ ys)
-apart-append b xs ys made first second fewer here i j s less within equal = by (cases_lt i (length xs)) (cases_lt j (length xs))
+apart-append : (g : GroundTerms) (xs ys : List Stage) (made : ℕ) → AreApart g xs → AreApart g ys → All (λ (s : Stage). sum s.made.items < made) xs
+    → All (λ (s : Stage). sum s.made.items ≡ made) ys → AreApart g (xs ++ ys)
+apart-append g xs ys made first second fewer here i j s less within equal = by (cases_lt i (length xs)) (cases_lt j (length xs))
   where
     size : length (xs ++ ys) ≡ length xs + length ys
     size = length-append xs ys
@@ -85,11 +85,11 @@ apart-append b xs ys made first second fewer here i j s less within equal = by (
     by (inl a) (inl c) =
         let x = get_or_append_left xs ys s i a in
         let y = get_or_append_left xs ys s j c in
-        first i j s less c (ap (stage_at b) (sym x) ∙ (equal ∙ ap (stage_at b) y))
+        first i j s less c (ap (stage_at g) (sym x) ∙ (equal ∙ ap (stage_at g) y))
     by (inl a) (inr c) =
         let x = get_or_append_left xs ys s i a in
         let y = right j c in
-        let same = sum-same b (get_or xs i s) (get_or ys (j - length xs) s) (ap (stage_at b) (sym x) ∙ (equal ∙ ap (stage_at b) y)) in
+        let same = sum-same g (get_or xs i s) (get_or ys (j - length xs) s) (ap (stage_at g) (sym x) ∙ (equal ∙ ap (stage_at g) y)) in
         let low = fewer i s a in
         let there = here (j - length xs) s (omega (arith, size)) in
         omega arith
@@ -97,24 +97,24 @@ apart-append b xs ys made first second fewer here i j s less within equal = by (
     by (inr a) (inr c) =
         let x = right i a in
         let y = right j c in
-        second (i - length xs) (j - length xs) s (omega arith) (omega (arith, size)) (ap (stage_at b) (sym x) ∙ (equal ∙ ap (stage_at b) y))
+        second (i - length xs) (j - length xs) s (omega arith) (omega (arith, size)) (ap (stage_at g) (sym x) ∙ (equal ∙ ap (stage_at g) y))
 
 grows-append : (xs ys : List Stage) → Grows xs (xs ++ ys)
 grows-append xs ys = record { more = ys; is = refl }
 
 -- the next level
-pub walked-next : (b : BookTerms) (files : List (List Call)) (past level next : List Stage) (made : ℕ) → IsWalkedTo b files past level made → IsNextLevel b files made level next
-    → IsWalkedTo b files (past ++ level) next (made + 1)
-walked-next b files past level next made walked later = record {
+pub walked-next : (g : GroundTerms) (past level next : List Stage) (made : ℕ) → IsWalkedTo g past level made → IsNextLevel g made level next
+    → IsWalkedTo g (past ++ level) next (made + 1)
+walked-next g past level next made walked later = record {
   stages = later.stages;
-  are = All-append (IsSeen b files) past level walked.are walked.stages.are;
+  are = All-append (IsSeen g) past level walked.are walked.stages.are;
   before = before;
-  apart = apart-append b (past ++ level) next (made + 1) walked.apart later.apart before later.stages.counts;
-  begun = has-grows b (past ++ level) ((past ++ level) ++ next) (first_stage b) (grows-append (past ++ level) next) walked.begun;
-  looked = All-append (HasAllNext b files ((past ++ level) ++ next)) past level
-      (all-next-grows b files (past ++ level) ((past ++ level) ++ next) past (grows-append (past ++ level) next) walked.looked)
-      (All-weaker (HasAllNext b files next) (HasAllNext b files ((past ++ level) ++ next))
-      (λ s all p known call is. has-right b (past ++ level) next (stage_after (stage_at b s) p call) (all p known call is)) level later.looked);
+  apart = apart-append g (past ++ level) next (made + 1) walked.apart later.apart before later.stages.counts;
+  begun = has-grows g (past ++ level) ((past ++ level) ++ next) (first_stage g.book) (grows-append (past ++ level) next) walked.begun;
+  looked = All-append (HasAllNext g ((past ++ level) ++ next)) past level
+      (all-next-grows g (past ++ level) ((past ++ level) ++ next) past (grows-append (past ++ level) next) walked.looked)
+      (All-weaker (HasAllNext g next) (HasAllNext g ((past ++ level) ++ next))
+      (λ s all p known call is. has-right g (past ++ level) next (stage_after (stage_at g s) p call) (all p known call is)) level later.looked);
 }
   where
     before : All (λ (s : Stage). sum s.made.items < made + 1) (past ++ level)
@@ -122,48 +122,48 @@ walked-next b files past level next made walked later = record {
         (All-weaker (λ (s : Stage). sum s.made.items < made) (λ (s : Stage). sum s.made.items < made + 1) (λ s less. omega arith) past walked.before)
         (All-weaker (λ (s : Stage). sum s.made.items ≡ made) (λ (s : Stage). sum s.made.items < made + 1) (λ s same. omega arith) level walked.stages.counts)
 
-    has-right : (b : BookTerms) (xs ys : List Stage) (t : StageTerms) → HasStage b ys t → HasStage b (xs ++ ys) t
-    has-right b xs ys t has = record { one = has.one; there = Contains-append_right xs ys has.one has.there; is = has.is }
+    has-right : (g : GroundTerms) (xs ys : List Stage) (t : StageTerms) → HasStage g ys t → HasStage g (xs ++ ys) t
+    has-right g xs ys t has = record { one = has.one; there = Contains-append_right xs ys has.one has.there; is = has.is }
 
 -- one more stage of a level is looked at
-pub looked-more : (b : BookTerms) (files : List (List Call)) (xs ys stages : List Stage) (s : Stage) → Grows xs ys → All (HasAllNext b files xs) stages
-    → HasAllNext b files ys s → All (HasAllNext b files ys) (stages ++ s ∷ [])
-looked-more b files xs ys stages s grows looked here = All-push (HasAllNext b files ys) stages s (all-next-grows b files xs ys stages grows looked) here
+pub looked-more : (g : GroundTerms) (xs ys stages : List Stage) (s : Stage) → Grows xs ys → All (HasAllNext g xs) stages
+    → HasAllNext g ys s → All (HasAllNext g ys) (stages ++ s ∷ [])
+looked-more g xs ys stages s grows looked here = All-push (HasAllNext g ys) stages s (all-next-grows g xs ys stages grows looked) here
 
 -- where every stage that is seen is looked at, lines lead to stages that are seen
-closed : (b : BookTerms) (files : List (List Call)) (seen : List Stage) → length files ≡ b.processes → All (HasAllNext b files seen) seen
-    → (s : LedgerState) (made : List ℕ) (lines : List Line) (t : StageTerms) → HasStage b seen (record { made = made; ledger = s }) → Leads files s made lines t → HasStage b seen t
-closed b files seen count looked s made [] t has leads =
-    let same = leads-nil files s made t leads in
-    subst (HasStage b seen) (stage-ext (record { made = made; ledger = s }) t same.1 same.0) has
-closed b files seen count looked s made (l ∷ lines) t has leads =
-    let parts = leads-cons files s made l lines t leads in
-    let known : l.process < b.processes = let h = parts.0.process in omega arith in
+closed : (g : GroundTerms) (seen : List Stage) → length g.files ≡ g.book.processes → All (HasAllNext g seen) seen
+    → (s : LedgerState) (made : List ℕ) (lines : List Line) (t : StageTerms) → HasStage g seen (record { made = made; ledger = s }) → Leads g.files s made lines t → HasStage g seen t
+closed g seen count looked s made [] t has leads =
+    let same = leads-nil g.files s made t leads in
+    subst (HasStage g seen) (stage-ext (record { made = made; ledger = s }) t same.1 same.0) has
+closed g seen count looked s made (l ∷ lines) t has leads =
+    let parts = leads-cons g.files s made l lines t leads in
+    let known : l.process < g.book.processes = let h = parts.0.process in omega arith in
     let counts : has.one.made.items ≡ made = ap (λ (u : StageTerms). u.made) has.is in
-    let next : slice_get (get_or files l.process []) (get_or has.one.made.items l.process 0) ≡ Some l.call =
-    subst (λ (m : List ℕ). slice_get (get_or files l.process []) (get_or m l.process 0) ≡ Some l.call) (sym counts) parts.0.call in
-    let after = All-contains (HasAllNext b files seen) seen has.one looked has.there l.process known l.call next in
-    closed b files seen count looked (step s l.process l.call).ledger (with_made made l.process) lines t
-    (subst (λ (u : StageTerms). HasStage b seen (stage_after u l.process l.call)) has.is after) parts.1
+    let next : slice_get (get_or g.files l.process []) (get_or has.one.made.items l.process 0) ≡ Some l.call =
+    subst (λ (m : List ℕ). slice_get (get_or g.files l.process []) (get_or m l.process 0) ≡ Some l.call) (sym counts) parts.0.call in
+    let after = All-contains (HasAllNext g seen) seen has.one looked has.there l.process known l.call next in
+    closed g seen count looked (step s l.process l.call).ledger (with_made made l.process) lines t
+    (subst (λ (u : StageTerms). HasStage g seen (stage_after u l.process l.call)) has.is after) parts.1
 
 -- where no stage is left to be looked at, all are seen
-pub walked-all : (b : BookTerms) (files : List (List Call)) (past level : List Stage) (made : ℕ) → length files ≡ b.processes → level ≡ [] → IsWalkedTo b files past level made
-    → AreAllStages b files past
-walked-all b files past level made count none walked = record {
+pub walked-all : (g : GroundTerms) (past level : List Stage) (made : ℕ) → length g.files ≡ g.book.processes → level ≡ [] → IsWalkedTo g past level made
+    → AreAllStages g past
+walked-all g past level made count none walked = record {
   are = walked.are;
   all = λ t stage.
       let whole : past ++ level ≡ past = ap (λ (xs : List Stage). past ++ xs) none ∙ append-nil past in
-      let looked = subst (λ (xs : List Stage). All (HasAllNext b files xs) past) whole walked.looked in
-      let begun = subst (λ (xs : List Stage). HasStage b xs (first_stage b)) whole walked.begun in
-      let reached = stage-reached b files t stage in
-      let first : HasStage b past (record { made = none_made files; ledger = opening_state b }) =
-      subst (λ (n : ℕ). HasStage b past (record { made = replicate n 0; ledger = opening_state b })) (sym count) begun in
-      closed b files past count looked (opening_state b) (none_made files) reached.lines t first reached.leads;
+      let looked = subst (λ (xs : List Stage). All (HasAllNext g xs) past) whole walked.looked in
+      let begun = subst (λ (xs : List Stage). HasStage g xs (first_stage g.book)) whole walked.begun in
+      let reached = stage-reached g.book g.files t stage in
+      let first : HasStage g past (record { made = none_made g.files; ledger = opening_state g.book }) =
+      subst (λ (n : ℕ). HasStage g past (record { made = replicate n 0; ledger = opening_state g.book })) (sym count) begun in
+      closed g past count looked (opening_state g.book) (none_made g.files) reached.lines t first reached.leads;
 }
 
 -- what is heard at one more stage
-heard-old : (b : BookTerms) (file : List Call) (xs : List Stage) (s : Stage) (p i : ℕ) (y : Reply) → IsHeard b file xs p i y → IsHeard b file (xs ++ s ∷ []) p i y
-heard-old b file xs s p i y heard = record {
+heard-old : (g : GroundTerms) (file : List Call) (xs : List Stage) (s : Stage) (p i : ℕ) (y : Reply) → IsHeard g file xs p i y → IsHeard g file (xs ++ s ∷ []) p i y
+heard-old g file xs s p i y heard = record {
   one = heard.one;
   there = Contains-append_left xs (s ∷ []) heard.one heard.there;
   before = heard.before;
@@ -172,9 +172,9 @@ heard-old b file xs s p i y heard = record {
   answered = heard.answered;
 }
 
-heard-cases : (b : BookTerms) (file : List Call) (xs : List Stage) (s : Stage) (p i : ℕ) (y : Reply) → IsHeard b file (xs ++ s ∷ []) p i y
-    → IsHeard b file xs p i y ⊎ IsHeard b file (s ∷ []) p i y
-heard-cases b file xs s p i y heard =
+heard-cases : (g : GroundTerms) (file : List Call) (xs : List Stage) (s : Stage) (p i : ℕ) (y : Reply) → IsHeard g file (xs ++ s ∷ []) p i y
+    → IsHeard g file xs p i y ⊎ IsHeard g file (s ∷ []) p i y
+heard-cases g file xs s p i y heard =
     ⊎_elim
     (λ old. inl (record { one = heard.one; there = old; before = heard.before; call = heard.call; next = heard.next; answered = heard.answered }))
     (λ same. inr (record {
@@ -183,107 +183,107 @@ heard-cases b file xs s p i y heard =
       before = ap (λ (u : Stage). get_or u.made.items p 0) same ∙ heard.before;
       call = heard.call;
       next = heard.next;
-      answered = ap (λ (u : Stage). (step (ledger_at b u) p heard.call).reply) same ∙ heard.answered;
+      answered = ap (λ (u : Stage). (step (ledger_at g u) p heard.call).reply) same ∙ heard.answered;
     }))
     (Contains-push_cases xs s heard.one heard.there)
 
-heard-only : (b : BookTerms) (file : List Call) (s : Stage) (p i : ℕ) (y : Reply) → IsHeard b file (s ∷ []) p i y
-    → (get_or s.made.items p 0 ≡ i) × ((call : Call) → slice_get file i ≡ Some call → y ≡ (step (ledger_at b s) p call).reply)
-heard-only b file s p i y heard =
+heard-only : (g : GroundTerms) (file : List Call) (s : Stage) (p i : ℕ) (y : Reply) → IsHeard g file (s ∷ []) p i y
+    → (get_or s.made.items p 0 ≡ i) × ((call : Call) → slice_get file i ≡ Some call → y ≡ (step (ledger_at g s) p call).reply)
+heard-only g file s p i y heard =
     let same : s ≡ heard.one = ⊎_elim (λ (old : Contains {X = Stage} [] heard.one). absurd (let w = old.1 in omega arith)) (λ e. e) (Contains-push_cases [] s heard.one heard.there) in (
       ap (λ (u : Stage). get_or u.made.items p 0) same ∙ heard.before,
       λ call is.
           let calls : heard.call ≡ call = let next = heard.next in cc in
-          sym heard.answered ∙ (ap (λ (c : Call). (step (ledger_at b heard.one) p c).reply) calls ∙ ap (λ (u : Stage). (step (ledger_at b u) p call).reply) (sym same)),
+          sym heard.answered ∙ (ap (λ (c : Call). (step (ledger_at g heard.one) p c).reply) calls ∙ ap (λ (u : Stage). (step (ledger_at g u) p call).reply) (sym same)),
     )
 
 -- no stage
-pub heard-none : (b : BookTerms) (file : List Call) (p : ℕ) (replies : List Replies) → length replies ≡ length file
-    → ((i : ℕ) (r : Replies) → i < length file → get_or replies i r ≡ no_replies) → AreHeard b file [] p replies
-heard-none b file p replies size none = record {
+pub heard-none : (g : GroundTerms) (file : List Call) (p : ℕ) (replies : List Replies) → length replies ≡ length file
+    → ((i : ℕ) (r : Replies) → i < length file → get_or replies i r ≡ no_replies) → AreHeard g file [] p replies
+heard-none g file p replies size none = record {
   calls = size;
-  each = λ i r within. subst (AreJust (IsHeard b file [] p i)) (sym (none i r within)) (just-none (IsHeard b file [] p i) (λ y heard. let w = heard.there.1 in absurd (omega arith)));
+  each = λ i r within. subst (AreJust (IsHeard g file [] p i)) (sym (none i r within)) (just-none (IsHeard g file [] p i) (λ y heard. let w = heard.there.1 in absurd (omega arith)));
 }
 
 -- a stage before another call, or after the last one
-other-call : (b : BookTerms) (file : List Call) (xs : List Stage) (s : Stage) (p i : ℕ) (r : Replies) → (get_or s.made.items p 0 ≡ i → ⊥)
-    → AreJust (IsHeard b file xs p i) r → AreJust (IsHeard b file (xs ++ s ∷ []) p i) r
-other-call b file xs s p i r other just =
-    just-same (IsHeard b file xs p i) (IsHeard b file (xs ++ s ∷ []) p i) r (λ y heard. heard-old b file xs s p i y heard)
-    (λ y heard. ⊎_elim (λ old. old) (λ only. absurd (other (heard-only b file s p i y only).0)) (heard-cases b file xs s p i y heard)) just
+other-call : (g : GroundTerms) (file : List Call) (xs : List Stage) (s : Stage) (p i : ℕ) (r : Replies) → (get_or s.made.items p 0 ≡ i → ⊥)
+    → AreJust (IsHeard g file xs p i) r → AreJust (IsHeard g file (xs ++ s ∷ []) p i) r
+other-call g file xs s p i r other just =
+    just-same (IsHeard g file xs p i) (IsHeard g file (xs ++ s ∷ []) p i) r (λ y heard. heard-old g file xs s p i y heard)
+    (λ y heard. ⊎_elim (λ old. old) (λ only. absurd (other (heard-only g file s p i y only).0)) (heard-cases g file xs s p i y heard)) just
 
-pub heard-skip : (b : BookTerms) (file : List Call) (xs : List Stage) (s : Stage) (p : ℕ) (replies : List Replies) → length file ≤ get_or s.made.items p 0
-    → AreHeard b file xs p replies → AreHeard b file (xs ++ s ∷ []) p replies
-heard-skip b file xs s p replies past heard = record {
+pub heard-skip : (g : GroundTerms) (file : List Call) (xs : List Stage) (s : Stage) (p : ℕ) (replies : List Replies) → length file ≤ get_or s.made.items p 0
+    → AreHeard g file xs p replies → AreHeard g file (xs ++ s ∷ []) p replies
+heard-skip g file xs s p replies past heard = record {
   calls = heard.calls;
-  each = λ i r within. other-call b file xs s p i (get_or replies i r) (λ same. omega arith) (heard.each i r within);
+  each = λ i r within. other-call g file xs s p i (get_or replies i r) (λ same. omega arith) (heard.each i r within);
 }
 
 -- a stage before a call
-one-more : (b : BookTerms) (file : List Call) (xs : List Stage) (s : Stage) (p k : ℕ) (call : Call) → get_or s.made.items p 0 ≡ k → slice_get file k ≡ Some call
-    → More (IsHeard b file xs p k) (IsHeard b file (xs ++ s ∷ []) p k) (step (ledger_at b s) p call).reply
-one-more b file xs s p k call before next = record {
-  up = λ y heard. heard-old b file xs s p k y heard;
+one-more : (g : GroundTerms) (file : List Call) (xs : List Stage) (s : Stage) (p k : ℕ) (call : Call) → get_or s.made.items p 0 ≡ k → slice_get file k ≡ Some call
+    → More (IsHeard g file xs p k) (IsHeard g file (xs ++ s ∷ []) p k) (step (ledger_at g s) p call).reply
+one-more g file xs s p k call before next = record {
+  up = λ y heard. heard-old g file xs s p k y heard;
   here = record { one = s; there = Contains-push xs s; before = before; call = call; next = next; answered = refl };
-  down = λ y heard. ⊎_elim (λ old. inl old) (λ only. inr ((heard-only b file s p k y only).1 call next)) (heard-cases b file xs s p k y heard);
+  down = λ y heard. ⊎_elim (λ old. inl old) (λ only. inr ((heard-only g file s p k y only).1 call next)) (heard-cases g file xs s p k y heard);
 }
 
-pub heard-push : (b : BookTerms) (file : List Call) (xs : List Stage) (s : Stage) (p k : ℕ) (replies : List Replies) (call : Call) (r : Replies)
-    → get_or s.made.items p 0 ≡ k → slice_get file k ≡ Some call → AreHeard b file xs p replies
-    → AreHeard b file (xs ++ s ∷ []) p (set replies k (replies_with (get_or replies k r) (step (ledger_at b s) p call).reply))
-heard-push b file xs s p k replies call r before next heard = record {
-  calls = length-set replies k (replies_with (get_or replies k r) (step (ledger_at b s) p call).reply) ∙ heard.calls;
+pub heard-push : (g : GroundTerms) (file : List Call) (xs : List Stage) (s : Stage) (p k : ℕ) (replies : List Replies) (call : Call) (r : Replies)
+    → get_or s.made.items p 0 ≡ k → slice_get file k ≡ Some call → AreHeard g file xs p replies
+    → AreHeard g file (xs ++ s ∷ []) p (set replies k (replies_with (get_or replies k r) (step (ledger_at g s) p call).reply))
+heard-push g file xs s p k replies call r before next heard = record {
+  calls = length-set replies k (replies_with (get_or replies k r) (step (ledger_at g s) p call).reply) ∙ heard.calls;
   each = λ i d within. by i d within (k == i) refl;
 }
   where
     by : (i : ℕ) (d : Replies) → i < length file → (t : Bool) → (k == i) ≡ t
-        → AreJust (IsHeard b file (xs ++ s ∷ []) p i) (get_or (set replies k (replies_with (get_or replies k r) (step (ledger_at b s) p call).reply)) i d)
+        → AreJust (IsHeard g file (xs ++ s ∷ []) p i) (get_or (set replies k (replies_with (get_or replies k r) (step (ledger_at g s) p call).reply)) i d)
     by i d within true is =
         let same : k ≡ i = (Decides-eqb k i).0 is in
         let size = heard.calls in
         let inside : k < length replies = omega arith in
-        let x : Reply = (step (ledger_at b s) p call).reply in
+        let x : Reply = (step (ledger_at g s) p call).reply in
         let v : Replies = replies_with (get_or replies k r) x in
         let read : get_or (set replies k v) i d ≡ v = ap (λ (n : ℕ). get_or (set replies k v) n d) (sym same) ∙ get_or-set_same replies k v d inside in
-        let just = just-with (IsHeard b file xs p k) (IsHeard b file (xs ++ s ∷ []) p k) (get_or replies k r) x (heard.each k r (omega arith)) (one-more b file xs s p k call before next) in
-        subst (AreJust (IsHeard b file (xs ++ s ∷ []) p i)) (sym read) (subst (λ (n : ℕ). AreJust (IsHeard b file (xs ++ s ∷ []) p n) v) same just)
+        let just = just-with (IsHeard g file xs p k) (IsHeard g file (xs ++ s ∷ []) p k) (get_or replies k r) x (heard.each k r (omega arith)) (one-more g file xs s p k call before next) in
+        subst (AreJust (IsHeard g file (xs ++ s ∷ []) p i)) (sym read) (subst (λ (n : ℕ). AreJust (IsHeard g file (xs ++ s ∷ []) p n) v) same just)
     by i d within false is =
-        let x : Reply = (step (ledger_at b s) p call).reply in
+        let x : Reply = (step (ledger_at g s) p call).reply in
         let v : Replies = replies_with (get_or replies k r) x in
         let other : k ≡ i → ⊥ = λ same. let wrong = (Decides-eqb k i).1 same in cc in
         let read : get_or (set replies k v) i d ≡ get_or replies i d = get_or-set_other replies k i v d (λ same. other (sym same)) in
-        subst (AreJust (IsHeard b file (xs ++ s ∷ []) p i)) (sym read)
-        (other-call b file xs s p i (get_or replies i d) (λ same. other (sym before ∙ same)) (heard.each i d within))
+        subst (AreJust (IsHeard g file (xs ++ s ∷ []) p i)) (sym read)
+        (other-call g file xs s p i (get_or replies i d) (λ same. other (sym before ∙ same)) (heard.each i d within))
 
 -- what is heard at all stages is what comes
-heard-comes : (b : BookTerms) (files : List (List Call)) (seen : List Stage) (p i : ℕ) (y : Reply) → p < length files → AreAllStages b files seen
-    → IsHeard b (get_or files p []) seen p i y → Comes b files p i y
-heard-comes b files seen p i y known all heard =
+heard-comes : (g : GroundTerms) (seen : List Stage) (p i : ℕ) (y : Reply) → p < length g.files → AreAllStages g seen
+    → IsHeard g (get_or g.files p []) seen p i y → Comes g.book g.files p i y
+heard-comes g seen p i y known all heard =
     let s : Stage = heard.one in
-    let is = (All-contains (IsSeen b files) seen s all.are heard.there).stage in
-    let l : Line = record { process = p; number = get_or s.made.items p 0 + 1; call = heard.call; reply = (step (ledger_at b s) p heard.call).reply } in
-    let next : IsNextOfProcess files (ledger_at b s) s.made.items l = record {
+    let is = (All-contains (IsSeen g) seen s all.are heard.there).stage in
+    let l : Line = record { process = p; number = get_or s.made.items p 0 + 1; call = heard.call; reply = (step (ledger_at g s) p heard.call).reply } in
+    let next : IsNextOfProcess g.files (ledger_at g s) s.made.items l = record {
       process = known;
       number = refl;
-      call = subst (λ (n : ℕ). slice_get (get_or files p []) n ≡ Some heard.call) (sym heard.before) heard.next;
+      call = subst (λ (n : ℕ). slice_get (get_or g.files p []) n ≡ Some heard.call) (sym heard.before) heard.next;
       reply = refl;
     } in
-    let comes = comes-next b files (stage_at b s) l is next in
-    subst (λ (z : Reply). Comes b files p i z) heard.answered (subst (λ (n : ℕ). Comes b files p n l.reply) heard.before comes)
+    let comes = comes-next g.book g.files (stage_at g s) l is next in
+    subst (λ (z : Reply). Comes g.book g.files p i z) heard.answered (subst (λ (n : ℕ). Comes g.book g.files p n l.reply) heard.before comes)
 
-comes-heard : (b : BookTerms) (files : List (List Call)) (seen : List Stage) (p i : ℕ) (y : Reply) → AreAllStages b files seen
-    → Comes b files p i y → IsHeard b (get_or files p []) seen p i y
-comes-heard b files seen p i y all comes =
+comes-heard : (g : GroundTerms) (seen : List Stage) (p i : ℕ) (y : Reply) → AreAllStages g seen
+    → Comes g.book g.files p i y → IsHeard g (get_or g.files p []) seen p i y
+comes-heard g seen p i y all comes =
     let l : Line = comes.line in
-    let at = order-next b files comes.lines l comes.order comes.stands in
+    let at = order-next g.book g.files comes.lines l comes.order comes.stands in
     let has = all.all at.stage at.is in
     let counts : has.one.made.items ≡ at.stage.made = ap (λ (u : StageTerms). u.made) has.is in
-    let ledger : ledger_at b has.one ≡ at.stage.ledger = ap (λ (u : StageTerms). u.ledger) has.is in
+    let ledger : ledger_at g has.one ≡ at.stage.ledger = ap (λ (u : StageTerms). u.ledger) has.is in
     let by = comes.made_by in
     let number : get_or at.stage.made l.process 0 ≡ i = let a = at.next.number in let n = comes.number in omega arith in
     let before : get_or has.one.made.items p 0 ≡ i = ap (λ (m : List ℕ). get_or m p 0) counts ∙ (ap (λ (q : ℕ). get_or at.stage.made q 0) (sym by) ∙ number) in
-    let next : slice_get (get_or files p []) i ≡ Some l.call =
-    subst (λ (q : ℕ). slice_get (get_or files q []) i ≡ Some l.call) by (subst (λ (n : ℕ). slice_get (get_or files l.process []) n ≡ Some l.call) number at.next.call) in
+    let next : slice_get (get_or g.files p []) i ≡ Some l.call =
+    subst (λ (q : ℕ). slice_get (get_or g.files q []) i ≡ Some l.call) by (subst (λ (n : ℕ). slice_get (get_or g.files l.process []) n ≡ Some l.call) number at.next.call) in
     record {
       one = has.one;
       there = has.there;
@@ -296,96 +296,96 @@ comes-heard b files seen p i y all comes =
     }
 
 -- the replies of one more file
-pub all-heard-more : (b : BookTerms) (files : List (List Call)) (stages : List Stage) (answers : List (List Replies)) (p : ℕ) (replies : List Replies)
-    → AreAllHeard b files stages answers p → AreHeard b (get_or files p []) stages p replies → AreAllHeard b files stages (answers ++ replies ∷ []) (p + 1)
-all-heard-more b files stages answers p replies all heard =
+pub all-heard-more : (g : GroundTerms) (stages : List Stage) (answers : List (List Replies)) (p : ℕ) (replies : List Replies)
+    → AreAllHeard g stages answers p → AreHeard g (get_or g.files p []) stages p replies → AreAllHeard g stages (answers ++ replies ∷ []) (p + 1)
+all-heard-more g stages answers p replies all heard =
     let count = all.processes in
     record {
       processes = let size = length-append answers (replies ∷ []) in omega arith;
       each = λ q less.
           let cases : (q < p) ⊎ (p ≡ q) = grind arith in
           ⊎_elim
-          (λ before. subst (AreHeard b (get_or files q []) stages q) (sym (get_or_append_left answers (replies ∷ []) [] q (omega arith))) (all.each q before))
+          (λ before. subst (AreHeard g (get_or g.files q []) stages q) (sym (get_or_append_left answers (replies ∷ []) [] q (omega arith))) (all.each q before))
           (λ same.
           let read : get_or (answers ++ replies ∷ []) q [] ≡ replies = ap (λ (n : ℕ). get_or (answers ++ replies ∷ []) n []) (sym (count ∙ same)) ∙ get_or-append_seam answers replies [] [] in
-          subst (AreHeard b (get_or files q []) stages q) (sym read) (subst (λ (n : ℕ). AreHeard b (get_or files n []) stages n replies) same heard))
+          subst (AreHeard g (get_or g.files q []) stages q) (sym read) (subst (λ (n : ℕ). AreHeard g (get_or g.files n []) stages n replies) same heard))
           cases;
     }
 
 -- the replies of one more file at more stages
-pub part-more : (b : BookTerms) (files : List (List Call)) (past stages : List Stage) (answers : List (List Replies)) (p : ℕ) (replies : List Replies) → p < length files
-    → AreHeardInPart b files past stages answers p → AreHeard b (get_or files p []) (past ++ stages) p replies → AreHeardInPart b files past stages (set answers p replies) (p + 1)
-part-more b files past stages answers p replies known part heard = record {
+pub part-more : (g : GroundTerms) (past stages : List Stage) (answers : List (List Replies)) (p : ℕ) (replies : List Replies) → p < length g.files
+    → AreHeardInPart g past stages answers p → AreHeard g (get_or g.files p []) (past ++ stages) p replies → AreHeardInPart g past stages (set answers p replies) (p + 1)
+part-more g past stages answers p replies known part heard = record {
   processes = length-set answers p replies ∙ part.processes;
   first = λ q less within. by q within (p == q) refl (λ other. part.first q (omega (arith, other)) within);
   others = λ q more within.
-      subst (AreHeard b (get_or files q []) past q) (sym (get_or-set_other answers p q replies [] (λ same. omega arith))) (part.others q (omega arith) within);
+      subst (AreHeard g (get_or g.files q []) past q) (sym (get_or-set_other answers p q replies [] (λ same. omega arith))) (part.others q (omega arith) within);
 }
   where
-    by : (q : ℕ) → q < length files → (t : Bool) → (p == q) ≡ t → ((p ≡ q → ⊥) → AreHeard b (get_or files q []) (past ++ stages) q (get_or answers q []))
-        → AreHeard b (get_or files q []) (past ++ stages) q (get_or (set answers p replies) q [])
+    by : (q : ℕ) → q < length g.files → (t : Bool) → (p == q) ≡ t → ((p ≡ q → ⊥) → AreHeard g (get_or g.files q []) (past ++ stages) q (get_or answers q []))
+        → AreHeard g (get_or g.files q []) (past ++ stages) q (get_or (set answers p replies) q [])
     by q within true is old =
         let same : p ≡ q = (Decides-eqb p q).0 is in
         let count = part.processes in
         let read : get_or (set answers p replies) p [] ≡ replies = get_or-set_same answers p replies [] (omega arith) in
-        subst (λ (n : ℕ). AreHeard b (get_or files n []) (past ++ stages) n (get_or (set answers p replies) n [])) same
-        (subst (AreHeard b (get_or files p []) (past ++ stages) p) (sym read) heard)
+        subst (λ (n : ℕ). AreHeard g (get_or g.files n []) (past ++ stages) n (get_or (set answers p replies) n [])) same
+        (subst (AreHeard g (get_or g.files p []) (past ++ stages) p) (sym read) heard)
     by q within false is old =
         let other : p ≡ q → ⊥ = λ same. let wrong = (Decides-eqb p q).1 same in cc in
-        subst (AreHeard b (get_or files q []) (past ++ stages) q) (sym (get_or-set_other answers p q replies [] (λ same. other (sym same)))) (old other)
+        subst (AreHeard g (get_or g.files q []) (past ++ stages) q) (sym (get_or-set_other answers p q replies [] (λ same. other (sym same)))) (old other)
 
-pub part-none : (b : BookTerms) (files : List (List Call)) (past stages : List Stage) (answers : List (List Replies)) → AreAllHeard b files past answers (length files)
-    → AreHeardInPart b files past stages answers 0
-part-none b files past stages answers all = record {
+pub part-none : (g : GroundTerms) (past stages : List Stage) (answers : List (List Replies)) → AreAllHeard g past answers (length g.files)
+    → AreHeardInPart g past stages answers 0
+part-none g past stages answers all = record {
   processes = all.processes;
   first = λ p less within. absurd (omega arith);
   others = λ p more within. all.each p within;
 }
 
-pub part-all : (b : BookTerms) (files : List (List Call)) (past stages : List Stage) (answers : List (List Replies)) (count : ℕ) → count ≡ length files
-    → AreHeardInPart b files past stages answers count → AreAllHeard b files (past ++ stages) answers (length files)
-part-all b files past stages answers count is part = record {
+pub part-all : (g : GroundTerms) (past stages : List Stage) (answers : List (List Replies)) (count : ℕ) → count ≡ length g.files
+    → AreHeardInPart g past stages answers count → AreAllHeard g (past ++ stages) answers (length g.files)
+part-all g past stages answers count is part = record {
   processes = part.processes;
   each = λ p within. part.first p (omega arith) within;
 }
 
 -- the answers
-pub answers : (b : BookTerms) (files : List (List Call)) (seen : List Stage) (replies : List (List Replies)) → AreAllStages b files seen
-    → AreAllHeard b files seen replies (length files) → AreAnswers b files replies
-answers b files seen replies all heard = record {
+pub answers : (g : GroundTerms) (seen : List Stage) (replies : List (List Replies)) → AreAllStages g seen
+    → AreAllHeard g seen replies (length g.files) → AreAnswers g.book g.files replies
+answers g seen replies all heard = record {
   processes = heard.processes;
   calls = λ p known. (heard.each p known).calls;
   replies = λ p i r known within.
-      just-same (IsHeard b (get_or files p []) seen p i) (Comes b files p i) (get_or (get_or replies p []) i r)
-      (λ y h. heard-comes b files seen p i y known all h) (λ y h. comes-heard b files seen p i y all h)
+      just-same (IsHeard g (get_or g.files p []) seen p i) (Comes g.book g.files p i) (get_or (get_or replies p []) i r)
+      (λ y h. heard-comes g seen p i y known all h) (λ y h. comes-heard g seen p i y all h)
       ((heard.each p known).each i r within);
 }
 
 -- more stages than so many
-pub more-stages : (b : BookTerms) (files : List (List Call)) (past level : List Stage) (made left most : ℕ) → IsWalkedTo b files past level made
-    → HasMoreNext b files made left → most ≤ length past + length level + left → HasMoreStages b files most
-more-stages b files past level made left most walked later enough =
+pub more-stages : (g : GroundTerms) (past level : List Stage) (made left most : ℕ) → IsWalkedTo g past level made
+    → HasMoreNext g made left → most ≤ length past + length level + left → HasMoreStages g.book g.files most
+more-stages g past level made left most walked later enough =
     let all : List Stage = (past ++ level) ++ later.next in
     let size : length all ≡ length past + length level + length later.next = let a = length-append (past ++ level) later.next in let c = length-append past level in omega arith in
     let fewer : All (λ (s : Stage). sum s.made.items < made + 1) (past ++ level) = All-append (λ (s : Stage). sum s.made.items < made + 1) past level
     (All-weaker (λ (s : Stage). sum s.made.items < made) (λ (s : Stage). sum s.made.items < made + 1) (λ s less. omega arith) past walked.before)
     (All-weaker (λ (s : Stage). sum s.made.items ≡ made) (λ (s : Stage). sum s.made.items < made + 1) (λ s same. omega arith) level walked.stages.counts) in
-    let are : All (IsSeen b files) all = All-append (IsSeen b files) (past ++ level) later.next (All-append (IsSeen b files) past level walked.are walked.stages.are) later.stages.are in
-    let apart = apart-append b (past ++ level) later.next (made + 1) walked.apart later.apart fewer later.stages.counts in
+    let are : All (IsSeen g) all = All-append (IsSeen g) (past ++ level) later.next (All-append (IsSeen g) past level walked.are walked.stages.are) later.stages.are in
+    let apart = apart-append g (past ++ level) later.next (made + 1) walked.apart later.apart fewer later.stages.counts in
     let more = later.more in
-    stages-from b files all walked.begun.one most are apart (omega arith)
+    stages-from g all walked.begun.one most are apart (omega arith)
   where
-    stages-from : (b : BookTerms) (files : List (List Call)) (all : List Stage) (d : Stage) (most : ℕ) → All (IsSeen b files) all → AreApart b all → most < length all → HasMoreStages b files most
-    stages-from b files all d most are apart more = record {
-      stages = map (stage_at b) all;
-      are = All-map (IsStage b files) (stage_at b) all (All-weaker (IsSeen b files) (λ s. IsStage b files (stage_at b s)) (λ s is. is.stage) all are);
+    stages-from : (g : GroundTerms) (all : List Stage) (d : Stage) (most : ℕ) → All (IsSeen g) all → AreApart g all → most < length all → HasMoreStages g.book g.files most
+    stages-from g all d most are apart more = record {
+      stages = map (stage_at g) all;
+      are = All-map (IsStage g.book g.files) (stage_at g) all (All-weaker (IsSeen g) (λ s. IsStage g.book g.files (stage_at g s)) (λ s is. is.stage) all are);
       apart = λ i j t less within equal.
-          let size = length-map all (stage_at b) in
+          let size = length-map all (stage_at g) in
           let known : j < length all = omega arith in
-          let here : get_or (map (stage_at b) all) i t ≡ stage_at b (get_or all i d) = get_or-map (stage_at b) all i d t (omega arith) in
-          let there : get_or (map (stage_at b) all) j t ≡ stage_at b (get_or all j d) = get_or-map (stage_at b) all j d t known in
+          let here : get_or (map (stage_at g) all) i t ≡ stage_at g (get_or all i d) = get_or-map (stage_at g) all i d t (omega arith) in
+          let there : get_or (map (stage_at g) all) j t ≡ stage_at g (get_or all j d) = get_or-map (stage_at g) all j d t known in
           apart i j d less known (sym here ∙ (equal ∙ there));
-      more = let size = length-map all (stage_at b) in omega arith;
+      more = let size = length-map all (stage_at g) in omega arith;
     }
 
 pub length-none : (xs : List Stage) → length xs ≡ 0 → xs ≡ []

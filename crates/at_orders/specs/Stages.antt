@@ -1,7 +1,10 @@
 -- The stages that orders go through: how many calls each process has made, and the ledger then.
-use Rattle.std.specs.Prelude.{◌≡◌, ℕ, ◌<◌, ◌≢◌, List, ◌++◌, length, replicate, slice_index, slice_index_or, All}
-use Rattle.at_ledger.specs.Book.{BookTerms}
-use Rattle.at_ledger.specs.State.{LedgerState, opening_state, step}
+use Rattle.std.specs.Prelude.{◌≡◌, ℕ, ◌*◌, ◌/◌, ◌%◌, ◌<◌, ◌≢◌, ◌==◌, ◌&&◌, Bool, List, [], ◌++◌, length, filter, map, min, replicate, slice_index, slice_index_or, take, All, Option, None, Some, is_some, if◌then◌else◌}
+use Rattle.std.specs.List.{range_with_len}
+use Rattle.at_ledger.specs.Account.{is_shared}
+use Rattle.at_ledger.specs.Call.{TargetPair, first_account, payout_of}
+use Rattle.at_ledger.specs.Book.{BookTerms, account_of, is_owner}
+use Rattle.at_ledger.specs.State.{LedgerState, moved, opening_state, step, with_sent}
 use Rattle.at_ledger.specs.Run.{last_state, lines_of}
 use Rattle.at_ledger.specs.declared.call.Call.{Call}
 use Rattle.at_ledger.specs.declared.call.Line.{Line}
@@ -38,10 +41,54 @@ pub record HasMoreStages (b : BookTerms) (files : List (List Call)) (most : ℕ)
   pub apart : (i j : ℕ) (t : StageTerms) → i < j → j < length stages → slice_index_or stages i t ≢ slice_index_or stages j t
   pub more : most < length stages
 
--- the ledger of a book with the numbers of a stage
-abbrev pub ledger_at : BookTerms → Stage → LedgerState
-ledger_at b s = record { book = b; balances = s.balances.items; sent = s.sent.items; asked = s.asked.items }
+-- what the stages of a walk stand on: the book, the files, the accounts whose balances are kept, and the place of each account among them, if it is there
+pub record GroundTerms : Type 0 where
+  pub book : BookTerms
+  pub files : List (List Call)
+  pub named : List ℕ
+  pub places : List (Option ℕ)
 
--- what a stage of a book stands for
-abbrev pub stage_at : BookTerms → Stage → StageTerms
-stage_at b s = record { made = s.made.items; ledger = ledger_at b s }
+-- the call is a payment from the account
+abbrev pub is_payment_from : ℕ → Call → Bool
+is_payment_from account call = is_some (payout_of call) && (first_account call == account)
+
+-- how many of the calls are payments from the account
+abbrev pub payments_from : ℕ → List Call → ℕ
+payments_from account calls = length (filter (is_payment_from account) calls)
+
+-- the requests of a process on an account, after these calls: one for each payment from it while there is room, where it shares the account
+abbrev pub requests_of : BookTerms → ℕ → ℕ → List Call → ℕ
+requests_of b process account calls =
+    if is_owner b process account && is_shared (account_of b account) then min b.request_room (payments_from account calls) else 0
+
+-- the calls that the process has made
+abbrev pub calls_made : GroundTerms → List ℕ → ℕ → List Call
+calls_made g made process = take (slice_index made process) (slice_index_or g.files process [])
+
+-- the requests of each process on each account, those of process 0 first
+abbrev pub requests_at : GroundTerms → List ℕ → List ℕ
+requests_at g made =
+    let accounts = length g.book.accounts in
+    map (λ k. requests_of g.book (k / accounts) (k % accounts) (calls_made g made (k / accounts))) (range_with_len 0 (g.book.processes * accounts))
+
+-- the balance that is kept at the place, if there is one, and else the opening
+abbrev pub kept_or : List ℕ → ℕ → Option ℕ → ℕ
+kept_or kept opening None = opening
+kept_or kept opening (Some place) = slice_index kept place
+
+-- the balance of each account: what isn't kept is as it opened
+abbrev pub balances_at : GroundTerms → List ℕ → List ℕ
+balances_at g kept = map (λ a. kept_or kept (account_of g.book a).opening (slice_index_or g.places a None)) (range_with_len 0 (length g.book.accounts))
+
+-- the ledger with the numbers of a stage
+abbrev pub ledger_at : GroundTerms → Stage → LedgerState
+ledger_at g s = record { book = g.book; balances = balances_at g s.balances.items; sent = s.sent.items; asked = requests_at g s.made.items }
+
+-- a success, but for the request that it may have used: the counts of calls tell the requests
+abbrev pub after_success : LedgerState → ℕ → ℕ → List TargetPair → LedgerState
+after_success s process source targets =
+    if is_shared (account_of s.book source) then moved s source targets else with_sent (moved s source targets) process
+
+-- what a stage stands for
+abbrev pub stage_at : GroundTerms → Stage → StageTerms
+stage_at g s = record { made = s.made.items; ledger = ledger_at g s }

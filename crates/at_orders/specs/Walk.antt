@@ -1,25 +1,84 @@
 -- What the walk knows of the stages that it has seen.
-use Rattle.std.specs.Prelude.{◌≡◌, ℕ, ◌+◌, ◌<◌, ◌≤◌, ◌≢◌, List, [], ◌++◌, length, slice_get, slice_index, slice_index_or, sum, All, Contains, Some}
-use Rattle.at_ledger.specs.Book.{BookTerms}
-use Rattle.at_ledger.specs.State.{IsLedger, step}
+use Rattle.std.specs.Prelude.{◌≡◌, ℕ, ◌+◌, ◌<◌, ◌≤◌, ◌≢◌, List, [], ◌++◌, length, slice_get, slice_index, slice_index_or, sum, take, All, Contains, Option, None, Some}
+use Rattle.at_ledger.specs.Book.{IsBook, total_of}
+use Rattle.at_ledger.specs.Call.{TargetPair, first_account, payout_of}
+use Rattle.at_ledger.specs.State.{LedgerState, step}
+use Rattle.at_files.specs.Files.{IsPlayable}
 use Rattle.at_ledger.specs.declared.call.Call.{Call}
+use Rattle.at_ledger.specs.declared.call.Call.TheVariants.{Transfer, Read, Pay}
 use Rattle.at_ledger.specs.declared.call.Reply.{Reply}
-use Rattle.at_verify.specs.Walk.{AreWithinFiles}
-use Rattle.at_orders.specs.Stages.{IsStage, StageTerms, first_stage, ledger_at, stage_after, stage_at}
+use Rattle.at_verify.specs.Walk.{AreWithinFiles, with_made}
+use Rattle.at_orders.specs.Stages.{GroundTerms, IsStage, StageTerms, first_stage, ledger_at, payments_from, requests_at, stage_after, stage_at}
 use Rattle.at_orders.specs.Replies.{AreJust}
 use Rattle.at_orders.specs.declared.replies.Replies.{Replies}
 use Rattle.at_orders.specs.declared.stage.Stage.{Stage}
 
+-- how many payments from the account that it names first stand before each call of the file
+pub record AreCountedBefore (file : List Call) (before : List ℕ) : Type 0 where
+  pub calls : length before ≡ length file
+  pub each : (i : ℕ) (call : Call) → slice_get file i ≡ Some call → slice_index before i ≡ payments_from (first_account call) (take i file)
+
+-- so of each call of each file
+pub record AreAllCountedBefore (files : List (List Call)) (before : List (List ℕ)) : Type 0 where
+  pub processes : length before ≡ length files
+  pub each : (p : ℕ) → p < length files → AreCountedBefore (slice_index_or files p []) (slice_index_or before p [])
+
+-- the accounts, of which there are so many, have these places in the list, no two of them the same
+pub record ArePlaces (accounts : ℕ) (named : List ℕ) (places : List (Option ℕ)) : Type 0 where
+  pub size : length places ≡ accounts
+  pub within : (account place : ℕ) → slice_index_or places account None ≡ Some place → place < length named
+  pub there : (account place : ℕ) → slice_index_or places account None ≡ Some place → slice_index named place ≡ account
+  pub back : (place : ℕ) → place < length named → slice_index_or places (slice_index named place) None ≡ Some place
+
+-- the account has a place
+abbrev pub HasPlace : List (Option ℕ) → ℕ → Type 0
+HasPlace places account = (place : ℕ) × (slice_index_or places account None ≡ Some place)
+
+-- so has each account that the call names
+abbrev pub HasPlaces : List (Option ℕ) → Call → Type 0
+HasPlaces places (Transfer from to amount) = HasPlace places from × HasPlace places to
+HasPlaces places (Read account) = HasPlace places account
+HasPlaces places (Pay from targets) = HasPlace places from × All (λ t. HasPlace places t.0) targets
+
+-- no account has lost its place
+abbrev pub KeepsPlaces : List (Option ℕ) → List (Option ℕ) → Type 0
+KeepsPlaces old new = (account place : ℕ) → slice_index_or old account None ≡ Some place → slice_index_or new account None ≡ Some place
+
+-- there is a file for each process, each can be played, and each account that a call names has a place
+pub record IsGround (g : GroundTerms) : Type 0 where
+  pub book : IsBook g.book
+  pub processes : length g.files ≡ g.book.processes
+  pub files : All (IsPlayable (length g.book.accounts)) g.files
+  pub places : ArePlaces (length g.book.accounts) g.named g.places
+  pub named : All (All (HasPlaces g.places)) g.files
+
+-- the next call of the process
+abbrev pub IsNextCall : GroundTerms → Stage → ℕ → Call → Type 0
+IsNextCall g s p call = slice_get (slice_index_or g.files p []) (slice_index s.made.items p) ≡ Some call
+
+-- it is a payment from this account to these targets
+pub record IsNextPayment (g : GroundTerms) (s : Stage) (p source : ℕ) (targets : List TargetPair) : Type 0 where
+  pub call : Call
+  pub next : IsNextCall g s p call
+  pub paid : payout_of call ≡ Some (source, targets)
+
+-- once the next call of the process is counted too, this is the ledger
+abbrev pub IsMadeTo : GroundTerms → Stage → ℕ → LedgerState → Stage → Type 0
+IsMadeTo g s p ledger new = record (ledger_at g new) { asked = requests_at g (with_made s.made.items p) } ≡ ledger
+
 -- its numbers are those of a ledger of the book, and it counts the calls of each process
-pub record IsStanding (b : BookTerms) (s : Stage) : Type 0 where
-  pub ledger : IsLedger (ledger_at b s)
-  pub counts : length s.made.items ≡ b.processes
+pub record IsStanding (g : GroundTerms) (s : Stage) : Type 0 where
+  pub counts : length s.made.items ≡ g.book.processes
+  pub balances : length s.balances.items ≡ length g.named
+  pub total : sum (ledger_at g s).balances ≡ total_of g.book
+  pub sent : length s.sent.items ≡ g.book.processes
+  pub sent_room : All (λ n. n ≤ g.book.own_room) s.sent.items
 
 -- an order goes through it
-pub record IsSeen (b : BookTerms) (files : List (List Call)) (s : Stage) : Type 0 where
-  pub standing : IsStanding b s
-  pub within : AreWithinFiles files s.made.items
-  pub stage : IsStage b files (stage_at b s)
+pub record IsSeen (g : GroundTerms) (s : Stage) : Type 0 where
+  pub standing : IsStanding g s
+  pub within : AreWithinFiles g.files s.made.items
+  pub stage : IsStage g.book g.files (stage_at g s)
 
 -- these stages, and maybe more
 pub record Grows (old new : List Stage) : Type 0 where
@@ -27,85 +86,84 @@ pub record Grows (old new : List Stage) : Type 0 where
   pub is : new ≡ old ++ more
 
 -- one of these stands for it
-pub record HasStage (b : BookTerms) (seen : List Stage) (t : StageTerms) : Type 0 where
+pub record HasStage (g : GroundTerms) (seen : List Stage) (t : StageTerms) : Type 0 where
   pub one : Stage
   pub there : Contains seen one
-  pub is : stage_at b one ≡ t
+  pub is : stage_at g one ≡ t
 
 -- the stage after the next call of the process is seen, if it has one
-abbrev pub HasNext : BookTerms → List (List Call) → List Stage → Stage → ℕ → Type 0
-HasNext b files seen s p = (call : Call) → slice_get (slice_index_or files p []) (slice_index s.made.items p) ≡ Some call
-    → HasStage b seen (stage_after (stage_at b s) p call)
+abbrev pub HasNext : GroundTerms → List Stage → Stage → ℕ → Type 0
+HasNext g seen s p = (call : Call) → IsNextCall g s p call → HasStage g seen (stage_after (stage_at g s) p call)
 
 -- so are those after the next calls of all processes
-abbrev pub HasAllNext : BookTerms → List (List Call) → List Stage → Stage → Type 0
-HasAllNext b files seen s = (p : ℕ) → p < b.processes → HasNext b files seen s p
+abbrev pub HasAllNext : GroundTerms → List Stage → Stage → Type 0
+HasAllNext g seen s = (p : ℕ) → p < g.book.processes → HasNext g seen s p
 
 -- orders go through these stages, after so many calls
-pub record AreLevel (b : BookTerms) (files : List (List Call)) (made : ℕ) (stages : List Stage) : Type 0 where
-  pub are : All (IsSeen b files) stages
+pub record AreLevel (g : GroundTerms) (made : ℕ) (stages : List Stage) : Type 0 where
+  pub are : All (IsSeen g) stages
   pub counts : All (λ s. sum s.made.items ≡ made) stages
 
 -- no two of them are the same
-abbrev pub AreApart : BookTerms → List Stage → Type 0
-AreApart b stages = (i j : ℕ) (s : Stage) → i < j → j < length stages → stage_at b (slice_index_or stages i s) ≢ stage_at b (slice_index_or stages j s)
+abbrev pub AreApart : GroundTerms → List Stage → Type 0
+AreApart g stages = (i j : ℕ) (s : Stage) → i < j → j < length stages → stage_at g (slice_index_or stages i s) ≢ stage_at g (slice_index_or stages j s)
 
 -- the level after this one has these stages
-pub record IsNextLevel (b : BookTerms) (files : List (List Call)) (made : ℕ) (level next : List Stage) : Type 0 where
-  pub stages : AreLevel b files (made + 1) next
-  pub apart : AreApart b next
-  pub looked : All (HasAllNext b files next) level
+pub record IsNextLevel (g : GroundTerms) (made : ℕ) (level next : List Stage) : Type 0 where
+  pub stages : AreLevel g (made + 1) next
+  pub apart : AreApart g next
+  pub looked : All (HasAllNext g next) level
 
 -- the level after so many calls has more stages than so many
-pub record HasMoreNext (b : BookTerms) (files : List (List Call)) (made most : ℕ) : Type 0 where
+pub record HasMoreNext (g : GroundTerms) (made most : ℕ) : Type 0 where
   pub next : List Stage
-  pub stages : AreLevel b files (made + 1) next
-  pub apart : AreApart b next
+  pub stages : AreLevel g (made + 1) next
+  pub apart : AreApart g next
   pub more : most < length next
 
 -- the stages of the first levels, all of them looked at, and those of the level after so many calls
-pub record IsWalkedTo (b : BookTerms) (files : List (List Call)) (past level : List Stage) (made : ℕ) : Type 0 where
-  pub stages : AreLevel b files made level
-  pub are : All (IsSeen b files) past
+pub record IsWalkedTo (g : GroundTerms) (past level : List Stage) (made : ℕ) : Type 0 where
+  pub stages : AreLevel g made level
+  pub are : All (IsSeen g) past
   pub before : All (λ s. sum s.made.items < made) past
-  pub apart : AreApart b (past ++ level)
-  pub begun : HasStage b (past ++ level) (first_stage b)
-  pub looked : All (HasAllNext b files (past ++ level)) past
+  pub apart : AreApart g (past ++ level)
+  pub begun : HasStage g (past ++ level) (first_stage g.book)
+  pub looked : All (HasAllNext g (past ++ level)) past
 
 -- they are all stages of the orders
-pub record AreAllStages (b : BookTerms) (files : List (List Call)) (seen : List Stage) : Type 0 where
-  pub are : All (IsSeen b files) seen
-  pub all : (t : StageTerms) → IsStage b files t → HasStage b seen t
+pub record AreAllStages (g : GroundTerms) (seen : List Stage) : Type 0 where
+  pub are : All (IsSeen g) seen
+  pub all : (t : StageTerms) → IsStage g.book g.files t → HasStage g seen t
 
 -- one of these stages is before call i of the process, and has this reply for it
-pub record IsHeard (b : BookTerms) (file : List Call) (stages : List Stage) (p i : ℕ) (reply : Reply) : Type 0 where
+pub record IsHeard (g : GroundTerms) (file : List Call) (stages : List Stage) (p i : ℕ) (reply : Reply) : Type 0 where
   pub one : Stage
   pub there : Contains stages one
   pub before : slice_index one.made.items p ≡ i
   pub call : Call
   pub next : slice_get file i ≡ Some call
-  pub answered : (step (ledger_at b one) p call).reply ≡ reply
+  pub answered : (step (ledger_at g one) p call).reply ≡ reply
 
 -- each call of the file has just the replies that it has at these stages
-pub record AreHeard (b : BookTerms) (file : List Call) (stages : List Stage) (p : ℕ) (replies : List Replies) : Type 0 where
+pub record AreHeard (g : GroundTerms) (file : List Call) (stages : List Stage) (p : ℕ) (replies : List Replies) : Type 0 where
   pub calls : length replies ≡ length file
-  pub each : (i : ℕ) (r : Replies) → i < length file → AreJust (IsHeard b file stages p i) (slice_index_or replies i r)
+  pub each : (i : ℕ) (r : Replies) → i < length file → AreJust (IsHeard g file stages p i) (slice_index_or replies i r)
 
 -- so has each call of the first files
-pub record AreAllHeard (b : BookTerms) (files : List (List Call)) (stages : List Stage) (answers : List (List Replies)) (count : ℕ) : Type 0 where
+pub record AreAllHeard (g : GroundTerms) (stages : List Stage) (answers : List (List Replies)) (count : ℕ) : Type 0 where
   pub processes : length answers ≡ count
-  pub each : (p : ℕ) → p < count → AreHeard b (slice_index_or files p []) stages p (slice_index_or answers p [])
+  pub each : (p : ℕ) → p < count → AreHeard g (slice_index_or g.files p []) stages p (slice_index_or answers p [])
 
 -- so has each call of the first files, and of the others at the stages before these
-pub record AreHeardInPart (b : BookTerms) (files : List (List Call)) (past stages : List Stage) (answers : List (List Replies)) (count : ℕ) : Type 0 where
-  pub processes : length answers ≡ length files
-  pub first : (p : ℕ) → p < count → p < length files → AreHeard b (slice_index_or files p []) (past ++ stages) p (slice_index_or answers p [])
-  pub others : (p : ℕ) → count ≤ p → p < length files → AreHeard b (slice_index_or files p []) past p (slice_index_or answers p [])
+pub record AreHeardInPart (g : GroundTerms) (past stages : List Stage) (answers : List (List Replies)) (count : ℕ) : Type 0 where
+  pub processes : length answers ≡ length g.files
+  pub first : (p : ℕ) → p < count → p < length g.files → AreHeard g (slice_index_or g.files p []) (past ++ stages) p (slice_index_or answers p [])
+  pub others : (p : ℕ) → count ≤ p → p < length g.files → AreHeard g (slice_index_or g.files p []) past p (slice_index_or answers p [])
 
 -- the levels are walked so far, and what each call has for replies at the stages that were looked at
-pub record IsWalked (b : BookTerms) (files : List (List Call)) (level : List Stage) (answers : List (List Replies)) (looked : ℕ) : Type 0 where
+pub record IsWalked (g : GroundTerms) (level : List Stage) (answers : List (List Replies)) (looked : ℕ) : Type 0 where
   pub past : List Stage
   pub made : ℕ
-  pub walked : IsWalkedTo b files past level made
-  pub heard : AreAllHeard b files past answers (length files)
+  pub walked : IsWalkedTo g past level made
+  pub heard : AreAllHeard g past answers (length g.files)
   pub count : length past ≡ looked

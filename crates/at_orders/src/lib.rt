@@ -7,7 +7,9 @@
 
 mod answers;
 mod error;
+mod ground;
 mod heard;
+mod places;
 mod replies;
 mod stage;
 mod walk;

@@ -2,13 +2,13 @@
 
 ghost use Rattle.std.specs.Prelude.{◌≡◌, ◌<◌, ◌≤◌, ◌+◌, ◌⊎◌, ℕ, [], All, Contains, Err, IfOk, OnOk, length, sum};
 ghost use Rattle.at_files.specs.Files.{IsPlayable, contents_of};
-ghost use Rattle.at_ledger.specs.Book.{BookTerms};
 ghost use Rattle.at_orders.specs.declared.stage.Stage.{Stage};
 ghost use Rattle.at_orders.specs.Orders.{AreAnswers};
-ghost use Rattle.at_orders.specs.Stages.{HasMoreStages, stage_at};
+ghost use Rattle.at_orders.specs.Stages.{GroundTerms, HasMoreStages, stage_at};
 ghost use Rattle.at_orders.specs.Walk.{AreLevel, Grows, HasAllNext, HasMoreNext, HasNext, HasStage, IsNextLevel, IsSeen, IsWalkedTo};
 
 use crate::error::OrdersError;
+use crate::ground::Ground;
 use crate::heard::{hear_all, silent};
 use crate::replies::Replies;
 use crate::stage::Stage;
@@ -25,7 +25,7 @@ fn add(seen: &mut IndexSet<Stage>, stage: Stage) -> Result<(), NoMemory>
     ensures len { length seen.new.keys ≤ length seen.old.keys + 1 }
     ensures only { (s : Stage) → Contains seen.new.keys s
         → Contains seen.old.keys s ⊎ (s ≡ stage) }
-    ensures has { OnOk result ((b : BookTerms) → HasStage b seen.new.keys (stage_at b stage)) }
+    ensures has { OnOk result ((g : GroundTerms) → HasStage g seen.new.keys (stage_at g stage)) }
 {
     let Ok(_added) = seen.insert(stage) else {
         return Err(AllocError);
@@ -36,52 +36,46 @@ fn add(seen: &mut IndexSet<Stage>, stage: Stage) -> Result<(), NoMemory>
 /// Sees the stage after the next call of the process, if it has one.
 fn turn(
     alloc: Global,
-    book: &Book,
-    files: &[Vec<Call>],
+    ground: &Ground,
     stage: &Stage,
     process: u32,
     next: &mut IndexSet<Stage>,
 ) -> Result<(), NoMemory>
-    requires processes { length files.now ≡ book.now.processes }
-    requires files { All (IsPlayable (length book.now.accounts)) (contents_of files.now) }
-    requires process_in { process < book.now.processes }
-    requires stage { IsSeen book.now (contents_of files.now) stage.now }
-    requires level { AreLevel book.now (contents_of files.now) (sum stage.now.made.items + 1)
+    requires process_in { process < ground.now.book.processes }
+    requires stage { IsSeen ground.now stage.now }
+    requires level { AreLevel ground.now (sum stage.now.made.items + 1)
         next.old.keys }
-    ensures level { AreLevel book.now (contents_of files.now) (sum stage.now.made.items + 1)
+    ensures level { AreLevel ground.now (sum stage.now.made.items + 1)
         next.new.keys }
     ensures grows { Grows next.old.keys next.new.keys }
     ensures next { OnOk result
-        (HasNext book.now (contents_of files.now) next.new.keys stage.now process) }
+        (HasNext ground.now next.new.keys stage.now process) }
 {
-    let Some(call) = files[process as usize].get(stage.made(process) as usize) else {
+    let Some(call) = ground.file(process).get(stage.made(process) as usize) else {
         return Ok(());
     };
-    let after = stage.after(alloc, book, process, call)?;
+    let after = stage.after(alloc, ground, process, call)?;
     add(next, after)
 }
 
 /// Sees the stages after the next calls of all processes.
 fn look(
     alloc: Global,
-    book: &Book,
-    files: &[Vec<Call>],
+    ground: &Ground,
     stage: &Stage,
     next: &mut IndexSet<Stage>,
 ) -> Result<(), NoMemory>
-    requires processes { length files.now ≡ book.now.processes }
-    requires files { All (IsPlayable (length book.now.accounts)) (contents_of files.now) }
-    requires stage { IsSeen book.now (contents_of files.now) stage.now }
-    requires level { AreLevel book.now (contents_of files.now) (sum stage.now.made.items + 1)
+    requires stage { IsSeen ground.now stage.now }
+    requires level { AreLevel ground.now (sum stage.now.made.items + 1)
         next.old.keys }
-    ensures level { AreLevel book.now (contents_of files.now) (sum stage.now.made.items + 1)
+    ensures level { AreLevel ground.now (sum stage.now.made.items + 1)
         next.new.keys }
     ensures grows { Grows next.old.keys next.new.keys }
     ensures looked { OnOk result
-        (HasAllNext book.now (contents_of files.now) next.new.keys stage.now) }
+        (HasAllNext ground.now next.new.keys stage.now) }
 {
-    for process in 0..book.processes() {
-        turn(alloc, book, files, stage, process, next)?;
+    for process in 0..ground.book().processes() {
+        turn(alloc, ground, stage, process, next)?;
     }
     Ok(())
 }
@@ -89,25 +83,23 @@ fn look(
 /// The stages of the level after this one, each of them once, if they are not more than so many.
 fn next_level(
     alloc: Global,
-    book: &Book,
-    files: &[Vec<Call>],
+    ground: &Ground,
     level: &[Stage],
     most: usize,
 ) -> Result<IndexSet<Stage>, OrdersError>
-    requires processes { length files.now ≡ book.now.processes }
-    requires files { All (IsPlayable (length book.now.accounts)) (contents_of files.now) }
-    requires level { (made : ℕ) × AreLevel book.now (contents_of files.now) made level.now }
+    requires level { (made : ℕ) × AreLevel ground.now made level.now }
     ensures next { IfOk result (λ next. (made : ℕ)
-        → AreLevel book.now (contents_of files.now) made level.now
-        → IsNextLevel book.now (contents_of files.now) made level.now next.keys) }
+        → AreLevel ground.now made level.now
+        → IsNextLevel ground.now made level.now next.keys) }
     ensures few { IfOk result (λ next. length next.keys ≤ most) }
     ensures many { result ≡ Err OrdersError.TooManyOrders → (made : ℕ)
-        → AreLevel book.now (contents_of files.now) made level.now
-        → HasMoreNext book.now (contents_of files.now) made most }
+        → AreLevel ground.now made level.now
+        → HasMoreNext ground.now made most }
 {
+    let _known = ground.book();
     let mut next = IndexSet::new(alloc);
     for stage in level {
-        look(alloc, book, files, stage, &mut next)?;
+        look(alloc, ground, stage, &mut next)?;
         if next.len() > most {
             return Err(OrdersError::TooManyOrders);
         }
@@ -116,18 +108,37 @@ fn next_level(
 }
 
 /// The first stage alone.
-fn begin(alloc: Global, book: &Book, files: &[Vec<Call>]) -> Result<IndexSet<Stage>, NoMemory>
-    requires { length files.now ≡ book.now.processes }
+fn begin(alloc: Global, ground: &Ground) -> Result<IndexSet<Stage>, NoMemory>
     ensures walked { IfOk result
-        (λ seen. IsWalkedTo book.now (contents_of files.now) [] seen.keys 0) }
+        (λ seen. IsWalkedTo ground.now [] seen.keys 0) }
     ensures one { IfOk result (λ seen. length seen.keys ≤ 1) }
 {
+    let _known = ground.book();
     let mut seen = IndexSet::new(alloc);
-    add(&mut seen, Stage::first(alloc, book)?)?;
+    add(&mut seen, Stage::first(alloc, ground)?)?;
     Ok(seen)
 }
 
 /// The replies of each call of each file in all orders. Two levels at most are held.
+fn walk_on(alloc: Global, ground: &Ground) -> Result<Vec<Vec<Replies>>, OrdersError>
+    ensures answers { IfOk result (λ answers. AreAnswers ground.now.book ground.now.files
+        (contents_of answers.items)) }
+    ensures many { result ≡ Err OrdersError.TooManyOrders
+        → HasMoreStages ground.now.book ground.now.files STAGES_MAX }
+{
+    let _known = ground.book();
+    let mut answers = silent(alloc, ground)?;
+    let mut level = begin(alloc, ground)?;
+    let mut looked = 0;
+    while level.len() > 0 {
+        hear_all(ground, level.as_slice(), &mut answers);
+        looked += level.len();
+        level = next_level(alloc, ground, level.as_slice(), STAGES_MAX - looked)?;
+    }
+    Ok(answers)
+}
+
+/// The same for files beside a book.
 pub(crate) fn walk(
     alloc: Global,
     book: &Book,
@@ -140,13 +151,6 @@ pub(crate) fn walk(
     ensures many { result ≡ Err OrdersError.TooManyOrders
         → HasMoreStages book.now (contents_of files.now) STAGES_MAX }
 {
-    let mut answers = silent(alloc, book, files)?;
-    let mut level = begin(alloc, book, files)?;
-    let mut looked = 0;
-    while level.len() > 0 {
-        hear_all(book, files, level.as_slice(), &mut answers);
-        looked += level.len();
-        level = next_level(alloc, book, files, level.as_slice(), STAGES_MAX - looked)?;
-    }
-    Ok(answers)
+    let ground = Ground::new(alloc, book, files)?;
+    walk_on(alloc, &ground)
 }

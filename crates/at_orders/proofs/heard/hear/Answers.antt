@@ -16,8 +16,8 @@ use Rattle.at_orders.proofs.heard.hear.Goals.{then-i-file, else-i-file}
 
 pub loop-stage-preserved : goal.loop-stage-preserved
 loop-stage-preserved c past before =
-    let b = c.args.book.now in
-    let file : List Call = c.args.file.now in
+    let g = c.args.ground.now in
+    let file : List Call = get_or g.files c.args.process [] in
     let s : Stage = c.stage-item.result in
     let p : ℕ = c.args.process in
     let k : ℕ = c.made-i.result in
@@ -31,18 +31,19 @@ loop-stage-preserved c past before =
     rw more (elim c.if-i-file.branch [
       | then-i-file w ↦
           let call : Call = w.index-file-i.result in
-          let x : Reply = (step (ledger_at b s) p call).reply in
-          let next : slice_get file k ≡ Some call = slice_get-get_or file k call w.if-i-file.true ∙ ap Some (sym w.index-file-i.is) in
-          let pushed = heard-push b file xs s p k replies call no_replies (sym c.made-i.ensures) next heard in
+          let x : Reply = (step (ledger_at g s) p call).reply in
+          let here : slice_get c.file-file.result.now k ≡ Some call = slice_get-get_or c.file-file.result.now k call w.if-i-file.true ∙ ap Some (sym w.index-file-i.is) in
+          let next : slice_get file k ≡ Some call = subst (λ (calls : List Call). slice_get calls k ≡ Some call) c.file-file.ensures.calls here in
+          let pushed = heard-push g file xs s p k replies call no_replies (sym c.made-i.ensures) next heard in
           let value : replies_with (get_or replies k no_replies) x ≡ w.with.result =
           ap (λ (y : Reply). replies_with (get_or replies k no_replies) y) (sym w.reply.ensures) ∙ sym w.with.ensures in
-          subst (AreHeard b file (xs ++ s ∷ []) p) (sym w.replies-is) (subst (λ (q : Replies). AreHeard b file (xs ++ s ∷ []) p (set replies k q)) value pushed)
+          subst (AreHeard g file (xs ++ s ∷ []) p) (sym w.replies-is) (subst (λ (q : Replies). AreHeard g file (xs ++ s ∷ []) p (set replies k q)) value pushed)
       | else-i-file w ↦
-          let past : length file ≤ get_or s.made.items p 0 = let is = c.made-i.ensures in let far = w.if-i-file.false in omega arith in
-          subst (AreHeard b file (xs ++ s ∷ []) p) (sym w.replies-is) (heard-skip b file xs s p replies past heard)
+          let past : length file ≤ get_or s.made.items p 0 = let size = ap (length {A = Call}) c.file-file.ensures.calls in let is = c.made-i.ensures in let far = w.if-i-file.false in omega arith in
+          subst (AreHeard g file (xs ++ s ∷ []) p) (sym w.replies-is) (heard-skip g file xs s p replies past heard)
     ])
 
 pub returns-clause-heard : goal.returns-clause-heard
 returns-clause-heard c past before =
     let whole : take c.loop-stage.stage-index c.args.stages.now ≡ c.args.stages.now = take_all c.loop-stage.stage-index c.args.stages.now (omega arith) in
-    subst (λ (xs : List Stage). AreHeard c.args.book.now c.args.file.now (past ++ xs) c.args.process c.loop-stage.replies) whole (c.loop-stage.invariant past before)
+    subst (λ (xs : List Stage). AreHeard c.args.ground.now (get_or c.args.ground.now.files c.args.process []) (past ++ xs) c.args.process c.loop-stage.replies) whole (c.loop-stage.invariant past before)

@@ -1,8 +1,8 @@
-use Rattle.std.proofs.Common.{◌++◌, List, take}
+use Rattle.std.proofs.Common.{◌++◌, List, [], get_or, take}
 use Rattle.at_orders.specs.Walk.{AreHeard}
 use Rattle.at_orders.specs.declared.stage.Stage.{Stage}
 use Rattle.at_orders.proofs.heard.hear.Given as goal
 
 abbrev pub invariant-loop-stage : goal.invariant-loop-stage
-invariant-loop-stage l = (past : List Stage) → AreHeard l.book l.file past l.process l.fn.replies
-    → AreHeard l.book l.file (past ++ take l.stage-index l.stages) l.process l.replies
+invariant-loop-stage l = (past : List Stage) → AreHeard l.ground (get_or l.ground.files l.process []) past l.process l.fn.replies
+    → AreHeard l.ground (get_or l.ground.files l.process []) (past ++ take l.stage-index l.stages) l.process l.replies

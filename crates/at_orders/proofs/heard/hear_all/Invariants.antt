@@ -6,5 +6,5 @@ use Rattle.at_orders.proofs.heard.hear_all.Given as goal
 
 abbrev pub invariant-loop-process : goal.invariant-loop-process
 invariant-loop-process l =
-    (past : List Stage) → AreAllHeard l.book (contents_of l.files) past (contents_of l.fn.answers.items) (length l.files)
-    → AreHeardInPart l.book (contents_of l.files) past l.stages (contents_of l.answers.items) l.process
+    (past : List Stage) → AreAllHeard l.ground past (contents_of l.fn.answers.items) (length l.ground.files)
+    → AreHeardInPart l.ground past l.stages (contents_of l.answers.items) l.process

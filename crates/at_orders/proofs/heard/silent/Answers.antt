@@ -1,7 +1,7 @@
 use Rattle.std.proofs.Common.{◌≡◌, ℕ, ◌+◌, ◌<◌, [], List, length, get_or, replicate, sym, subst, ap, ◌∙◌, arith}
 use Rattle.std.proofs.lemmas.List.{get_or-replicate, length-replicate}
 use Rattle.at_files.specs.Files.{contents_of}
-use Rattle.at_files.proofs.FileLists.{contents_of-pushed, get_or-contents_of}
+use Rattle.at_files.proofs.FileLists.{contents_of-pushed}
 use Rattle.at_ledger.specs.declared.call.Call.{Call}
 use Rattle.at_orders.specs.Replies.{no_replies}
 use Rattle.at_orders.specs.Walk.{AreAllHeard}
@@ -11,20 +11,17 @@ use Rattle.at_orders.proofs.heard.silent.Goals as goal
 
 pub loop-process-preserved : goal.loop-process-preserved
 loop-process-preserved c =
-    let b = c.args.book.now in
-    let files : List (List Call) = contents_of c.args.files.now in
+    let g = c.args.ground.now in
     let p : ℕ = c.loop-process.process in
     let replies : List Replies = c.in_ok-vec.field-0.items in
-    let count = c.requires in
-    let file = get_or-contents_of c.args.files.now p c.index-files-process.result (omega arith) c.index-files-process.is in
-    let n : ℕ = length c.as_slice-file.result.now in
+    let n : ℕ = length c.file-file.result.now in
     let all : replies ≡ replicate n no_replies =
     c.in_ok-vec.ensures.items_if_clones_equal (λ y is. is) ∙ ap (replicate n) c.none.ensures in
-    let size : length replies ≡ length (get_or files p []) =
-    ap (length {A = Replies}) all ∙ (length-replicate n no_replies ∙ (ap (length {A = Call}) c.as_slice-file.ensures.value ∙ sym (ap (length {A = Call}) file))) in
-    let none : (i : ℕ) (r : Replies) → i < length (get_or files p []) → get_or replies i r ≡ no_replies =
+    let size : length replies ≡ length (get_or g.files p []) =
+    ap (length {A = Replies}) all ∙ (length-replicate n no_replies ∙ ap (length {A = Call}) c.file-file.ensures.calls) in
+    let none : (i : ℕ) (r : Replies) → i < length (get_or g.files p []) → get_or replies i r ≡ no_replies =
     λ i r within. ap (λ (rs : List Replies). get_or rs i r) all ∙ get_or-replicate n i no_replies r (let long = length-replicate n no_replies in let same = ap (length {A = Replies}) all in omega arith) in
-    let heard = heard-none b (get_or files p []) p replies size none in
-    subst (λ (answers : List (List Replies)). AreAllHeard b files [] answers (p + 1))
+    let heard = heard-none g (get_or g.files p []) p replies size none in
+    subst (λ (answers : List (List Replies)). AreAllHeard g [] answers (p + 1))
     (sym (contents_of-pushed c.push.new.self.items c.loop-process.answers.items c.in_ok-vec.field-0 c.in_ok-push.ensures.items))
-    (all-heard-more b files [] (contents_of c.loop-process.answers.items) p replies c.loop-process.invariant heard)
+    (all-heard-more g [] (contents_of c.loop-process.answers.items) p replies c.loop-process.invariant heard)

@@ -4,4 +4,4 @@ use Rattle.at_orders.specs.Walk.{AreAllHeard}
 use Rattle.at_orders.proofs.heard.silent.Given as goal
 
 abbrev pub invariant-loop-process : goal.invariant-loop-process
-invariant-loop-process l = AreAllHeard l.book (contents_of l.files) [] (contents_of l.answers.items) l.process
+invariant-loop-process l = AreAllHeard l.ground [] (contents_of l.answers.items) l.process

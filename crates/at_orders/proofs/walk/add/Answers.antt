@@ -14,5 +14,5 @@ returns-clause-only c s there =
     (inserts has_same_numbers same-numbers c.args.seen.now.keys c.args.stage).only s (subst (λ (ks : List Stage). Contains ks s) c.in-Ok.ensures.keys there)
 
 pub returns-clause-has : goal.returns-clause-has
-returns-clause-has c b =
-    subst (λ (ks : List Stage). HasStage b ks (stage_at b c.args.stage)) (sym c.in-Ok.ensures.keys) ((inserts has_same_numbers same-numbers c.args.seen.now.keys c.args.stage).has b)
+returns-clause-has c g =
+    subst (λ (ks : List Stage). HasStage g ks (stage_at g c.args.stage)) (sym c.in-Ok.ensures.keys) ((inserts has_same_numbers same-numbers c.args.seen.now.keys c.args.stage).has g)

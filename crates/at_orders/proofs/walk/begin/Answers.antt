@@ -1,6 +1,4 @@
-use Rattle.std.proofs.Common.{◌≡◌, ◌≤◌, ◌⊎◌, Contains, length, ap, [], List, subst, ◌∙◌, arith}
-use Rattle.at_files.specs.Files.{contents_of}
-use Rattle.at_files.proofs.FileLists.{length-contents_of}
+use Rattle.std.proofs.Common.{◌≡◌, ◌≤◌, ◌⊎◌, Contains, length, ap, [], List, subst, arith}
 use Rattle.at_orders.specs.declared.stage.Stage.{Stage}
 use Rattle.at_orders.proofs.Seen.{walked-first}
 use Rattle.at_orders.proofs.walk.begin.Goals as goal
@@ -11,5 +9,5 @@ returns-clause-walked c =
     let only : (x : Stage) → Contains c.add.new.seen.keys x → Contains [] x ⊎ (x ≡ s) =
     λ x there. subst (λ (ks : List Stage). Contains ks x ⊎ (x ≡ s)) c.new-seen.ensures.empty (c.in_ok-add.ensures.only x there) in
     let few : length c.add.new.seen.keys ≤ 1 = let len = c.in_ok-add.ensures.len in let empty = ap (length {A = Stage}) c.new-seen.ensures.empty in omega arith in
-    walked-first c.args.book.now (contents_of c.args.files.now) c.add.new.seen.keys s (length-contents_of c.args.files.now ∙ c.requires)
-    c.in_ok-first.ensures.stage c.in_ok-first.ensures.ledger only few (c.in_ok-add.ensures.has c.args.book.now)
+    walked-first c.args.ground.now c.add.new.seen.keys s c.book-known.ensures.known.processes
+    c.in_ok-first.ensures.stage c.in_ok-first.ensures.standing only few (c.in_ok-add.ensures.has c.args.ground.now)

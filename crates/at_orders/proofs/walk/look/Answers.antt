@@ -1,4 +1,3 @@
-use Rattle.at_files.specs.Files.{contents_of}
 use Rattle.at_orders.proofs.Walking.{grows-trans, next-more}
 use Rattle.at_orders.proofs.walk.look.Goals as goal
 
@@ -6,6 +5,6 @@ pub loop-process-preserved : goal.loop-process-preserved
 loop-process-preserved c = record {
   level = c.in_ok-turn.ensures.level;
   grows = grows-trans c.args.next.now.keys c.loop-process.next.keys c.turn.new.next.keys c.loop-process.invariant.grows c.in_ok-turn.ensures.grows;
-  looked = next-more c.args.book.now (contents_of c.args.files.now) c.loop-process.next.keys c.turn.new.next.keys c.args.stage.now c.loop-process.process
+  looked = next-more c.args.ground.now c.loop-process.next.keys c.turn.new.next.keys c.args.stage.now c.loop-process.process
       c.in_ok-turn.ensures.grows c.loop-process.invariant.looked c.in_ok-turn.ensures.next;
 }

@@ -1,11 +1,10 @@
 use Rattle.std.proofs.Common.{◌+◌, ◌<◌, ℕ, sum}
-use Rattle.at_files.specs.Files.{contents_of}
 use Rattle.at_orders.specs.Walk.{AreLevel, Grows, HasNext}
 use Rattle.at_orders.proofs.walk.look.Given as goal
 
 abbrev pub invariant-loop-process : goal.invariant-loop-process
 invariant-loop-process l = record {
-  level : AreLevel l.book (contents_of l.files) (sum l.stage.made.items + 1) l.next.keys;
+  level : AreLevel l.ground (sum l.stage.made.items + 1) l.next.keys;
   grows : Grows l.fn.next.keys l.next.keys;
-  looked : (p : ℕ) → p < l.process → HasNext l.book (contents_of l.files) l.next.keys l.stage p;
+  looked : (p : ℕ) → p < l.process → HasNext l.ground l.next.keys l.stage p;
 }

@@ -1,7 +1,5 @@
 use Rattle.std.proofs.Common.{◌≡◌, ℕ, ◌+◌, ◌++◌, [], ◌∷◌, All, List, sum, take, sym, ap, subst, ◌∙◌, arith}
 use Rattle.std.proofs.lemmas.List.{take_all, take_more}
-use Rattle.at_files.specs.Files.{contents_of}
-use Rattle.at_ledger.specs.declared.call.Call.{Call}
 use Rattle.at_orders.specs.declared.stage.Stage.{Stage}
 use Rattle.at_orders.specs.Walk.{AreLevel, HasAllNext}
 use Rattle.at_orders.proofs.Seen.{has_same_numbers, numbers-same}
@@ -9,7 +7,7 @@ use Rattle.at_orders.proofs.Walking.{apart-distinct, looked-more}
 use Rattle.at_orders.proofs.walk.next_level.Goals as goal
 
 -- as many calls were made at this stage as at each of the level
-count-is : (c : goal.After-next-1) (made : ℕ) → AreLevel c.args.book.now (contents_of c.args.files.now) made c.args.level.now → sum c.stage-item.result.made.items ≡ made
+count-is : (c : goal.After-next-1) (made : ℕ) → AreLevel c.args.ground.now made c.args.level.now → sum c.stage-item.result.made.items ≡ made
 count-is c made level =
     ap (λ (s : Stage). sum s.made.items) c.stage-item.is ∙ level.counts c.loop-stage.stage-index c.stage-item.result c.loop-stage-test.true
 
@@ -17,23 +15,23 @@ pub look-requires-clause-level : goal.look-requires-clause-level
 look-requires-clause-level c =
     let made : ℕ = c.requires.level.0 in
     let level = c.requires.level.1 in
-    subst (λ (n : ℕ). AreLevel c.args.book.now (contents_of c.args.files.now) (n + 1) c.loop-stage.next.keys) (sym (count-is c made level))
+    subst (λ (n : ℕ). AreLevel c.args.ground.now (n + 1) c.loop-stage.next.keys) (sym (count-is c made level))
     (c.loop-stage.invariant.made made level)
 
 pub returns-then-len-most-clause-many : goal.returns-then-len-most-clause-many
 returns-then-len-most-clause-many c err made level = record {
   next = c.look.new.next.keys;
-  stages = subst (λ (n : ℕ). AreLevel c.args.book.now (contents_of c.args.files.now) (n + 1) c.look.new.next.keys)
+  stages = subst (λ (n : ℕ). AreLevel c.args.ground.now (n + 1) c.look.new.next.keys)
       (ap (λ (s : Stage). sum s.made.items) c.stage-item.is ∙ level.counts c.loop-stage.stage-index c.stage-item.result c.loop-stage-test.true)
       c.in_ok-look.ensures.level;
-  apart = apart-distinct c.args.book.now has_same_numbers c.look.new.next.keys (numbers-same c.args.book.now) c.len.ensures.unique;
+  apart = apart-distinct c.args.ground.now has_same_numbers c.look.new.next.keys (numbers-same c.args.ground.now c.book-known.ensures.known.places)
+      c.in_ok-look.ensures.level.are c.len.ensures.unique;
   more = let size = c.len.ensures.len in let over = c.if-len-most.true in omega arith;
 }
 
 pub loop-stage-preserved : goal.loop-stage-preserved
 loop-stage-preserved c =
-    let b = c.args.book.now in
-    let files : List (List Call) = contents_of c.args.files.now in
+    let g = c.args.ground.now in
     let i : ℕ = c.loop-stage.stage-index in
     let s : Stage = c.stage-item.result in
     let new : List Stage = c.look.new.next.keys in
@@ -41,11 +39,11 @@ loop-stage-preserved c =
     take_more c.args.level.now i s c.loop-stage-test.true ∙ ap (λ (t : Stage). take i c.args.level.now ++ t ∷ []) (sym c.stage-item.is) in
     record {
       made = λ made level.
-          subst (λ (n : ℕ). AreLevel b files (n + 1) new)
+          subst (λ (n : ℕ). AreLevel g (n + 1) new)
           (ap (λ (t : Stage). sum t.made.items) c.stage-item.is ∙ level.counts i s c.loop-stage-test.true) c.in_ok-look.ensures.level;
-      looked = subst (All (HasAllNext b files new)) (sym more)
-          (looked-more b files c.loop-stage.next.keys new (take i c.args.level.now) s c.in_ok-look.ensures.grows c.loop-stage.invariant.looked c.in_ok-look.ensures.looked);
-      apart = apart-distinct b has_same_numbers new (numbers-same b) c.len.ensures.unique;
+      looked = subst (All (HasAllNext g new)) (sym more)
+          (looked-more g c.loop-stage.next.keys new (take i c.args.level.now) s c.in_ok-look.ensures.grows c.loop-stage.invariant.looked c.in_ok-look.ensures.looked);
+      apart = apart-distinct g has_same_numbers new (numbers-same g c.book-known.ensures.known.places) c.in_ok-look.ensures.level.are c.len.ensures.unique;
       few = let size = c.len.ensures.len in let under = c.if-len-most.false in omega arith;
     }
 
@@ -55,5 +53,5 @@ returns-clause-next c made level =
     record {
       stages = c.loop-stage.invariant.made made level;
       apart = c.loop-stage.invariant.apart;
-      looked = subst (All (HasAllNext c.args.book.now (contents_of c.args.files.now) c.loop-stage.next.keys)) whole c.loop-stage.invariant.looked;
+      looked = subst (All (HasAllNext c.args.ground.now c.loop-stage.next.keys)) whole c.loop-stage.invariant.looked;
     }

@@ -1,5 +1,6 @@
 use Rattle.std.proofs.Common.{◌≡◌, map, take}
+use Rattle.at_ledger.specs.Book.{account_of}
 use Rattle.at_orders.proofs.stage.Stage.first.Given as goal
 
 abbrev pub invariant-loop-account : goal.invariant-loop-account
-invariant-loop-account l = l.balances.items ≡ map (λ t. t.opening) (take l.account l.book.accounts)
+invariant-loop-account l = l.balances.items ≡ map (λ a. (account_of l.ground.book a).opening) (take l.account-index l.ground.named)

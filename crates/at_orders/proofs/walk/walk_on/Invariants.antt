@@ -1,11 +1,11 @@
 use Rattle.std.proofs.Common.{◌+◌, ◌-◌, ◌≤◌, length}
 use Rattle.at_files.specs.Files.{contents_of}
 use Rattle.at_orders.specs.Walk.{IsWalked}
-use Rattle.at_orders.proofs.walk.walk.Given as goal
+use Rattle.at_orders.proofs.walk.walk_on.Given as goal
 
 abbrev pub invariant-loop-alloc : goal.invariant-loop-alloc
 invariant-loop-alloc l = record {
-  walked : IsWalked l.book (contents_of l.files) l.level.keys (contents_of l.answers.items) l.looked;
+  walked : IsWalked l.ground l.level.keys (contents_of l.answers.items) l.looked;
   few : l.looked + length l.level.keys ≤ 1048576;
 }
 

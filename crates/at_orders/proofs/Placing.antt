@@ -1,0 +1,172 @@
+-- The places of the accounts that are named, one account more at a time.
+use Rattle.std.proofs.Common.{◌≡◌, ℕ, ◌+◌, ◌<◌, ◌≤◌, ◌⊎◌, inl, inr, Option, None, Some, List, [], ◌∷◌, ◌++◌, length, get_or, replicate, set, take, true, true≢false, All, sym, ap, subst, ◌∙◌, arith}
+use Rattle.std.specs.Prelude.{is_some}
+use Rattle.std.proofs.lemmas.Bool.{cases_eq, cases_lt}
+use Rattle.std.proofs.lemmas.List.{get_or-replicate, get_or-set_other, get_or-set_same, get_or_append_left, get_or_default, length-append, length-replicate, length-set, take_more}
+use Rattle.std.proofs.lemmas.List.Elements.{All-nil, All-push, All-weaker}
+use Rattle.std.proofs.Math.ListN.{get_or-eq_default}
+use Rattle.std.proofs.Math.Nat.{eq-or-lt_of_le}
+use Rattle.std.proofs.Math.Seq.{get_or-append_seam}
+use Rattle.at_ledger.specs.Call.{TargetPair, first_account, payout_of}
+use Rattle.at_ledger.specs.declared.call.Call.{Call}
+use Rattle.at_ledger.specs.declared.call.Call.TheVariants.{Transfer, Read, Pay}
+use Rattle.at_orders.specs.Walk.{ArePlaces, HasPlace, HasPlaces, KeepsPlaces}
+
+-- an account with a place is there
+pub place-known : (places : List (Option ℕ)) (account place : ℕ) → get_or places account None ≡ Some place → account < length places
+place-known places account place is = by (cases_lt account (length places))
+  where
+    by : (account < length places) ⊎ (length places ≤ account) → account < length places
+    by (inl within) = within
+    by (inr beyond) = let none : get_or places account None ≡ None = get_or-eq_default places None beyond in absurd (cc (none, is))
+
+-- no account has one at first
+pub places-none : (accounts : ℕ) (places : List (Option ℕ)) → places ≡ replicate accounts None → ArePlaces accounts [] places
+places-none accounts places none = record {
+  size = ap (length {A = Option ℕ}) none ∙ length-replicate accounts None;
+  within = λ a place is. absurd (never a place is);
+  there = λ a place is. absurd (never a place is);
+  back = λ place within. absurd (omega arith);
+}
+  where
+    never : (a place : ℕ) → get_or places a None ≡ Some place → ⊥
+    never a place is =
+        let size = ap (length {A = Option ℕ}) none ∙ length-replicate accounts None in
+        let known = place-known places a place is in
+        let here : get_or places a None ≡ None = ap (λ (ps : List (Option ℕ)). get_or ps a None) none ∙ get_or-replicate accounts a None None (omega arith) in
+        absurd (cc (here, is))
+
+-- an account gets the next place
+pub places-more : (accounts : ℕ) (named : List ℕ) (places : List (Option ℕ)) (account : ℕ) → ArePlaces accounts named places → account < length places
+    → get_or places account None ≡ None → ArePlaces accounts (named ++ account ∷ []) (set places account (Some (length named)))
+places-more accounts named places account old known none = record {
+  size = length-set places account (Some (length named)) ∙ old.size;
+  within = λ a place is. let long = length-append named (account ∷ []) in within a place (cases_eq a account) is;
+  there = λ a place is. there a place (cases_eq a account) is;
+  back = λ place less. back place (eq-or-lt_of_le (let long = length-append named (account ∷ []) in omega arith));
+}
+  where
+    here : get_or (set places account (Some (length named))) account None ≡ Some (length named)
+    here = get_or-set_same places account (Some (length named)) None known
+
+    same-some : (x y : ℕ) → Some x ≡ Some y → x ≡ y
+    same-some x y is = cc is
+
+    old-place : (a place : ℕ) → (a ≡ account → ⊥) → get_or (set places account (Some (length named))) a None ≡ Some place → get_or places a None ≡ Some place
+    old-place a place apart is = sym (get_or-set_other places account a (Some (length named)) None apart) ∙ is
+
+    within : (a place : ℕ) → (a ≡ account) ⊎ (a ≡ account → ⊥) → get_or (set places account (Some (length named))) a None ≡ Some place → place < length (named ++ account ∷ [])
+    within a place (inl same) is =
+        let last : place ≡ length named = same-some place (length named) (sym is ∙ (ap (λ n. get_or (set places account (Some (length named))) n None) same ∙ here)) in
+        let long = length-append named (account ∷ []) in
+        omega arith
+    within a place (inr apart) is =
+        let less = old.within a place (old-place a place apart is) in
+        let long = length-append named (account ∷ []) in
+        omega arith
+
+    there : (a place : ℕ) → (a ≡ account) ⊎ (a ≡ account → ⊥) → get_or (set places account (Some (length named))) a None ≡ Some place
+        → get_or (named ++ account ∷ []) place 0 ≡ a
+    there a place (inl same) is =
+        let last : place ≡ length named = same-some place (length named) (sym is ∙ (ap (λ n. get_or (set places account (Some (length named))) n None) same ∙ here)) in
+        ap (λ n. get_or (named ++ account ∷ []) n 0) last ∙ (get_or-append_seam named account [] 0 ∙ sym same)
+    there a place (inr apart) is =
+        let before = old-place a place apart is in
+        get_or_append_left named (account ∷ []) 0 place (old.within a place before) ∙ old.there a place before
+
+    back : (place : ℕ) → (place ≡ length named) ⊎ (place < length named)
+        → get_or (set places account (Some (length named))) (get_or (named ++ account ∷ []) place 0) None ≡ Some place
+    back place (inl last) =
+        let new : get_or (named ++ account ∷ []) place 0 ≡ account = ap (λ n. get_or (named ++ account ∷ []) n 0) last ∙ get_or-append_seam named account [] 0 in
+        ap (λ n. get_or (set places account (Some (length named))) n None) new ∙ (here ∙ ap Some (sym last))
+    back place (inr earlier) =
+        let a : ℕ = get_or named place 0 in
+        let before = old.back place earlier in
+        let apart : a ≡ account → ⊥ = λ same. let is : get_or places account None ≡ Some place = ap (λ n. get_or places n None) (sym same) ∙ before in absurd (cc (is, none)) in
+        ap (λ n. get_or (set places account (Some (length named))) n None) (get_or_append_left named (account ∷ []) 0 place earlier)
+        ∙ (get_or-set_other places account a (Some (length named)) None apart ∙ before)
+
+pub keeps-more : (places : List (Option ℕ)) (account place : ℕ) → get_or places account None ≡ None → KeepsPlaces places (set places account (Some place))
+keeps-more places account new none a place is =
+    let apart : a ≡ account → ⊥ = λ same. let there : get_or places account None ≡ Some place = ap (λ n. get_or places n None) (sym same) ∙ is in absurd (cc (there, none)) in
+    get_or-set_other places account a (Some new) None apart ∙ is
+
+-- what has a place keeps it
+pub has_place-kept : (old new : List (Option ℕ)) (account : ℕ) → KeepsPlaces old new → HasPlace old account → HasPlace new account
+has_place-kept old new account keeps has = (has.0, keeps account has.0 has.1)
+
+pub has_places-kept : (old new : List (Option ℕ)) (call : Call) → KeepsPlaces old new → HasPlaces old call → HasPlaces new call
+has_places-kept old new (Transfer from to amount) keeps has = (has_place-kept old new from keeps has.0, has_place-kept old new to keeps has.1)
+has_places-kept old new (Read account) keeps has = has_place-kept old new account keeps has
+has_places-kept old new (Pay from targets) keeps has =
+    (has_place-kept old new from keeps has.0, All-weaker (λ t. HasPlace old t.0) (λ t. HasPlace new t.0) (λ t placed. has_place-kept old new t.0 keeps placed) targets has.1)
+
+pub all-places-kept : (old new : List (Option ℕ)) (calls : List Call) → KeepsPlaces old new → All (HasPlaces old) calls → All (HasPlaces new) calls
+all-places-kept old new calls keeps all = All-weaker (HasPlaces old) (HasPlaces new) (λ call has. has_places-kept old new call keeps has) calls all
+
+pub files-places-kept : (old new : List (Option ℕ)) (files : List (List Call)) → KeepsPlaces old new → All (All (HasPlaces old)) files → All (All (HasPlaces new)) files
+files-places-kept old new files keeps all = All-weaker (All (HasPlaces old)) (All (HasPlaces new)) (λ calls has. all-places-kept old new calls keeps has) files all
+
+pub targets-kept : (old new : List (Option ℕ)) (targets : List TargetPair) → KeepsPlaces old new → All (λ t. HasPlace old t.0) targets → All (λ t. HasPlace new t.0) targets
+targets-kept old new targets keeps all = All-weaker (λ t. HasPlace old t.0) (λ t. HasPlace new t.0) (λ t has. has_place-kept old new t.0 keeps has) targets all
+
+pub same_payout : (x y : ℕ × List TargetPair) → Some x ≡ Some y → x ≡ y
+same_payout x y is = cc is
+
+-- a call whose first account and targets have places
+pub has_places-payout : (places : List (Option ℕ)) (call : Call) (source : ℕ) (targets : List TargetPair) → payout_of call ≡ Some (source, targets)
+    → HasPlace places (first_account call) → All (λ t. HasPlace places t.0) targets → HasPlaces places call
+has_places-payout places (Transfer from to amount) source targets is first all =
+    let parts = same_payout (from, (to, amount) ∷ []) (source, targets) is in
+    (first, subst (λ (ts : List TargetPair). All (λ t. HasPlace places t.0) ts) (ap (λ (x : ℕ × List TargetPair). x.1) (sym parts)) all 0 (0, 0) (omega arith))
+has_places-payout places (Read account) source targets is first all = absurd (cc is)
+has_places-payout places (Pay from amounts) source targets is first all =
+    let parts = same_payout (from, amounts) (source, targets) is in
+    (first, subst (λ (ts : List TargetPair). All (λ t. HasPlace places t.0) ts) (ap (λ (x : ℕ × List TargetPair). x.1) (sym parts)) all)
+
+pub has_places-read : (places : List (Option ℕ)) (call : Call) → payout_of call ≡ None → HasPlace places (first_account call) → HasPlaces places call
+has_places-read places (Transfer from to amount) is first = absurd (cc is)
+has_places-read places (Read account) is first = first
+has_places-read places (Pay from targets) is first = absurd (cc is)
+
+-- and the reverse
+pub payout-has_places : (places : List (Option ℕ)) (call : Call) (source : ℕ) (targets : List TargetPair) → payout_of call ≡ Some (source, targets) → HasPlaces places call
+    → HasPlace places source × All (λ t. HasPlace places t.0) targets
+payout-has_places places (Transfer from to amount) source targets is has =
+    let parts = same_payout (from, (to, amount) ∷ []) (source, targets) is in
+    subst (λ (x : ℕ × List TargetPair). HasPlace places x.0 × All (λ t. HasPlace places t.0) x.1) parts (has.0, All-push (λ t. HasPlace places t.0) [] (to, amount) (All-nil (λ t. HasPlace places t.0)) has.1)
+payout-has_places places (Read account) source targets is has = absurd (cc is)
+payout-has_places places (Pay from amounts) source targets is has =
+    subst (λ (x : ℕ × List TargetPair). HasPlace places x.0 × All (λ t. HasPlace places t.0) x.1) (same_payout (from, amounts) (source, targets) is) has
+
+-- a place that is there
+pub has_place-some : (places : List (Option ℕ)) (account : ℕ) (o : Option ℕ) → account < length places → o ≡ get_or places account o → is_some o ≡ true → HasPlace places account
+has_place-some places account None within is some = absurd (true≢false (sym some))
+has_place-some places account (Some place) within is some = (place, get_or_default places account None (Some place) within ∙ sym is)
+
+-- the targets, the calls and the files so far, with one more
+pub targets-more : (old new : List (Option ℕ)) (targets : List TargetPair) (i account : ℕ) → i < length targets → KeepsPlaces old new
+    → All (λ t. HasPlace old t.0) (take i targets) → account ≡ (get_or targets i (0, 0)).0 → HasPlace new account → All (λ t. HasPlace new t.0) (take (i + 1) targets)
+targets-more old new targets i account within keeps all is placed =
+    subst (All (λ t. HasPlace new t.0)) (sym (take_more targets i (0, 0) within))
+    (All-push (λ t. HasPlace new t.0) (take i targets) (get_or targets i (0, 0)) (targets-kept old new (take i targets) keeps all) (subst (HasPlace new) is placed))
+
+pub calls-more : (old new : List (Option ℕ)) (file : List Call) (i : ℕ) (call : Call) → i < length file → KeepsPlaces old new
+    → All (HasPlaces old) (take i file) → call ≡ get_or file i call → HasPlaces new call → All (HasPlaces new) (take (i + 1) file)
+calls-more old new file i call within keeps all is placed =
+    subst (All (HasPlaces new)) (sym (take_more file i call within))
+    (All-push (HasPlaces new) (take i file) (get_or file i call) (all-places-kept old new (take i file) keeps all) (subst (HasPlaces new) is placed))
+
+pub files-more : (old new : List (Option ℕ)) (files : List (List Call)) (i : ℕ) → i < length files → KeepsPlaces old new
+    → All (All (HasPlaces old)) (take i files) → All (HasPlaces new) (get_or files i []) → All (All (HasPlaces new)) (take (i + 1) files)
+files-more old new files i within keeps all placed =
+    subst (All (All (HasPlaces new))) (sym (take_more files i [] within))
+    (All-push (All (HasPlaces new)) (take i files) (get_or files i []) (files-places-kept old new (take i files) keeps all) placed)
+
+-- the named accounts are there
+pub named-known : (accounts : ℕ) (named : List ℕ) (places : List (Option ℕ)) → ArePlaces accounts named places → All (λ a. a < accounts) named
+named-known accounts named places law q d within =
+    let size = law.size in
+    let known = place-known places (get_or named q 0) q (law.back q within) in
+    let same : get_or named q d ≡ get_or named q 0 = get_or_default named q d 0 within in
+    omega arith

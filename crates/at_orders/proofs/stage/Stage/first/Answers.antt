@@ -1,0 +1,30 @@
+use Rattle.std.proofs.Common.{◌≡◌, ℕ, length, map, replicate, take, ap, ◌∙◌, arith}
+use Rattle.std.proofs.lemmas.List.{take_all}
+use Rattle.at_ledger.specs.Book.{BookTerms, account_of}
+use Rattle.at_orders.specs.declared.stage.Stage.{Stage}
+use Rattle.at_orders.proofs.Requests.{first-is, standing-first}
+use Rattle.at_orders.proofs.stage.Stage.first.Goals as goal
+
+pub returns-clause-stage : goal.returns-clause-stage
+returns-clause-stage c =
+    let g = c.args.ground.now in
+    let processes : c.processes-processes.result ≡ g.book.processes = c.processes-processes.ensures ∙ ap (λ (b : BookTerms). b.processes) c.book-book.ensures.book in
+    let all : take c.loop-account.account-index g.named ≡ g.named =
+    take_all c.loop-account.account-index g.named (let past = c.loop-account-test.false in let size = ap (length {A = ℕ}) c.named-account-items.ensures.named in omega arith) in
+    let s : Stage = record { made = c.in_ok-vec.field-0; balances = c.loop-account.balances; sent = c.in_ok-vec-2.field-0 } in
+    first-is g s c.book-book.ensures.known.places
+    (c.in_ok-vec.ensures.items_if_clones_equal (λ y is. is) ∙ ap (λ (n : ℕ). replicate n 0) processes)
+    (c.loop-account.invariant ∙ ap (map (λ a. (account_of g.book a).opening)) all)
+    (c.in_ok-vec-2.ensures.items_if_clones_equal (λ y is. is) ∙ ap (λ (n : ℕ). replicate n 0) processes)
+
+pub returns-clause-standing : goal.returns-clause-standing
+returns-clause-standing c =
+    let g = c.args.ground.now in
+    let processes : c.processes-processes.result ≡ g.book.processes = c.processes-processes.ensures ∙ ap (λ (b : BookTerms). b.processes) c.book-book.ensures.book in
+    let all : take c.loop-account.account-index g.named ≡ g.named =
+    take_all c.loop-account.account-index g.named (let past = c.loop-account-test.false in let size = ap (length {A = ℕ}) c.named-account-items.ensures.named in omega arith) in
+    let s : Stage = record { made = c.in_ok-vec.field-0; balances = c.loop-account.balances; sent = c.in_ok-vec-2.field-0 } in
+    standing-first g s c.book-book.ensures.known.places
+    (c.in_ok-vec.ensures.items_if_clones_equal (λ y is. is) ∙ ap (λ (n : ℕ). replicate n 0) processes)
+    (c.loop-account.invariant ∙ ap (map (λ a. (account_of g.book a).opening)) all)
+    (c.in_ok-vec-2.ensures.items_if_clones_equal (λ y is. is) ∙ ap (λ (n : ℕ). replicate n 0) processes)

@@ -1,0 +1,29 @@
+use Rattle.std.proofs.Common.{◌≡◌, ℕ, Some, true, leb, length, get_or, take, [], sym, ap, subst, ◌∙◌, arith}
+use Rattle.std.specs.Prelude.{slice_get}
+use Rattle.std.proofs.lemmas.Bool.{le-leb}
+use Rattle.std.proofs.lemmas.List.{get_or_default}
+use Rattle.at_ledger.specs.Account.{is_shared}
+use Rattle.at_ledger.specs.Book.{BookTerms, account_of}
+use Rattle.at_orders.specs.Stages.{payments_from}
+use Rattle.at_orders.proofs.Requests.{first_account-payout, is_full-counted}
+use Rattle.at_orders.proofs.stage.Stage.is_full.Goals as goal
+
+pub returns-in_default : goal.returns-in_default
+returns-in_default c =
+    let g = c.args.ground.now in
+    let p : ℕ = c.args.process in
+    let a : ℕ = c.args.source in
+    let i : ℕ = c.index-in_default.result.now in
+    let book = c.book-book.ensures.book in
+    let owners : c.owner_count.result ≡ length (account_of g.book a).owners = c.owner_count.ensures.count ∙ ap (λ (b : BookTerms). length (account_of b a).owners) book in
+    let other = c.in_default in
+    let shared : is_shared (account_of g.book a) ≡ true = le-leb 2 (length (account_of g.book a).owners) (omega arith) in
+    let next = c.requires.next.1 in
+    let at : i ≡ get_or c.args.self.now.made.items p 0 =
+    (let known = c.requires.process_in in let counts = c.requires.standing.counts in c.index-in_default.ensures ∙ get_or_default c.args.self.now.made.items p _ 0 (omega arith)) in
+    let there = subst (λ (n : ℕ). slice_get (get_or g.files p []) n ≡ Some next.call) (sym at) next.next in
+    let count = c.payments_before-used.ensures.count next.call there
+    ∙ ap (λ (n : ℕ). payments_from n (take i (get_or g.files p []))) (first_account-payout a c.requires.next.0 next.call next.paid) in
+    let room : c.request_room.result ≡ g.book.request_room = c.request_room.ensures ∙ ap (λ (b : BookTerms). b.request_room) book in
+    ap (λ (r : ℕ). leb r c.payments_before-used.result) room
+    ∙ is_full-counted g c.args.self.now p a i c.payments_before-used.result c.requires.process_in c.requires.source_in c.requires.owner shared at count
