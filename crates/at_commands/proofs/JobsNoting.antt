@@ -10,7 +10,7 @@ use Rattle.std.proofs.lemmas.List.Elements.{AllZip-get_or}
 use Rattle.std.proofs.lemmas.Slice.Zip.{AllZip-long}
 use Rattle.std.specs.List.{AllZip}
 use Rattle.at_board.specs.Knowledge.Seats.{BoardTerms}
-use Rattle.at_files.specs.Files.{IsPlayable}
+use Rattle.at_ledger.specs.Files.{IsPlayable}
 use Rattle.at_journal.proofs.JournalRuns.{Legal-journal_lines}
 use Rattle.at_journal.proofs.WholeLaws.{Whole-journal_lines}
 use Rattle.at_ledger.specs.Book.{BookTerms, IsBegun}

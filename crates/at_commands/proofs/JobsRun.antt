@@ -6,7 +6,7 @@ use Rattle.std.proofs.lemmas.List.{get_or-map, length-map}
 use Rattle.std.proofs.lemmas.List.Elements.{AllZip-get_or}
 use Rattle.std.proofs.lemmas.Slice.Zip.{AllZip-long}
 use Rattle.std.specs.List.{AllZip}
-use Rattle.at_files.specs.Files.{IsPlayable}
+use Rattle.at_ledger.specs.Files.{IsPlayable}
 use Rattle.at_board.specs.Knowledge.Seats.{BoardTerms}
 use Rattle.at_journal.specs.Calls.{calls_in}
 use Rattle.at_ledger.specs.Book.{BookTerms}

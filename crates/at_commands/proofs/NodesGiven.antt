@@ -11,12 +11,12 @@ use Rattle.at_broadcast.specs.declared.message.Message.{Message}
 use Rattle.at_broadcast.proofs.MessageLaws.{message_of-new, message_of-other}
 use Rattle.at_broadcast.proofs.NodeLaws.{IsClosed-IsNode, ShowsBalances-IsNode}
 use Rattle.at_broadcast.proofs.StartLaws.{none-start}
-use Rattle.at_files.specs.Files.{contents_of}
+use Rattle.at_ledger.specs.Files.{contents_of}
 use Rattle.at_files.specs.Deliveries.{IsDelivery}
 use Rattle.at_files.specs.Limits.{most_messages}
 use Rattle.at_files.specs.declared.deliveries.Delivery.{Delivery}
 use Rattle.at_files.proofs.FieldLaws.{both_tests}
-use Rattle.at_files.proofs.FileLists.{get_or-contents_of, length-contents_of}
+use Rattle.at_ledger.proofs.FileLists.{get_or-contents_of, length-contents_of}
 use Rattle.at_ledger.specs.Book.{BookTerms}
 use Rattle.at_loading.specs.Loading.{LoadedOf}
 use Rattle.at_commands.specs.Nodes.{AreNodesOf, AreSent, IsNodeOf, all_sent, counts_of, gives, message_given}

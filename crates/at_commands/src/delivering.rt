@@ -1,7 +1,7 @@
 //! What `deliver` prints of a broadcast.
 
 ghost use Rattle.std.specs.Prelude.{◌≡◌, ◌≢◌, ◌+◌, ◌^◌, ◌<◌, ◌≤◌, ℕ, All, length, map, true, None, Ok, Err, IfOk, IfErr, OnOk};
-ghost use Rattle.at_files.specs.Files.{contents_of};
+ghost use Rattle.at_ledger.specs.Files.{contents_of};
 ghost use Rattle.at_files.specs.Deliveries.{IsDelivery};
 ghost use Rattle.at_files.specs.Limits.{most_messages};
 ghost use Rattle.at_io.specs.Faults.{Rose};

@@ -2,7 +2,7 @@
 
 ghost use Rattle.std.specs.Prelude.{◌≡◌, ◌^◌, ◌<◌, ◌≤◌, ◌++◌, [], ◌∷◌, length, replicate, map, All, List, Ok, IfOk, OnOk};
 ghost use Rattle.at_broadcast.specs.Node.{IsNode, starting_state};
-ghost use Rattle.at_files.specs.Files.{contents_of};
+ghost use Rattle.at_ledger.specs.Files.{contents_of};
 ghost use Rattle.at_files.specs.Deliveries.{IsDelivery};
 ghost use Rattle.at_files.specs.declared.deliveries.Delivery.{Delivery};
 ghost use Rattle.at_loading.specs.Loading.{loaded_shown};

@@ -2,7 +2,7 @@
 
 ghost use Rattle.std.specs.Prelude.{◌≡◌, ◌<◌, ◌^◌, ◌++◌, [], length, map, true, All, IfOk, None, OnOk, Some, if◌then◌else◌};
 ghost use Rattle.std.specs.Option.{option_map, option_to_list};
-ghost use Rattle.at_files.specs.Files.{IsPlayable, contents_of};
+ghost use Rattle.at_ledger.specs.Files.{IsPlayable, contents_of};
 ghost use Rattle.at_ledger.specs.Call.{IsCallOn};
 ghost use Rattle.at_log.specs.Receipts.{calls_of, lists_in};
 ghost use Rattle.at_object.specs.Closings.{AreAccountedFor};

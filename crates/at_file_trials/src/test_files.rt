@@ -1,7 +1,7 @@
 //! Books and payments that are read, and texts that are long.
 
 ghost use Rattle.std.specs.Prelude.{◌≡◌, All, IfSome, length};
-ghost use Rattle.at_files.specs.Files.{IsPlayable, contents_of};
+ghost use Rattle.at_ledger.specs.Files.{IsPlayable, contents_of};
 ghost use Rattle.at_files.specs.Names.{AreNamesOf};
 
 use at_files::{Names, read_book, read_payments};

@@ -21,4 +21,3 @@ pub mod SpelledLaws
 pub mod DeliveryLaws
 pub mod ScheduleLaws
 pub mod MessageLaws
-pub mod FileLists

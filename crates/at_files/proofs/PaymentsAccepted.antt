@@ -14,7 +14,7 @@ use Rattle.at_ledger.specs.Limits.{most_targets}
 use Rattle.at_files.specs.Names.{AreNames, NameList, AreNamesOf, account_name}
 use Rattle.at_files.specs.Records.{Fields, has_shape}
 use Rattle.at_files.specs.Payments.{plain_call_of, named_call_of, call_of, has_amounts, is_pay, targets_spelled, fields_of_targets, calls_or_fault, payments_of, fields_of_call, IsCallOfVersion, HasAmounts, Pays}
-use Rattle.at_files.specs.Limits.{most_calls}
+use Rattle.at_ledger.specs.Limits.{most_calls}
 use Rattle.at_files.specs.Spelled.{items_of}
 use Rattle.at_files.specs.declared.payments_fault.PaymentsWhy.TheVariants.{TooManyCalls}
 use Rattle.at_files.specs.declared.payments_fault.BadPayments.{BadPayments}

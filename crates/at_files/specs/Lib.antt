@@ -5,7 +5,6 @@ pub mod NameSet
 pub mod Records
 pub mod Reading
 pub mod Payments
-pub mod Files
 pub mod ReplayPayments
 pub mod BookRecords
 pub mod BookFile

@@ -1,10 +1,6 @@
 -- The limits of the files beside a book, and of a name, as numbers.
 use Rattle.std.specs.Prelude.{ℕ}
 
--- calls of one payment file
-abbrev pub most_calls : ℕ
-most_calls = 16384
-
 -- calls of one payment file for a replay
 abbrev pub most_replay_calls : ℕ
 most_replay_calls = 64

@@ -8,7 +8,7 @@ use Rattle.at_ledger.specs.declared.call.Call.TheVariants.{Transfer, Read, Pay}
 use Rattle.at_ledger.specs.Limits.{most_targets}
 use Rattle.at_files.specs.Names.{NameList, account_name, position_of}
 use Rattle.at_files.specs.Records.{Fields, before, field_of, number_at, has_shape}
-use Rattle.at_files.specs.Limits.{most_calls}
+use Rattle.at_ledger.specs.Limits.{most_calls}
 use Rattle.at_files.specs.declared.payments_fault.PaymentsWhy.{PaymentsWhy}
 use Rattle.at_files.specs.declared.payments_fault.PaymentsWhy.TheVariants.{Shape, Number, UnknownAccount, TooManyCalls}
 use Rattle.at_files.specs.declared.payments_fault.BadPayments.{BadPayments}

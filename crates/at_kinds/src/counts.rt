@@ -1,7 +1,7 @@
 //! How many payments of each kind the files have, and how many from each account its owners make.
 
 ghost use Rattle.std.specs.Prelude.{◌≡◌, ◌+◌, ◌^◌, ◌<◌, [], ◌∷◌, All, IfOk, length, slice_index, slice_set};
-ghost use Rattle.at_files.specs.Files.{IsPlayable, contents_of};
+ghost use Rattle.at_ledger.specs.Files.{IsPlayable, contents_of};
 ghost use Rattle.at_ledger.specs.Call.{IsCallOn};
 ghost use Rattle.at_kinds.specs.Counting.{AreCounted, AreCounts, HasRoomToCount};
 

@@ -4,3 +4,6 @@ pub mod Books
 pub mod Credited
 pub mod Run
 pub mod Slots
+pub mod FileLists
+pub mod Made
+pub mod Continuing

@@ -5,3 +5,5 @@ pub mod Draft
 pub mod Call
 pub mod State
 pub mod Run
+pub mod Files
+pub mod NextCalls

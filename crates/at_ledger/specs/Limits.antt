@@ -1,4 +1,4 @@
--- The limits of a book and of a pay-out, as numbers.
+-- The limits of a book, of a pay-out and of a file of calls, as numbers.
 use Rattle.std.specs.Prelude.{ℕ}
 
 -- processes
@@ -28,3 +28,7 @@ most_rounds = 8192
 -- targets of one pay-out
 abbrev pub most_targets : ℕ
 most_targets = 4
+
+-- calls of one file
+abbrev pub most_calls : ℕ
+most_calls = 16384

@@ -3,7 +3,7 @@ use Rattle.std.specs.Prelude.{◌≡◌, ℕ, ◌+◌, Bool, true, ◌<◌, ◌�
 use Rattle.at_broadcast.specs.declared.message.Message.{Message}
 use Rattle.at_ledger.specs.Book.{BookTerms}
 use Rattle.at_ledger.specs.declared.call.Call.{Call}
-use Rattle.at_files.specs.Files.{contents_of}
+use Rattle.at_ledger.specs.Files.{contents_of}
 use Rattle.at_files.specs.Records.{file_records}
 use Rattle.at_files.specs.Results.{and_then}
 use Rattle.at_files.specs.Names.{NameList}

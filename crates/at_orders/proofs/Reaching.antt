@@ -9,9 +9,9 @@ use Rattle.at_ledger.specs.Run.{Run, asked_in, lines_of, run_from}
 use Rattle.at_ledger.specs.declared.call.Call.{Call}
 use Rattle.at_ledger.specs.declared.call.Line.{Line}
 use Rattle.at_ledger.proofs.Run.{run_from-cons, run_from-nil}
-use Rattle.at_verify.specs.Walk.{AreWithinFiles, IsNextOfProcess, with_made}
-use Rattle.at_verify.proofs.Continuing.{AreWithinFiles-none, Continues, Completes, completes, continues-cons, continues-from_cons, continues-whole, none_made, whole-continues}
-use Rattle.at_verify.proofs.Made.{AreWithinFiles-next, get_or-with_made, get_or-with_made_other}
+use Rattle.at_ledger.specs.NextCalls.{AreWithinFiles, IsNextOfProcess, with_made}
+use Rattle.at_ledger.proofs.Continuing.{AreWithinFiles-none, Continues, Completes, completes, continues-cons, continues-from_cons, continues-whole, none_made, whole-continues}
+use Rattle.at_ledger.proofs.Made.{AreWithinFiles-next, get_or-with_made, get_or-with_made_other}
 use Rattle.at_orders.specs.Orders.{Comes, IsOrder}
 use Rattle.at_orders.specs.Stages.{IsStage, StageTerms, stage_after}
 

@@ -20,8 +20,8 @@ use Rattle.at_ledger.specs.declared.call.Call.{Call}
 use Rattle.at_ledger.specs.declared.call.Reply.{Reply}
 use Rattle.at_ledger.specs.declared.call.Reply.TheVariants.{Balance, Done, Full, NotOwner, Short}
 use Rattle.at_ledger.specs.declared.call.Call.TheVariants.{Transfer, Read, Pay}
-use Rattle.at_verify.specs.Walk.{with_made}
-use Rattle.at_verify.proofs.Made.{get_or-with_made, get_or-with_made_other}
+use Rattle.at_ledger.specs.NextCalls.{with_made}
+use Rattle.at_ledger.proofs.Made.{get_or-with_made, get_or-with_made_other}
 use Rattle.at_orders.specs.Stages.{GroundTerms, after_success, balances_at, calls_made, first_stage, is_payment_from, ledger_at, payments_from, requests_at, requests_of, stage_after, stage_at}
 use Rattle.at_orders.specs.Walk.{ArePlaces, IsMadeTo, IsNextCall, IsNextPayment, IsStanding}
 use Rattle.at_orders.specs.declared.stage.Stage.{Stage}

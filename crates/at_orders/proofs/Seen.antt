@@ -14,9 +14,9 @@ use Rattle.at_ledger.specs.State.{opening_state, step}
 use Rattle.at_ledger.specs.Call.{IsCallOn}
 use Rattle.at_ledger.specs.declared.call.Call.{Call}
 use Rattle.at_ledger.specs.declared.call.Line.{Line}
-use Rattle.at_verify.specs.Walk.{AreWithinFiles, IsNextOfProcess, with_made}
-use Rattle.at_verify.proofs.Made.{AreWithinFiles-next, sum-with_made}
-use Rattle.at_verify.proofs.Continuing.{AreWithinFiles-none, none_made}
+use Rattle.at_ledger.specs.NextCalls.{AreWithinFiles, IsNextOfProcess, with_made}
+use Rattle.at_ledger.proofs.Made.{AreWithinFiles-next, sum-with_made}
+use Rattle.at_ledger.proofs.Continuing.{AreWithinFiles-none, none_made}
 use Rattle.at_orders.specs.Stages.{GroundTerms, IsStage, StageTerms, balances_at, first_stage, ledger_at, requests_at, stage_after, stage_at}
 use Rattle.at_orders.specs.Walk.{AreLevel, ArePlaces, Grows, HasAllNext, HasPlaces, HasStage, IsGround, IsNextCall, IsSeen, IsStanding, IsWalkedTo}
 use Rattle.at_orders.specs.declared.stage.Stage.{Stage}

@@ -12,8 +12,8 @@ use Rattle.at_ledger.specs.State.{LedgerState, opening_state, step}
 use Rattle.at_ledger.specs.declared.call.Call.{Call}
 use Rattle.at_ledger.specs.declared.call.Line.{Line}
 use Rattle.at_ledger.specs.declared.call.Reply.{Reply}
-use Rattle.at_verify.specs.Walk.{IsNextOfProcess, with_made}
-use Rattle.at_verify.proofs.Continuing.{none_made}
+use Rattle.at_ledger.specs.NextCalls.{IsNextOfProcess, with_made}
+use Rattle.at_ledger.proofs.Continuing.{none_made}
 use Rattle.at_orders.specs.Orders.{AreAnswers, Comes}
 use Rattle.at_orders.specs.Replies.{AreJust, no_replies, replies_with}
 use Rattle.at_orders.specs.Stages.{GroundTerms, HasMoreStages, IsStage, StageTerms, first_stage, ledger_at, stage_after, stage_at}

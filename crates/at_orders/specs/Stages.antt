@@ -8,7 +8,7 @@ use Rattle.at_ledger.specs.State.{LedgerState, moved, opening_state, step, with_
 use Rattle.at_ledger.specs.Run.{last_state, lines_of}
 use Rattle.at_ledger.specs.declared.call.Call.{Call}
 use Rattle.at_ledger.specs.declared.call.Line.{Line}
-use Rattle.at_verify.specs.Walk.{with_made}
+use Rattle.at_ledger.specs.NextCalls.{with_made}
 use Rattle.at_orders.specs.Orders.{IsOrder}
 use Rattle.at_orders.specs.declared.stage.Stage.{Stage}
 

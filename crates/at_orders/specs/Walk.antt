@@ -3,11 +3,11 @@ use Rattle.std.specs.Prelude.{◌≡◌, ℕ, ◌+◌, ◌<◌, ◌≤◌, ◌�
 use Rattle.at_ledger.specs.Book.{IsBook, total_of}
 use Rattle.at_ledger.specs.Call.{TargetPair, first_account, payout_of}
 use Rattle.at_ledger.specs.State.{LedgerState, step}
-use Rattle.at_files.specs.Files.{IsPlayable}
+use Rattle.at_ledger.specs.Files.{IsPlayable}
 use Rattle.at_ledger.specs.declared.call.Call.{Call}
 use Rattle.at_ledger.specs.declared.call.Call.TheVariants.{Transfer, Read, Pay}
 use Rattle.at_ledger.specs.declared.call.Reply.{Reply}
-use Rattle.at_verify.specs.Walk.{AreWithinFiles, with_made}
+use Rattle.at_ledger.specs.NextCalls.{AreWithinFiles, with_made}
 use Rattle.at_orders.specs.Stages.{GroundTerms, IsStage, StageTerms, first_stage, ledger_at, payments_from, requests_at, stage_after, stage_at}
 use Rattle.at_orders.specs.Replies.{AreJust}
 use Rattle.at_orders.specs.declared.replies.Replies.{Replies}

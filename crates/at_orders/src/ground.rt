@@ -1,8 +1,8 @@
 //! What the stages of a walk stand on.
 
 ghost use Rattle.std.specs.Prelude.{◌≡◌, ◌<◌, [], All, IfOk, None, Some, length, slice_get, slice_index_or, take};
-ghost use Rattle.at_files.specs.Files.{IsPlayable, contents_of};
-ghost use Rattle.at_files.specs.Limits.{most_calls};
+ghost use Rattle.at_ledger.specs.Files.{IsPlayable, contents_of};
+ghost use Rattle.at_ledger.specs.Limits.{most_calls};
 ghost use Rattle.at_ledger.specs.Call.{IsCallOn, first_account};
 ghost use Rattle.at_ledger.specs.declared.call.Call.{Call};
 ghost use Rattle.at_orders.specs.Stages.{payments_from};
@@ -34,7 +34,7 @@ impl<'a> Drop for Ground<'a> {
 }
 
 impl<'a> Model for Ground<'a> {
-    ghost use Rattle.at_files.specs.Files.{contents_of};
+    ghost use Rattle.at_ledger.specs.Files.{contents_of};
     ghost use Rattle.at_orders.specs.Stages.{GroundTerms};
     ghost use Rattle.at_orders.specs.Walk.{AreAllCountedBefore, IsGround};
 

@@ -1,7 +1,7 @@
 //! What is heard of the replies of each call at the stages that it is made at.
 
 ghost use Rattle.std.specs.Prelude.{◌≡◌, ◌<◌, ◌++◌, List, All, IfOk, [], length, slice_index_or};
-ghost use Rattle.at_files.specs.Files.{contents_of};
+ghost use Rattle.at_ledger.specs.Files.{contents_of};
 ghost use Rattle.at_orders.specs.declared.stage.Stage.{Stage};
 ghost use Rattle.at_orders.specs.Walk.{AreAllHeard, AreHeard, IsStanding};
 

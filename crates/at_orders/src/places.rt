@@ -1,7 +1,7 @@
 //! Where the balances of the accounts that the files name are kept.
 
 ghost use Rattle.std.specs.Prelude.{◌<◌, All, IfOk, OnOk, length};
-ghost use Rattle.at_files.specs.Files.{contents_of};
+ghost use Rattle.at_ledger.specs.Files.{contents_of};
 ghost use Rattle.at_ledger.specs.Call.{AreTargetsOn, IsCallOn};
 ghost use Rattle.at_orders.specs.Walk.{ArePlaces, HasPlace, HasPlaces, KeepsPlaces};
 

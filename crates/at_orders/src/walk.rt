@@ -1,7 +1,7 @@
 //! The walk over all stages, level by level: a level has the stages at which so many calls were made in all.
 
 ghost use Rattle.std.specs.Prelude.{◌≡◌, ◌<◌, ◌≤◌, ◌+◌, ◌⊎◌, ℕ, [], All, Contains, Err, IfOk, OnOk, length, sum};
-ghost use Rattle.at_files.specs.Files.{IsPlayable, contents_of};
+ghost use Rattle.at_ledger.specs.Files.{IsPlayable, contents_of};
 ghost use Rattle.at_orders.specs.declared.stage.Stage.{Stage};
 ghost use Rattle.at_orders.specs.Orders.{AreAnswers};
 ghost use Rattle.at_orders.specs.Stages.{GroundTerms, HasMoreStages, stage_at};

@@ -1,7 +1,7 @@
 //! What each view shows of what was loaded.
 
 ghost use Rattle.std.specs.Prelude.{◌≡◌, All, Err, IfOk, length};
-ghost use Rattle.at_files.specs.Files.{IsPlayable, contents_of};
+ghost use Rattle.at_ledger.specs.Files.{IsPlayable, contents_of};
 ghost use Rattle.at_files.specs.Names.{AreNamesOf};
 ghost use Rattle.at_shows.specs.Refused.{HasTooMany};
 ghost use Rattle.at_shows.specs.Views.{Shows};

@@ -1,4 +1,2 @@
 pub mod FirstLines
-pub mod Made
-pub mod Continuing
 pub mod Walking

@@ -17,10 +17,11 @@ use Rattle.at_files.specs.Names.{NameList, process_name}
 use Rattle.at_report.specs.Lines.{IsFirstWord, IsWord, call_words, journal_words, line_text, lines_text, reply_word}
 use Rattle.at_report.specs.Report.{audit_lines, heading_words, report_text}
 use Rattle.at_verify.specs.Right.{IsReport, IsFirstWrong, first_lines, newlines}
-use Rattle.at_verify.specs.Walk.{ArePartedAt, AreWithinFiles, DifferAt, IsNextOfProcess, PartsAt, with_made}
-use Rattle.at_verify.proofs.Continuing.{AreWithinFiles-none, Continues, completes, continues-cons, continues-from_cons, continues-from_nil, continues-whole, length-continues, none_made, sum-none, whole-continues}
+use Rattle.at_verify.specs.Walk.{ArePartedAt, DifferAt, PartsAt}
+use Rattle.at_ledger.specs.NextCalls.{AreWithinFiles, IsNextOfProcess, with_made}
+use Rattle.at_ledger.proofs.Continuing.{AreWithinFiles-none, Continues, completes, continues-cons, continues-from_cons, continues-from_nil, continues-whole, length-continues, none_made, sum-none, whole-continues}
 use Rattle.at_verify.proofs.FirstLines.{first_byte, first_lines-after, first_lines-fewer, first_lines-within, first_word}
-use Rattle.at_verify.proofs.Made.{AreWithinFiles-next, all_made}
+use Rattle.at_ledger.proofs.Made.{AreWithinFiles-next, all_made}
 
 -- two next lines of one process are the same
 

@@ -2,10 +2,11 @@
 
 ghost use Rattle.std.specs.Prelude.{◌≡◌, ◌≤◌, ℕ, All, IfOk, Ok, Some, None, [], length, replicate, sum_by};
 ghost use Rattle.at_ledger.specs.State.{opening_state};
-ghost use Rattle.at_files.specs.Files.{IsPlayable, contents_of};
+ghost use Rattle.at_ledger.specs.Files.{IsPlayable, contents_of};
 ghost use Rattle.at_files.specs.Names.{AreNamesOf};
 ghost use Rattle.at_verify.specs.Right.{IsFirstWrong, IsReport, IsReportOf};
-ghost use Rattle.at_verify.specs.Walk.{AreWithinFiles, PartsAt};
+ghost use Rattle.at_verify.specs.Walk.{PartsAt};
+ghost use Rattle.at_ledger.specs.NextCalls.{AreWithinFiles};
 
 use crate::NoMemory;
 use crate::comparing::{common, difference, newlines};

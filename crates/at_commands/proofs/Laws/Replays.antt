@@ -1,6 +1,6 @@
 -- What the files of `replay` hold, one after another.
 use Rattle.std.proofs.Common.{◌≡◌, ℕ, ◌≤◌, ◌^◌, List, length, All, Ok, Err, refl, arith}
-use Rattle.at_files.specs.Files.{IsPlayable}
+use Rattle.at_ledger.specs.Files.{IsPlayable}
 use Rattle.at_files.specs.BookRecords.{NamedBook}
 use Rattle.at_files.specs.Records.{file_records}
 use Rattle.at_files.proofs.ScheduleLaws.{schedule_of-Schedules}

@@ -3,7 +3,7 @@ use Rattle.std.proofs.Common.{◌≡◌, ℕ, ◌+◌, ◌<◌, List, [], ◌∷
 use Rattle.std.proofs.lemmas.Bool.Decides.{nat_tests}
 use Rattle.at_ledger.specs.Book.{BookTerms, IsBook}
 use Rattle.at_ledger.specs.declared.call.Call.{Call}
-use Rattle.at_files.specs.Files.{IsPlayable, contents_of}
+use Rattle.at_ledger.specs.Files.{IsPlayable, contents_of}
 use Rattle.at_files.specs.BookRecords.{NamedBook}
 use Rattle.at_files.specs.Messages.{messages_spelled}
 use Rattle.at_files.specs.Names.{AreNamesOf, NameList}

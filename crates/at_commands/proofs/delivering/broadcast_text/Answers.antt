@@ -1,6 +1,6 @@
 use Rattle.std.proofs.Common.{◌≡◌, ◌∙◌, ◌+◌, length, string_bytes, inr, arith}
 use Rattle.std.proofs.lemmas.List.{length-map}
-use Rattle.at_files.specs.Files.{contents_of}
+use Rattle.at_ledger.specs.Files.{contents_of}
 use Rattle.at_commands.specs.Delivering.{broadcast, order_beside, order_number}
 use Rattle.at_loading.specs.Faults.Kind.{messages}
 use Rattle.at_loading.specs.Loading.{loaded_shown, named_book}

@@ -1,5 +1,5 @@
 use Rattle.std.proofs.Common.{[]}
-use Rattle.at_files.specs.Files.{contents_of}
+use Rattle.at_ledger.specs.Files.{contents_of}
 use Rattle.at_commands.proofs.Laws.Deliveries.{few_counted}
 use Rattle.at_commands.proofs.delivering.ordered_text.Goals as goal
 

@@ -1,5 +1,5 @@
 use Rattle.std.proofs.Common.{◌≡◌, ◌∙◌, Ok, get_or, [], ap, refl, arith}
-use Rattle.at_files.proofs.FileLists.{length-contents_of}
+use Rattle.at_ledger.proofs.FileLists.{length-contents_of}
 use Rattle.at_loading.specs.Loading.{loaded_shown}
 use Rattle.at_loading.proofs.Laws.FilesLoaded.{same_length}
 use Rattle.at_commands.proofs.NodesGiven.{IsNodeOf-deliver, file_of, message_known, number_small, number_within}

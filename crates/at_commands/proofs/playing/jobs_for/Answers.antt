@@ -5,7 +5,7 @@ use Rattle.std.specs.Option.{is_some}
 use Rattle.std.proofs.lemmas.Grind.{common_steps}
 use Rattle.std.proofs.lemmas.List.{length-map, map-append}
 use Rattle.std.proofs.lemmas.List.Elements.{All-push}
-use Rattle.at_files.specs.Files.{IsPlayable, contents_of}
+use Rattle.at_ledger.specs.Files.{IsPlayable, contents_of}
 use Rattle.at_ledger.specs.declared.call.Call.{Call}
 use Rattle.at_object.specs.Passes.{PassTerms}
 use Rattle.at_commands.proofs.JobsMade.{All-seam, AreJobsFor-all, AreUnmade, IsNewPass-next, IsUnmade, files_of, passes_in}

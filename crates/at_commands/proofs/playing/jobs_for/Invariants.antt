@@ -1,5 +1,5 @@
 use Rattle.std.proofs.Common.{◌≡◌, ◌++◌}
-use Rattle.at_files.specs.Files.{contents_of}
+use Rattle.at_ledger.specs.Files.{contents_of}
 use Rattle.at_commands.proofs.JobsMade.{AreUnmade, files_of, passes_in}
 use Rattle.at_commands.proofs.playing.jobs_for.Given as goal
 

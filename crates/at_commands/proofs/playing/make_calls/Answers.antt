@@ -1,6 +1,6 @@
 use Rattle.std.proofs.Common.{◌≡◌, ◌∙◌, ℕ, List, ◌++◌, drop, length, subst, take}
 use Rattle.std.proofs.Math.Seq.{take-append_seam}
-use Rattle.at_files.specs.Files.{contents_of}
+use Rattle.at_ledger.specs.Files.{contents_of}
 use Rattle.at_commands.proofs.JobsRun.{AreAccountedFor-ran, IfOk-accounted, IfOk-costs, IfOk-receipts, files_of-ran}
 use Rattle.at_commands.proofs.JobsNoting.{AreCosts-ran}
 use Rattle.at_commands.proofs.playing.make_calls.Goals as goal

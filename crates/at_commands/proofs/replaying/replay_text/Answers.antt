@@ -1,6 +1,6 @@
 use Rattle.std.proofs.Common.{◌≡◌, ◌∙◌, ◌+◌, Err, string_bytes, refl, ap, inr, arith}
 use Rattle.std.proofs.lemmas.List.{length-map}
-use Rattle.at_files.specs.Files.{contents_of}
+use Rattle.at_ledger.specs.Files.{contents_of}
 use Rattle.at_loading.specs.Loading.{loaded_shown, named_book}
 use Rattle.at_commands.specs.Replaying.{schedule_number}
 use Rattle.at_loading.specs.Words.{replaying_shown}

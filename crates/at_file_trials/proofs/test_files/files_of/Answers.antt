@@ -2,7 +2,7 @@ use Rattle.std.proofs.Common.{ℕ, List, [], ◌∷◌, ◌++◌, Vec, All, leng
 use Rattle.std.specs.Global.{Global}
 use Rattle.std.proofs.lemmas.List.{length-append, map-append}
 use Rattle.std.proofs.lemmas.List.Elements.{All-append, All-cons, All-nil}
-use Rattle.at_files.specs.Files.{IsPlayable, contents_of}
+use Rattle.at_ledger.specs.Files.{IsPlayable, contents_of}
 use Rattle.at_ledger.specs.declared.call.Call.{Call}
 use Rattle.at_file_trials.proofs.test_files.files_of.Goals as goal
 

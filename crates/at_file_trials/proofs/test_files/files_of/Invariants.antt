@@ -1,5 +1,5 @@
 use Rattle.std.proofs.Common.{◌≡◌, All, length}
-use Rattle.at_files.specs.Files.{IsPlayable, contents_of}
+use Rattle.at_ledger.specs.Files.{IsPlayable, contents_of}
 use Rattle.at_file_trials.proofs.test_files.files_of.Given as goal
 
 abbrev pub invariant-loop-process : goal.invariant-loop-process

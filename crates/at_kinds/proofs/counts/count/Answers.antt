@@ -1,6 +1,6 @@
 use Rattle.std.proofs.Common.{◌≡◌, ◌*◌, ◌-◌, [], List, All, length, sym, subst, ◌∙◌, arith}
-use Rattle.at_files.specs.Files.{IsPlayable, contents_of}
-use Rattle.at_files.proofs.FileLists.{get_or-contents_of, length-contents_of}
+use Rattle.at_ledger.specs.Files.{IsPlayable, contents_of}
+use Rattle.at_ledger.proofs.FileLists.{get_or-contents_of, length-contents_of}
 use Rattle.at_ledger.specs.Call.{IsCallOn}
 use Rattle.at_ledger.specs.declared.call.Call.{Call}
 use Rattle.at_kinds.proofs.CountLaws.{counts-more, room_after, less_room}

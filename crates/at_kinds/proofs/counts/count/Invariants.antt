@@ -1,5 +1,5 @@
 use Rattle.std.proofs.Common.{◌*◌, ◌-◌}
-use Rattle.at_files.specs.Files.{contents_of}
+use Rattle.at_ledger.specs.Files.{contents_of}
 use Rattle.at_kinds.specs.Counting.{AreCounts, HasRoomToCount}
 use Rattle.at_kinds.proofs.counts.count.Given as goal
 

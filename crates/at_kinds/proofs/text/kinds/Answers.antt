@@ -1,7 +1,7 @@
 use Rattle.std.proofs.Common.{ℕ, ◌∙◌, ◌++◌, List, ap, sym, subst}
 use Rattle.std.specs.List.Sorted.{IsStrictlySortedBy}
-use Rattle.at_files.specs.Files.{contents_of}
-use Rattle.at_files.proofs.FileLists.{length-contents_of}
+use Rattle.at_ledger.specs.Files.{contents_of}
+use Rattle.at_ledger.proofs.FileLists.{length-contents_of}
 use Rattle.at_ledger.specs.declared.call.Call.{Call}
 use Rattle.at_report.specs.Lines.{lines_text}
 use Rattle.at_kinds.specs.Counting.{AreCounts}

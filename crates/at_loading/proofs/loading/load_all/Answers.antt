@@ -1,7 +1,7 @@
 use Rattle.std.proofs.Common.{◌≡◌, ◌∙◌, ap, refl, arith, length, Err}
 use Rattle.std.proofs.lemmas.List.{length-map}
 use Rattle.std.specs.Prelude.{string_bytes}
-use Rattle.at_files.proofs.FileLists.{length-contents_of}
+use Rattle.at_ledger.proofs.FileLists.{length-contents_of}
 use Rattle.at_loading.specs.Words.{words_of}
 use Rattle.at_loading.proofs.Laws.FilesLoaded.{MayReach-file, loaded-count, loaded-files, loaded-refused}
 use Rattle.at_loading.proofs.Laws.MayRefuse.{MayRefuse-whole, refusal_of}

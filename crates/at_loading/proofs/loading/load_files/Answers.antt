@@ -1,8 +1,8 @@
 use Rattle.std.proofs.Common.{◌≡◌, ◌∙◌, ◌<◌, [], ◌∷◌, get_or, length, refl, sym, arith, length-append}
 use Rattle.std.proofs.lemmas.List.{length-map}
 use Rattle.std.proofs.lemmas.List.Elements.{All-push}
-use Rattle.at_files.specs.Files.{contents_of}
-use Rattle.at_files.proofs.FileLists.{contents_of-nil, contents_of-pushed, length-contents_of}
+use Rattle.at_ledger.specs.Files.{contents_of}
+use Rattle.at_ledger.proofs.FileLists.{contents_of-nil, contents_of-pushed, length-contents_of}
 use Rattle.at_loading.specs.Words.{words_of}
 use Rattle.at_loading.specs.Loading.{IsSpelled, named_book}
 use Rattle.at_loading.proofs.Laws.FilesLoaded.{EachSpells-push, files_loaded-nil, files_loaded-refused_at, files_loaded-take_more, get_or-words_of, same_length}

@@ -1,5 +1,5 @@
 use Rattle.std.proofs.Common.{◌≡◌, true, Ok, take, length, All}
-use Rattle.at_files.specs.Files.{contents_of}
+use Rattle.at_ledger.specs.Files.{contents_of}
 use Rattle.at_io.specs.Shelf.{SameFiles}
 use Rattle.at_loading.specs.Words.{words_of}
 use Rattle.at_loading.specs.Loading.{EachSpells, IsSpelled, files_loaded, named_book}

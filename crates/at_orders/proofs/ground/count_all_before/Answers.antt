@@ -1,6 +1,6 @@
 use Rattle.std.proofs.Common.{ℕ, ◌+◌, List, [], take, sym, subst, ◌∙◌, arith}
-use Rattle.at_files.specs.Files.{IsPlayable, contents_of}
-use Rattle.at_files.proofs.FileLists.{contents_of-pushed, get_or-contents_of, length-contents_of}
+use Rattle.at_ledger.specs.Files.{IsPlayable, contents_of}
+use Rattle.at_ledger.proofs.FileLists.{contents_of-pushed, get_or-contents_of, length-contents_of}
 use Rattle.at_ledger.specs.declared.call.Call.{Call}
 use Rattle.at_orders.specs.Walk.{AreAllCountedBefore, AreCountedBefore}
 use Rattle.at_orders.proofs.Counting.{all-counted-more}

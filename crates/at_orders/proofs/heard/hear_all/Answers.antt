@@ -3,8 +3,8 @@ use Rattle.std.proofs.lemmas.List.{map-set, with_items_is}
 use Rattle.std.specs.Vec.{with_items}
 use Rattle.std.specs.Prelude.{Vec}
 use Rattle.std.specs.Global.{Global}
-use Rattle.at_files.specs.Files.{contents_of}
-use Rattle.at_files.proofs.FileLists.{get_or-contents_of, length-contents_of}
+use Rattle.at_ledger.specs.Files.{contents_of}
+use Rattle.at_ledger.proofs.FileLists.{get_or-contents_of, length-contents_of}
 use Rattle.at_ledger.specs.Book.{BookTerms}
 use Rattle.at_orders.specs.declared.replies.Replies.{Replies}
 use Rattle.at_orders.specs.declared.stage.Stage.{Stage}

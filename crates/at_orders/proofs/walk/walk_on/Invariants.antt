@@ -1,5 +1,5 @@
 use Rattle.std.proofs.Common.{◌+◌, ◌-◌, ◌≤◌, length}
-use Rattle.at_files.specs.Files.{contents_of}
+use Rattle.at_ledger.specs.Files.{contents_of}
 use Rattle.at_orders.specs.Walk.{IsWalked}
 use Rattle.at_orders.proofs.walk.walk_on.Given as goal
 

@@ -1,7 +1,7 @@
 use Rattle.std.proofs.Common.{◌≡◌, ◌++◌, ◌<◌, ◌∙◌, [], ℕ, All, List, get_or, sym, arith, length}
 use Rattle.std.specs.Prelude.{slice_index_or}
-use Rattle.at_files.specs.Files.{IsPlayable, contents_of}
-use Rattle.at_files.proofs.FileLists.{get_or-contents_of, length-contents_of}
+use Rattle.at_ledger.specs.Files.{IsPlayable, contents_of}
+use Rattle.at_ledger.proofs.FileLists.{get_or-contents_of, length-contents_of}
 use Rattle.at_ledger.specs.Call.{IsCallOn}
 use Rattle.at_ledger.specs.declared.call.Call.{Call}
 use Rattle.at_orders.specs.declared.replies.Replies.{Replies}

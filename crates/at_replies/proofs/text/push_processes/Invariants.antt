@@ -1,5 +1,5 @@
 use Rattle.std.proofs.Common.{◌≡◌, ◌++◌}
-use Rattle.at_files.specs.Files.{contents_of}
+use Rattle.at_ledger.specs.Files.{contents_of}
 use Rattle.at_report.specs.Records.{records_text}
 use Rattle.at_replies.specs.OrdersText.{replies_records}
 use Rattle.at_replies.proofs.text.push_processes.Given as goal

@@ -1,6 +1,6 @@
 use Rattle.std.proofs.Common.{◌∙◌, refl}
 use Rattle.std.proofs.lemmas.List.{length-map}
-use Rattle.at_files.specs.Files.{contents_of}
+use Rattle.at_ledger.specs.Files.{contents_of}
 use Rattle.at_log.specs.Receipts.{lists_in}
 use Rattle.at_shows.proofs.PlayedCosts.{HaveCosts-played}
 use Rattle.at_shows.proofs.views.costs_shown.Goals as goal

@@ -1,7 +1,7 @@
 use Rattle.std.proofs.Common.{◌≡◌, ℕ, [], Option, List, length, get_or, take, All, sym, subst, ◌∙◌, arith}
 use Rattle.std.proofs.lemmas.List.{take_all}
-use Rattle.at_files.specs.Files.{contents_of}
-use Rattle.at_files.proofs.FileLists.{get_or-contents_of, length-contents_of}
+use Rattle.at_ledger.specs.Files.{contents_of}
+use Rattle.at_ledger.proofs.FileLists.{get_or-contents_of, length-contents_of}
 use Rattle.at_ledger.specs.Call.{IsCallOn}
 use Rattle.at_ledger.specs.declared.call.Call.{Call}
 use Rattle.at_orders.specs.Walk.{ArePlaces, HasPlaces}

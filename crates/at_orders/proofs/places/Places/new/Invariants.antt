@@ -1,5 +1,5 @@
 use Rattle.std.proofs.Common.{◌≡◌, All, length, take}
-use Rattle.at_files.specs.Files.{contents_of}
+use Rattle.at_ledger.specs.Files.{contents_of}
 use Rattle.at_orders.specs.Walk.{ArePlaces, HasPlaces}
 use Rattle.at_orders.proofs.places.Places.new.Given as goal
 

@@ -4,7 +4,7 @@ use Rattle.std.proofs.lemmas.Option.{slice_get_within}
 use Rattle.std.specs.Prelude.{Vec}
 use Rattle.std.specs.Global.{Global}
 use Rattle.std.specs.Vec.{with_item}
-use Rattle.at_verify.specs.Walk.{with_made}
+use Rattle.at_ledger.specs.NextCalls.{with_made}
 use Rattle.at_orders.proofs.Requests.{stage_after-made}
 use Rattle.at_orders.proofs.stage.Stage.after.Goals as goal
 

@@ -16,8 +16,8 @@ use Rattle.at_ledger.specs.declared.call.Call.{Call}
 use Rattle.at_ledger.specs.declared.call.Call.TheVariants.{Read}
 use Rattle.at_ledger.specs.declared.call.Line.{Line}
 use Rattle.at_ledger.proofs.Run.{run_from-cons, run_from-nil}
-use Rattle.at_verify.specs.Walk.{AreWithinFiles, IsNextOfProcess, with_made}
-use Rattle.at_verify.proofs.Made.{AreAllMade, AreWithinFiles-next, all_made, get_or-with_made, get_or-with_made_other, some_left, sum-all_made, sum-le, sum-with_made}
+use Rattle.at_ledger.specs.NextCalls.{AreWithinFiles, IsNextOfProcess, with_made}
+use Rattle.at_ledger.proofs.Made.{AreAllMade, AreWithinFiles-next, all_made, get_or-with_made, get_or-with_made_other, some_left, sum-all_made, sum-le, sum-with_made}
 
 -- each line is the next one at its state, and at the end all calls are made
 unfoldable pub Continues : List (List Call) → LedgerState → List ℕ → List Line → Type 0

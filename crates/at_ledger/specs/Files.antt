@@ -1,9 +1,9 @@
--- The files of all processes, as the program holds them.
+-- The calls of all processes, each process's in a list of the program.
 use Rattle.std.specs.Prelude.{ℕ, ◌≤◌, List, length, map, All, Vec}
 use Rattle.std.specs.Global.{Global}
 use Rattle.at_ledger.specs.Call.{IsCallOn}
 use Rattle.at_ledger.specs.declared.call.Call.{Call}
-use Rattle.at_files.specs.Limits.{most_calls}
+use Rattle.at_ledger.specs.Limits.{most_calls}
 
 -- what each file gave
 abbrev pub contents_of : {T : Type 0} → List (Vec T Global) → List (List T)
