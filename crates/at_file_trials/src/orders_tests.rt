@@ -21,6 +21,19 @@ const ONE_PAYMENT: &[u8] = b"book,1\nprocesses,2\nlimits,1,1\naccount,0,0,0\nacc
 const ROW: &[u8] =
     b"book,1\nprocesses,3\nlimits,4,4\naccount,0,10,0\naccount,1,0,1\naccount,2,0,2\naccount,3,0,\n";
 
+/// Two owners whose openings are all that is paid in `TO_EACH_OTHER`.
+const COVERED: &[u8] =
+    b"book,1\nprocesses,2\nlimits,4,4\naccount,0,100,0\naccount,1,50,1\naccount,2,0,\n";
+
+/// The same, with one less in account 0.
+const ONE_LESS: &[u8] =
+    b"book,1\nprocesses,2\nlimits,4,4\naccount,0,99,0\naccount,1,50,1\naccount,2,0,\n";
+
+const TO_EACH_OTHER: &[&[u8]] = &[
+    b"transfer,0,1,30\nread,1\ntransfer,0,2,70\n",
+    b"transfer,1,0,20\nread,0\ntransfer,1,2,30\n",
+];
+
 const DONE: Replies = Replies {
     done: true,
     short: false,
@@ -83,6 +96,42 @@ const JUST_70: Replies = Replies {
     }),
 };
 
+/// Account 1, where process 1 pays out nothing or 50 of 80.
+const FROM_30_TO_80: Replies = Replies {
+    done: false,
+    short: false,
+    full: false,
+    not_owner: false,
+    balances: Some(Range {
+        least: 30,
+        greatest: 80,
+    }),
+};
+
+/// Account 0, where process 0 pays out nothing or 100 of 120.
+const FROM_20_TO_120: Replies = Replies {
+    done: false,
+    short: false,
+    full: false,
+    not_owner: false,
+    balances: Some(Range {
+        least: 20,
+        greatest: 120,
+    }),
+};
+
+/// The same of 119.
+const FROM_19_TO_119: Replies = Replies {
+    done: false,
+    short: false,
+    full: false,
+    not_owner: false,
+    balances: Some(Range {
+        least: 19,
+        greatest: 119,
+    }),
+};
+
 /// A book, the file of each process, and the replies of their calls, process by process.
 type Case = (&'static [u8], &'static [&'static [u8]], &'static [Replies]);
 
@@ -131,6 +180,23 @@ const CASES: &[Case] = &[
             FROM_0_TO_10,
             DONE_OR_SHORT,
             FROM_0_TO_10,
+        ],
+    ),
+    (
+        COVERED,
+        TO_EACH_OTHER,
+        &[DONE, FROM_30_TO_80, DONE, DONE, FROM_20_TO_120, DONE],
+    ),
+    (
+        ONE_LESS,
+        TO_EACH_OTHER,
+        &[
+            DONE,
+            FROM_30_TO_80,
+            DONE_OR_SHORT,
+            DONE,
+            FROM_19_TO_119,
+            DONE,
         ],
     ),
 ];
@@ -191,23 +257,35 @@ fn are_too_many(alloc: Global, file: &BookFile, text: &[u8]) -> Option<bool>
     }
 }
 
-/// The same for files of so many reads: their stages are as many as pairs of counts of calls.
-fn are_too_many_reads(alloc: Global, reads: u32) -> Option<bool> {
-    let Ok(text) = repeated(alloc, b"read,1\n", reads) else {
+/// The same for files of so many reads, and this line after them.
+fn are_too_many_reads(alloc: Global, reads: u32, last: &[u8]) -> Option<bool> {
+    let Ok(mut text) = repeated(alloc, b"read,1\n", reads) else {
         return None;
     };
+    if text.extend_from_slice(last).is_err() {
+        return None;
+    }
     match book_of(alloc, TWO_OWNERS) {
         Some(file) => are_too_many(alloc, &file, text.as_slice()),
         None => None,
     }
 }
 
+/// A payment that the openings don't cover. It is refused always, for want of balance or of an owner: so the stages are as
+/// many as pairs of counts of calls.
+const REFUSED: &[u8] = b"transfer,0,1,101\n";
+
 #[test]
 fn as_many_stages_as_are_walked(rt: HostRuntime) {
-    assert!(rt; are_too_many_reads(rt.alloc(), 1_023) == Some(false));
+    assert!(rt; are_too_many_reads(rt.alloc(), 1_022, REFUSED) == Some(false));
 }
 
 #[test]
 fn one_row_of_stages_more(rt: HostRuntime) {
-    assert!(rt; are_too_many_reads(rt.alloc(), 1_024) == Some(true));
+    assert!(rt; are_too_many_reads(rt.alloc(), 1_023, REFUSED) == Some(true));
+}
+
+#[test]
+fn covered_files_of_any_size(rt: HostRuntime) {
+    assert!(rt; are_too_many_reads(rt.alloc(), 16_384, b"") == Some(false));
 }

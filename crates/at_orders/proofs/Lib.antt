@@ -6,3 +6,11 @@ pub mod Reaching
 pub mod Hearing
 pub mod Walking
 pub mod Seen
+pub mod Moved
+pub mod Stepping
+pub mod Sums
+pub mod Covering
+pub mod Counts
+pub mod Ranging
+pub mod Playing
+pub mod Answering

@@ -124,7 +124,7 @@ pub record IsReached (b : BookTerms) (files : List (List Call)) (t : StageTerms)
   pub lines : List Line
   pub leads : Leads files (opening_state b) (none_made files) lines t
 
-reached-within : (b : BookTerms) (files : List (List Call)) (t : StageTerms) → IsReached b files t → AreWithinFiles files t.made
+pub reached-within : (b : BookTerms) (files : List (List Call)) (t : StageTerms) → IsReached b files t → AreWithinFiles files t.made
 reached-within b files t reached = leads-within files (opening_state b) (none_made files) reached.lines t (AreWithinFiles-none files) reached.leads
 
 order-from : (b : BookTerms) (files : List (List Call)) (xs ys : List Line) (t : StageTerms) → Leads files (opening_state b) (none_made files) xs t

@@ -2,3 +2,5 @@ pub mod Replies
 pub mod Orders
 pub mod Stages
 pub mod Walk
+pub mod Covered
+pub mod Alone

@@ -22,6 +22,10 @@ balances_with (Some range) v = range_with range v
 abbrev pub no_replies : Replies
 no_replies = record { done = false; short = false; full = false; not_owner = false; balances = None }
 
+-- the balances of a read
+abbrev pub read_replies : Range → Replies
+read_replies range = record no_replies { balances = Some range }
+
 -- and another reply
 abbrev pub replies_with : Replies → Reply → Replies
 replies_with r Done = record r { done = true }

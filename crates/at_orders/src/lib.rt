@@ -1,11 +1,15 @@
 //! Which replies depend on the order in which the processes' calls come: for each call of the files, the replies that
 //! some order of all their calls gives it.
 //!
-//! No order is tried by itself. `orders` walks the stages that the orders go through, each of them once, level by level: by
-//! how many calls were made in all.
+//! No order is tried by itself. Where the openings cover all that the files ask, what one file does depends on no other,
+//! and `orders` adds up what each does alone. Else it walks the stages that the orders go through, each of them once, level
+//! by level: by how many calls were made in all.
 #![tactic(auto)]
 
+mod alone;
 mod answers;
+mod covered;
+mod covered_answers;
 mod error;
 mod ground;
 mod heard;

@@ -25,7 +25,7 @@ impl Range {
     ghost use Rattle.at_orders.specs.Replies.{range_with};
 
     /// The same range, and the balance in it.
-    fn with(self, balance: u64) -> Range
+    pub(crate) fn with(self, balance: u64) -> Range
         ensures { result ≡ range_with self balance }
     {
         Range {
@@ -36,7 +36,7 @@ impl Range {
 }
 
 impl Replies {
-    ghost use Rattle.at_orders.specs.Replies.{no_replies, replies_with};
+    ghost use Rattle.at_orders.specs.Replies.{no_replies, read_replies, replies_with};
 
     /// No reply.
     pub(crate) fn none() -> Replies
@@ -49,6 +49,15 @@ impl Replies {
             not_owner: false,
             balances: None,
         }
+    }
+
+    /// The balances of a read.
+    pub(crate) fn of_read(range: Range) -> Replies
+        ensures { result ≡ read_replies range }
+    {
+        let mut replies = Replies::none();
+        replies.balances = Some(range);
+        replies
     }
 
     /// The same replies, and this one.

@@ -1,0 +1,324 @@
+-- What one step of the ledger changes where its payment isn't short.
+use Rattle.std.proofs.Common.{◌≡◌, ℕ, ◌+◌, ◌*◌, ◌<◌, ◌≤◌, ◌⊎◌, ⊎_elim, inl, Bool, true, false, List, [], ◌∷◌, length, get_or, set, sum, refl, sym, ap, subst, ◌∙◌, arith, eq-eqb}
+use Rattle.std.specs.Prelude.{nat_lt}
+use Rattle.std.proofs.lemmas.Bool.{cases_Bool}
+use Rattle.std.proofs.lemmas.Bool.Decides.{Decides-ltb}
+use Rattle.std.proofs.lemmas.List.{length-set}
+use Rattle.std.proofs.lemmas.List.Elements.{All-cons, All-nil}
+use Rattle.std.proofs.Math.Nat.{mul-le-mul_right}
+use Rattle.at_ledger.specs.Account.{is_shared}
+use Rattle.at_ledger.specs.Book.{BookTerms, account_of, is_owner}
+use Rattle.at_ledger.specs.Call.{AreTargetsOn, IsCallOn, TargetPair, amount_of}
+use Rattle.at_ledger.specs.State.{LedgerState, Step, asked_position, is_full, pay, step}
+use Rattle.at_ledger.specs.declared.call.Call.{Call}
+use Rattle.at_ledger.specs.declared.call.Call.TheVariants.{Transfer, Read, Pay}
+use Rattle.at_ledger.specs.declared.call.Reply.{Reply}
+use Rattle.at_ledger.specs.declared.call.Reply.TheVariants.{Done, NotOwner, Full, Balance}
+use Rattle.at_orders.specs.Covered.{asked_by_call, asked_by_pay}
+use Rattle.at_orders.specs.Alone.{IsTarget, Names}
+use Rattle.at_orders.proofs.Moved.{at_or_off, length-moved, moved-at, moved-cross, moved-off, moved-touch, moved_in, set-at, set-off, sum-moved}
+
+-- a ledger of the book with these numbers
+abbrev pub ledger_of : BookTerms → List ℕ → List ℕ → List ℕ → LedgerState
+ledger_of b xs m k = record { book = b; balances = xs; sent = m; asked = k }
+
+pub ledger-is : (b : BookTerms) (s : LedgerState) → s.book ≡ b → s ≡ ledger_of b s.balances s.sent s.asked
+ledger-is b s book i = record { book = book i; balances = s.balances; sent = s.sent; asked = s.asked }
+
+abbrev one_more : List ℕ → ℕ → List ℕ
+one_more xs i = set xs i (get_or xs i 0 + 1)
+
+-- what a payment does that isn't short: by whether the process owns the source and has used its room, and whether others share the source
+outcome : (own full shared : Bool) → BookTerms → List ℕ → List ℕ → List ℕ → ℕ → ℕ → List TargetPair → Step
+outcome false full shared b xs m k p f ts = record { ledger = ledger_of b xs m k; reply = NotOwner }
+outcome true true shared b xs m k p f ts = record { ledger = ledger_of b xs m k; reply = Full }
+outcome true false true b xs m k p f ts = record { ledger = ledger_of b (moved_in xs f ts) m (one_more k (asked_position b p f)); reply = Done }
+outcome true false false b xs m k p f ts = record { ledger = ledger_of b (moved_in xs f ts) (one_more m p) k; reply = Done }
+
+pay-is : (own full shared : Bool) (b : BookTerms) (xs m k : List ℕ) (p f : ℕ) (ts : List TargetPair) → is_owner b p f ≡ own → is_full (ledger_of b xs m k) p f ≡ full
+    → is_shared (account_of b f) ≡ shared → (is_owner b p f ≡ true → nat_lt (get_or xs f 0) (amount_of ts) ≡ false)
+    → pay (ledger_of b xs m k) p f ts ≡ outcome own full shared b xs m k p f ts
+unfolding outcome
+pay-is false full shared b xs m k p f ts own is_f is_s enough = rw own refl
+pay-is true true shared b xs m k p f ts own is_f is_s enough = rw own (rw is_f refl)
+pay-is true false true b xs m k p f ts own is_f is_s enough = rw own (rw is_f (rw (enough own) (rw is_s refl)))
+pay-is true false false b xs m k p f ts own is_f is_s enough = rw own (rw is_f (rw (enough own) (rw is_s refl)))
+
+-- a position of the requests is of one process and one account
+position-other : (n p q a f : ℕ) → a < n → f < n → (q ≡ p → ⊥) → p * n + f ≡ q * n + a → ⊥
+position-other n p q a f a_in f_in differ same =
+    let cases : (q < p) ⊎ (p ≤ q) = grind arith in
+    ⊎_elim
+    (λ less. let rows : (q + 1) * n ≤ p * n = mul-le-mul_right n (let h : q + 1 ≤ p = omega arith in h) in let row : (q + 1) * n ≡ q * n + n = grind arith in omega arith)
+    (λ more. let rows : (p + 1) * n ≤ q * n = mul-le-mul_right n (let h : p + 1 ≤ q = omega (arith, differ) in h) in let row : (p + 1) * n ≡ p * n + n = grind arith in omega arith)
+    cases
+
+position-in : (n count p f : ℕ) → p < count → f < n → p * n + f < count * n
+position-in n count p f p_in f_in =
+    let rows : (p + 1) * n ≤ count * n = mul-le-mul_right n (let h : p + 1 ≤ count = omega arith in h) in
+    let row : (p + 1) * n ≡ p * n + n = grind arith in
+    omega arith
+
+-- the numbers of a ledger of the book, as many as there should be
+pub record IsFit (b : BookTerms) (s : LedgerState) : Type 0 where
+  pub book : s.book ≡ b
+  pub balances : length s.balances ≡ length b.accounts
+  pub sent : length s.sent ≡ b.processes
+  pub asked : length s.asked ≡ b.processes * length b.accounts
+
+-- what a step of a process leaves alone
+pub record Keeps (b : BookTerms) (p : ℕ) (c : Call) (s : LedgerState) (x : Step) : Type 0 where
+  pub fit : IsFit b x.ledger
+  pub total : sum x.ledger.balances ≡ sum s.balances
+  pub fall : (a : ℕ) → get_or s.balances a 0 ≤ get_or x.ledger.balances a 0 + asked_by_call b p a c
+  pub sent : (q : ℕ) → (q ≡ p → ⊥) → get_or x.ledger.sent q 0 ≡ get_or s.sent q 0
+  pub asked : (q a : ℕ) → (q ≡ p → ⊥) → a < length b.accounts → get_or x.ledger.asked (asked_position b q a) 0 ≡ get_or s.asked (asked_position b q a) 0
+
+-- the process has used the same room in both
+pub record AreAlike (b : BookTerms) (p : ℕ) (s u : LedgerState) : Type 0 where
+  pub sent : get_or s.sent p 0 ≡ get_or u.sent p 0
+  pub asked : (a : ℕ) → a < length b.accounts → get_or s.asked (asked_position b p a) 0 ≡ get_or u.asked (asked_position b p a) 0
+
+-- a step of a process does the same in both
+pub record AreSame (b : BookTerms) (p : ℕ) (s u : LedgerState) (x y : Step) : Type 0 where
+  pub cross : (a : ℕ) → get_or x.ledger.balances a 0 + get_or u.balances a 0 ≡ get_or s.balances a 0 + get_or y.ledger.balances a 0
+  pub alike : AreAlike b p x.ledger y.ledger
+
+asked-at : (b : BookTerms) (p f : ℕ) (ts : List TargetPair) → is_owner b p f ≡ true → asked_by_pay b p f f ts ≡ amount_of ts
+asked-at b p f ts own = rw (own, eq-eqb f f refl) refl
+
+fall-done : (b : BookTerms) (xs : List ℕ) (p f : ℕ) (ts : List TargetPair) (a : ℕ) → is_owner b p f ≡ true → f < length xs → AreTargetsOn (length xs) ts
+    → get_or xs a 0 ≤ get_or (moved_in xs f ts) a 0 + asked_by_pay b p a f ts
+fall-done b xs p f ts a own within are = at_or_off f a
+    (λ same.
+    let low = moved-at xs f ts a within are same in
+    let asks : asked_by_pay b p a f ts ≡ amount_of ts = subst (λ (n : ℕ). asked_by_pay b p n f ts ≡ amount_of ts) same (asked-at b p f ts own) in
+    omega arith)
+    (λ off. let low = moved-off xs f ts a are off in omega arith)
+
+fits-one : (b : BookTerms) (xs m k : List ℕ) → length xs ≡ length b.accounts → length m ≡ b.processes → length k ≡ b.processes * length b.accounts → IsFit b (ledger_of b xs m k)
+fits-one b xs m k x y z = record { book = refl; balances = x; sent = y; asked = z }
+
+outcome-keeps : (own full shared : Bool) (b : BookTerms) (c : Call) (xs m k : List ℕ) (p f : ℕ) (ts : List TargetPair) → ((a : ℕ) → asked_by_call b p a c ≡ asked_by_pay b p a f ts) → is_owner b p f ≡ own
+    → IsFit b (ledger_of b xs m k) → f < length b.accounts → AreTargetsOn (length b.accounts) ts
+    → (is_owner b p f ≡ true → amount_of ts ≤ get_or xs f 0) → Keeps b p c (ledger_of b xs m k) (outcome own full shared b xs m k p f ts)
+unfolding outcome
+outcome-keeps false full shared b c xs m k p f ts asks own fit f_in are enough =
+    record { fit = fit; total = refl; fall = λ a. omega arith; sent = λ q differ. refl; asked = λ q a differ a_in. refl }
+outcome-keeps true true shared b c xs m k p f ts asks own fit f_in are enough =
+    record { fit = fit; total = refl; fall = λ a. omega arith; sent = λ q differ. refl; asked = λ q a differ a_in. refl }
+outcome-keeps true false true b c xs m k p f ts asks own fit f_in are enough =
+    let size = fit.balances in
+    let on : AreTargetsOn (length xs) ts = rw size are in
+    record {
+      fit = fits-one b (moved_in xs f ts) m (one_more k (asked_position b p f)) (length-moved xs f ts ∙ size) fit.sent
+          (length-set k (asked_position b p f) (get_or k (asked_position b p f) 0 + 1) ∙ fit.asked);
+      total = sum-moved xs f ts (omega arith) on (enough own);
+      fall = λ a. let low = fall-done b xs p f ts a own (omega arith) on in let same = asks a in omega arith;
+      sent = λ q differ. refl;
+      asked = λ q a differ a_in. set-off k (asked_position b p f) (get_or k (asked_position b p f) 0 + 1) (asked_position b q a) (position-other (length b.accounts) p q a f a_in f_in differ);
+    }
+outcome-keeps true false false b c xs m k p f ts asks own fit f_in are enough =
+    let size = fit.balances in
+    let on : AreTargetsOn (length xs) ts = rw size are in
+    record {
+      fit = fits-one b (moved_in xs f ts) (one_more m p) k (length-moved xs f ts ∙ size) (length-set m p (get_or m p 0 + 1) ∙ fit.sent) fit.asked;
+      total = sum-moved xs f ts (omega arith) on (enough own);
+      fall = λ a. let low = fall-done b xs p f ts a own (omega arith) on in let same = asks a in omega arith;
+      sent = λ q differ. set-off m p (get_or m p 0 + 1) q (λ same. differ (sym same));
+      asked = λ q a differ a_in. refl;
+    }
+
+-- both lists count one more at the same position
+more-alike : (m n : List ℕ) (i j : ℕ) → length m ≡ length n → i < length m → get_or m i 0 ≡ get_or n i 0 → get_or m j 0 ≡ get_or n j 0 → get_or (one_more m i) j 0 ≡ get_or (one_more n i) j 0
+more-alike m n i j size within here there = at_or_off i j
+    (λ same.
+    let x = set-at m i (get_or m i 0 + 1) j within same in
+    let y = set-at n i (get_or n i 0 + 1) j (omega arith) same in
+    omega arith)
+    (λ off.
+    let x = set-off m i (get_or m i 0 + 1) j off in
+    let y = set-off n i (get_or n i 0 + 1) j off in
+    omega arith)
+
+outcome-same : (own full shared : Bool) (b : BookTerms) (xs m k ys n l : List ℕ) (p f : ℕ) (ts : List TargetPair) → is_owner b p f ≡ own
+    → IsFit b (ledger_of b xs m k) → IsFit b (ledger_of b ys n l) → AreAlike b p (ledger_of b xs m k) (ledger_of b ys n l) → p < b.processes → f < length b.accounts → AreTargetsOn (length b.accounts) ts
+    → (is_owner b p f ≡ true → amount_of ts ≤ get_or xs f 0) → (is_owner b p f ≡ true → amount_of ts ≤ get_or ys f 0)
+    → AreSame b p (ledger_of b xs m k) (ledger_of b ys n l) (outcome own full shared b xs m k p f ts) (outcome own full shared b ys n l p f ts)
+unfolding outcome
+outcome-same false full shared b xs m k ys n l p f ts own fit fit_y alike p_in f_in are enough enough_y = record { cross = λ a. omega arith; alike = alike }
+outcome-same true true shared b xs m k ys n l p f ts own fit fit_y alike p_in f_in are enough enough_y = record { cross = λ a. omega arith; alike = alike }
+outcome-same true false true b xs m k ys n l p f ts own fit fit_y alike p_in f_in are enough enough_y =
+    let size = fit.balances in
+    let on : AreTargetsOn (length xs) ts = rw size are in
+    let place : asked_position b p f < b.processes * length b.accounts = position-in (length b.accounts) b.processes p f p_in f_in in
+    let within : asked_position b p f < length k = rw fit.asked place in
+    record {
+      cross = λ a. moved-cross xs ys f ts a (size ∙ sym fit_y.balances) (omega arith) on (enough own) (enough_y own);
+      alike = record {
+        sent = alike.sent;
+        asked = λ a a_in. more-alike k l (asked_position b p f) (asked_position b p a) (fit.asked ∙ sym fit_y.asked) within (alike.asked f f_in) (alike.asked a a_in);
+      };
+    }
+outcome-same true false false b xs m k ys n l p f ts own fit fit_y alike p_in f_in are enough enough_y =
+    let size = fit.balances in
+    let on : AreTargetsOn (length xs) ts = rw size are in
+    let sents = fit.sent in
+    record {
+      cross = λ a. moved-cross xs ys f ts a (size ∙ sym fit_y.balances) (omega arith) on (enough own) (enough_y own);
+      alike = record {
+        sent = more-alike m n p p (sents ∙ sym fit_y.sent) (omega arith) alike.sent alike.sent;
+        asked = alike.asked;
+      };
+    }
+
+outcome-reply : (own full shared : Bool) (b : BookTerms) (xs m k ys n l : List ℕ) (p f : ℕ) (ts : List TargetPair)
+    → (outcome own full shared b xs m k p f ts).reply ≡ (outcome own full shared b ys n l p f ts).reply
+unfolding outcome
+outcome-reply false full shared b xs m k ys n l p f ts = refl
+outcome-reply true true shared b xs m k ys n l p f ts = refl
+outcome-reply true false true b xs m k ys n l p f ts = refl
+outcome-reply true false false b xs m k ys n l p f ts = refl
+
+outcome-pays : (own full shared : Bool) (b : BookTerms) (xs m k : List ℕ) (p f : ℕ) (ts : List TargetPair) (v : ℕ) → (outcome own full shared b xs m k p f ts).reply ≡ Balance v → ⊥
+unfolding outcome
+outcome-pays false full shared b xs m k p f ts v is = cc
+outcome-pays true true shared b xs m k p f ts v is = cc
+outcome-pays true false true b xs m k p f ts v is = cc
+outcome-pays true false false b xs m k p f ts v is = cc
+
+outcome-touch : (own full shared : Bool) (b : BookTerms) (xs m k : List ℕ) (p f : ℕ) (ts : List TargetPair) (a : ℕ)
+    → (get_or (outcome own full shared b xs m k p f ts).ledger.balances a 0 ≡ get_or xs a 0) ⊎ ((f ≡ a) ⊎ IsTarget ts a)
+unfolding outcome
+outcome-touch false full shared b xs m k p f ts a = inl refl
+outcome-touch true true shared b xs m k p f ts a = inl refl
+outcome-touch true false true b xs m k p f ts a = moved-touch xs f ts a
+outcome-touch true false false b xs m k p f ts a = moved-touch xs f ts a
+
+-- the balances cover what the call asks
+abbrev pub IsEnough : BookTerms → ℕ → Call → LedgerState → Type 0
+IsEnough b p c s = (a : ℕ) → a < length b.accounts → asked_by_call b p a c ≤ get_or s.balances a 0
+
+-- the call is this pay-out, and it isn't short
+record Pays (b : BookTerms) (p : ℕ) (c : Call) (f : ℕ) (ts : List TargetPair) (s : LedgerState) : Type 0 where
+  asks : (a : ℕ) → asked_by_call b p a c ≡ asked_by_pay b p a f ts
+  source : f < length b.accounts
+  targets : AreTargetsOn (length b.accounts) ts
+  fit : IsFit b s
+  enough : IsEnough b p c s
+
+pays-enough : (b : BookTerms) (p : ℕ) (c : Call) (f : ℕ) (ts : List TargetPair) (s : LedgerState) → Pays b p c f ts s → is_owner b p f ≡ true → amount_of ts ≤ get_or s.balances f 0
+pays-enough b p c f ts s pays own = let e = pays.enough f pays.source in let a = pays.asks f in let x = asked-at b p f ts own in omega arith
+
+pays-not_short : (b : BookTerms) (p : ℕ) (c : Call) (f : ℕ) (ts : List TargetPair) (s : LedgerState) → Pays b p c f ts s → is_owner b p f ≡ true → nat_lt (get_or s.balances f 0) (amount_of ts) ≡ false
+pays-not_short b p c f ts s pays own = ⊎_elim
+    (λ less. absurd (let lt = (Decides-ltb (get_or s.balances f 0) (amount_of ts)).0 less in let e = pays-enough b p c f ts s pays own in omega arith))
+    (λ is. is) (cases_Bool (nat_lt (get_or s.balances f 0) (amount_of ts)))
+
+abbrev outcome_at : BookTerms → LedgerState → ℕ → ℕ → List TargetPair → Step
+outcome_at b s p f ts = outcome (is_owner b p f) (is_full (ledger_of b s.balances s.sent s.asked) p f) (is_shared (account_of b f)) b s.balances s.sent s.asked p f ts
+
+pays-is : (b : BookTerms) (p : ℕ) (c : Call) (f : ℕ) (ts : List TargetPair) (s : LedgerState) → Pays b p c f ts s → pay s p f ts ≡ outcome_at b s p f ts
+pays-is b p c f ts s pays =
+    ap (λ (v : LedgerState). pay v p f ts) (ledger-is b s pays.fit.book)
+    ∙ pay-is (is_owner b p f) (is_full (ledger_of b s.balances s.sent s.asked) p f) (is_shared (account_of b f)) b s.balances s.sent s.asked p f ts refl refl refl
+    (pays-not_short b p c f ts s pays)
+
+fit-of : (b : BookTerms) (s : LedgerState) → IsFit b s → IsFit b (ledger_of b s.balances s.sent s.asked)
+fit-of b s fit = record { book = refl; balances = fit.balances; sent = fit.sent; asked = fit.asked }
+
+pay-keeps : (b : BookTerms) (p : ℕ) (c : Call) (f : ℕ) (ts : List TargetPair) (s : LedgerState) → Pays b p c f ts s → Keeps b p c s (pay s p f ts)
+pay-keeps b p c f ts s pays =
+    let kept = outcome-keeps (is_owner b p f) (is_full (ledger_of b s.balances s.sent s.asked) p f) (is_shared (account_of b f)) b c s.balances s.sent s.asked p f ts pays.asks refl
+    (fit-of b s pays.fit) pays.source pays.targets (pays-enough b p c f ts s pays) in
+    subst (Keeps b p c s) (sym (pays-is b p c f ts s pays))
+    (record { fit = kept.fit; total = kept.total; fall = kept.fall; sent = kept.sent; asked = kept.asked })
+
+full-alike : (b : BookTerms) (p f : ℕ) (s u : LedgerState) → f < length b.accounts → AreAlike b p s u
+    → is_full (ledger_of b s.balances s.sent s.asked) p f ≡ is_full (ledger_of b u.balances u.sent u.asked) p f
+full-alike b p f s u f_in alike = rw (alike.sent, alike.asked f f_in) refl
+
+-- the same pay-out at two ledgers
+record PaysSame (b : BookTerms) (p : ℕ) (s u : LedgerState) (x y : Step) : Type 0 where
+  same : AreSame b p s u x y
+  reply : x.reply ≡ y.reply
+  pays : (v : ℕ) → x.reply ≡ Balance v → ⊥
+
+pay-same : (b : BookTerms) (p : ℕ) (c : Call) (f : ℕ) (ts : List TargetPair) (s u : LedgerState) → p < b.processes → Pays b p c f ts s → Pays b p c f ts u → AreAlike b p s u
+    → PaysSame b p s u (pay s p f ts) (pay u p f ts)
+pay-same b p c f ts s u p_in pays other alike =
+    let own : Bool = is_owner b p f in
+    let full : Bool = is_full (ledger_of b u.balances u.sent u.asked) p f in
+    let shared : Bool = is_shared (account_of b f) in
+    let first : pay s p f ts ≡ outcome own full shared b s.balances s.sent s.asked p f ts =
+    pays-is b p c f ts s pays ∙ ap (λ (t : Bool). outcome own t shared b s.balances s.sent s.asked p f ts) (full-alike b p f s u pays.source alike) in
+    let second : pay u p f ts ≡ outcome own full shared b u.balances u.sent u.asked p f ts = pays-is b p c f ts u other in
+    let same = outcome-same own full shared b s.balances s.sent s.asked u.balances u.sent u.asked p f ts refl (fit-of b s pays.fit) (fit-of b u other.fit)
+    (record { sent = alike.sent; asked = alike.asked }) p_in pays.source pays.targets (pays-enough b p c f ts s pays) (pays-enough b p c f ts u other) in
+    subst (λ (x : Step). PaysSame b p s u x (pay u p f ts)) (sym first)
+    (subst (PaysSame b p s u (outcome own full shared b s.balances s.sent s.asked p f ts)) (sym second) (record {
+      same = record { cross = same.cross; alike = same.alike };
+      reply = outcome-reply own full shared b s.balances s.sent s.asked u.balances u.sent u.asked p f ts;
+      pays = outcome-pays own full shared b s.balances s.sent s.asked p f ts;
+    }))
+
+pay-touch : (b : BookTerms) (p : ℕ) (c : Call) (f : ℕ) (ts : List TargetPair) (s : LedgerState) (a : ℕ) → Pays b p c f ts s
+    → (get_or (pay s p f ts).ledger.balances a 0 ≡ get_or s.balances a 0) ⊎ ((f ≡ a) ⊎ IsTarget ts a)
+pay-touch b p c f ts s a pays =
+    subst (λ (x : Step). (get_or x.ledger.balances a 0 ≡ get_or s.balances a 0) ⊎ ((f ≡ a) ⊎ IsTarget ts a)) (sym (pays-is b p c f ts s pays))
+    (outcome-touch (is_owner b p f) (is_full (ledger_of b s.balances s.sent s.asked) p f) (is_shared (account_of b f)) b s.balances s.sent s.asked p f ts a)
+
+one-target : (n to amount : ℕ) → to < n → AreTargetsOn n ((to, amount) ∷ [])
+one-target n to amount within = All-cons (λ (t : TargetPair). t.0 < n) (to, amount) [] within (All-nil (λ (t : TargetPair). t.0 < n))
+
+pays-transfer : (b : BookTerms) (p from to amount : ℕ) (s : LedgerState) → IsCallOn (length b.accounts) (Transfer from to amount) → IsFit b s → IsEnough b p (Transfer from to amount) s
+    → Pays b p (Transfer from to amount) from ((to, amount) ∷ []) s
+pays-transfer b p from to amount s on fit enough = record { asks = λ a. refl; source = on.0; targets = one-target (length b.accounts) to amount on.1; fit = fit; enough = enough }
+
+pays-pay : (b : BookTerms) (p from : ℕ) (ts : List TargetPair) (s : LedgerState) (c : Call) → c ≡ Pay from ts → IsCallOn (length b.accounts) c → IsFit b s → IsEnough b p c s
+    → Pays b p c from ts s
+pays-pay b p from ts s c is on fit enough =
+    let on_pay : IsCallOn (length b.accounts) (Pay from ts) = subst (IsCallOn (length b.accounts)) is on in
+    record { asks = λ a. ap (λ (d : Call). asked_by_call b p a d) is; source = on_pay.0; targets = on_pay.1; fit = fit; enough = enough }
+
+-- a step that isn't short
+pub step-keeps : (b : BookTerms) (p : ℕ) (c : Call) (s : LedgerState) → IsCallOn (length b.accounts) c → IsFit b s → IsEnough b p c s → Keeps b p c s (step s p c)
+step-keeps b p (Transfer from to amount) s on fit enough =
+    pay-keeps b p (Transfer from to amount) from ((to, amount) ∷ []) s (pays-transfer b p from to amount s on fit enough)
+step-keeps b p (Read a) s on fit enough = record { fit = fit; total = refl; fall = λ a. omega arith; sent = λ q differ. refl; asked = λ q a differ a_in. refl }
+step-keeps b p (Pay from ts) s on fit enough = pay-keeps b p (Pay from ts) from ts s (pays-pay b p from ts s (Pay from ts) refl on fit enough)
+
+-- it does the same at two ledgers where the process has used the same room
+pub step-same : (b : BookTerms) (p : ℕ) (c : Call) (s u : LedgerState) → p < b.processes → IsCallOn (length b.accounts) c → IsFit b s → IsEnough b p c s → IsFit b u → IsEnough b p c u
+    → AreAlike b p s u → AreSame b p s u (step s p c) (step u p c)
+step-same b p (Transfer from to amount) s u p_in on fit enough other enough_u alike =
+    (pay-same b p (Transfer from to amount) from ((to, amount) ∷ []) s u p_in (pays-transfer b p from to amount s on fit enough) (pays-transfer b p from to amount u on other enough_u) alike).same
+step-same b p (Read a) s u p_in on fit enough other enough_u alike = record { cross = λ a. omega arith; alike = alike }
+step-same b p (Pay from ts) s u p_in on fit enough other enough_u alike =
+    (pay-same b p (Pay from ts) from ts s u p_in (pays-pay b p from ts s (Pay from ts) refl on fit enough) (pays-pay b p from ts u (Pay from ts) refl on other enough_u) alike).same
+
+-- the replies at the two ledgers: a read has the balance of each, a payment the same reply, which is no balance
+unfoldable pub AreReplies : Call → LedgerState → LedgerState → Reply → Reply → Type 0
+AreReplies (Transfer from to amount) s u x y = (x ≡ y) × ((v : ℕ) → x ≡ Balance v → ⊥)
+AreReplies (Read a) s u x y = (x ≡ Balance (get_or s.balances a 0)) × (y ≡ Balance (get_or u.balances a 0))
+AreReplies (Pay from ts) s u x y = (x ≡ y) × ((v : ℕ) → x ≡ Balance v → ⊥)
+
+pub step-replies : (b : BookTerms) (p : ℕ) (c : Call) (s u : LedgerState) → p < b.processes → IsCallOn (length b.accounts) c → IsFit b s → IsEnough b p c s → IsFit b u → IsEnough b p c u
+    → AreAlike b p s u → AreReplies c s u (step s p c).reply (step u p c).reply
+unfolding AreReplies
+step-replies b p (Transfer from to amount) s u p_in on fit enough other enough_u alike =
+    let both = pay-same b p (Transfer from to amount) from ((to, amount) ∷ []) s u p_in (pays-transfer b p from to amount s on fit enough) (pays-transfer b p from to amount u on other enough_u) alike in
+    (both.reply, both.pays)
+step-replies b p (Read a) s u p_in on fit enough other enough_u alike = (refl, refl)
+step-replies b p (Pay from ts) s u p_in on fit enough other enough_u alike =
+    let both = pay-same b p (Pay from ts) from ts s u p_in (pays-pay b p from ts s (Pay from ts) refl on fit enough) (pays-pay b p from ts u (Pay from ts) refl on other enough_u) alike in
+    (both.reply, both.pays)
+
+-- a step changes the accounts alone that a payment names
+pub step-touch : (b : BookTerms) (p : ℕ) (c : Call) (s : LedgerState) (a : ℕ) → IsCallOn (length b.accounts) c → IsFit b s → IsEnough b p c s
+    → (get_or (step s p c).ledger.balances a 0 ≡ get_or s.balances a 0) ⊎ Names c a
+unfolding Names
+step-touch b p (Transfer from to amount) s a on fit enough =
+    pay-touch b p (Transfer from to amount) from ((to, amount) ∷ []) s a (pays-transfer b p from to amount s on fit enough)
+step-touch b p (Read d) s a on fit enough = inl refl
+step-touch b p (Pay from ts) s a on fit enough = pay-touch b p (Pay from ts) from ts s a (pays-pay b p from ts s (Pay from ts) refl on fit enough)

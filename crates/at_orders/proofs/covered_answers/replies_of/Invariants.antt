@@ -1,0 +1,6 @@
+use Rattle.at_ledger.specs.Files.{contents_of}
+use Rattle.at_orders.specs.Alone.{AreFirstAnswers}
+use Rattle.at_orders.proofs.covered_answers.replies_of.Given as goal
+
+abbrev pub invariant-loop-i : goal.invariant-loop-i
+invariant-loop-i l = AreFirstAnswers l.book (contents_of l.files) l.process l.replies.items l.i

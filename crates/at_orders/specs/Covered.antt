@@ -1,0 +1,43 @@
+-- Files in which no payment can be short of balance, however their calls are ordered.
+use Rattle.std.specs.Prelude.{◌≡◌, ℕ, zero, suc, ◌+◌, ◌<◌, ◌≤◌, ◌==◌, ◌&&◌, List, [], ◌∷◌, length, slice_index, slice_index_or, sum_by, if◌then◌else◌}
+use Rattle.at_ledger.specs.Book.{BookTerms, account_of, is_owner}
+use Rattle.at_ledger.specs.Call.{TargetPair, amount_of}
+use Rattle.at_ledger.specs.declared.call.Call.{Call}
+use Rattle.at_ledger.specs.declared.call.Call.TheVariants.{Transfer, Read, Pay}
+
+-- f 0 + f 1 + .., so many of them
+unfoldable pub sum_below : ℕ → (ℕ → ℕ) → ℕ
+sum_below zero f = 0
+sum_below (suc n) f = sum_below n f + f n
+
+-- what a pay-out of the process asks of the account: nothing where another account is its source, or the process doesn't own it
+abbrev pub asked_by_pay : BookTerms → ℕ → ℕ → ℕ → List TargetPair → ℕ
+asked_by_pay b process account source targets = if is_owner b process account && (source == account) then amount_of targets else 0
+
+-- what a call of the process asks of the account
+abbrev pub asked_by_call : BookTerms → ℕ → ℕ → Call → ℕ
+asked_by_call b process account (Transfer from to amount) = asked_by_pay b process account from ((to, amount) ∷ [])
+asked_by_call b process account (Read other) = 0
+asked_by_call b process account (Pay from targets) = asked_by_pay b process account from targets
+
+-- what all calls of a process ask of the account
+abbrev pub asked_in_file : BookTerms → ℕ → ℕ → List Call → ℕ
+asked_in_file b process account calls = sum_by (asked_by_call b process account) calls
+
+-- what the first files ask of the account
+abbrev pub asked_in_files : BookTerms → ℕ → List (List Call) → ℕ → ℕ
+asked_in_files b account files count = sum_below count (λ process. asked_in_file b process account (slice_index_or files process []))
+
+-- each account opens with all that the files ask of it
+abbrev pub OpeningsCover : BookTerms → List (List Call) → Type 0
+OpeningsCover b files = (account : ℕ) → account < length b.accounts → asked_in_files b account files (length files) ≤ (account_of b account).opening
+
+-- what these calls of the process ask is taken from what the accounts had left
+pub record AreTaken (b : BookTerms) (process : ℕ) (calls : List Call) (old new : List ℕ) : Type 0 where
+  pub each : (account : ℕ) → account < length b.accounts → slice_index new account + asked_in_file b process account calls ≡ slice_index old account
+
+-- they ask more of some account than it has left
+pub record AreShort (b : BookTerms) (process : ℕ) (calls : List Call) (old : List ℕ) : Type 0 where
+  pub account : ℕ
+  pub known : account < length b.accounts
+  pub less : slice_index old account < asked_in_file b process account calls
