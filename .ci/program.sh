@@ -645,15 +645,34 @@ printed 'the same chain without that payment' wanted
 ordered nothing.csv nothing.csv nothing.csv nothing.csv </dev/null
 printed 'the orders of no calls' wanted
 
-# Two files of 1,023 reads go through 1024 * 1024 stages, which is the most, and one read more through more.
-lines book,1 processes,2 limits,1,1 account,0,5, >book.csv
+# Two files of 1,023 calls go through 1024 * 1024 stages, which is the most, and one call more through more. The openings don't
+# cover them: one payment is short always. Where they do, files of any size are answered.
+lines book,1 processes,2 limits,1,1 account,0,5,0 account,1,0, >book.csv
 yes read,0 | head -n 1023 >reads.csv
-awk 'BEGIN { for (p = 0; p < 2; p++) for (i = 1; i < 1024; i++) print p "," i ",read,0,read,5" }' </dev/null >both
-ordered reads.csv reads.csv <both
+{ head -n 1022 reads.csv && echo transfer,0,1,6; } >short.csv
+awk 'BEGIN {
+    for (i = 1; i < 1023; i++) print "0," i ",read,0,read,5"
+    print "0,1023,transfer,0,alone,short"
+    for (i = 1; i < 1024; i++) print "1," i ",read,0,read,5"
+}' </dev/null >both
+ordered short.csv reads.csv <both
 printed 'the orders of the most stages' wanted
 { cat reads.csv && echo read,0; } >more.csv
-shows orders book.csv reads.csv more.csv
+shows orders book.csv short.csv more.csv
 refused 'one stage more than the most' 13 'too many orders'
+yes transfer,0,1,1 | head -n 4 >some.csv
+{ yes read,1 | head -n 16379 && echo read,0 && cat some.csv; } >many.csv
+lines book,1 processes,2 limits,4,1 account,0,4,0 account,1,0, >book.csv
+awk 'BEGIN {
+    for (i = 1; i < 16380; i++) print "0," i ",read,1,read,0"
+    print "0,16380,read,0,read,4"
+    for (i = 16381; i < 16385; i++) print "0," i ",transfer,0,alone,done"
+    for (i = 1; i < 16380; i++) print "1," i ",read,1,read,0 4"
+    print "1,16380,read,0,read,0 4"
+    for (i = 16381; i < 16385; i++) print "1," i ",transfer,0,refused,not-owner"
+}' </dev/null >both
+ordered many.csv many.csv <both
+printed 'the orders of the longest files, which the openings cover' wanted
 
 # Small files that are made at random, against all their orders one by one.
 if command -v python3 >python; then
