@@ -7,6 +7,7 @@ pub mod Hearing
 pub mod Walking
 pub mod Seen
 pub mod Moved
+pub mod Crediting
 pub mod Stepping
 pub mod Sums
 pub mod Covering

@@ -1,16 +1,22 @@
--- The places of the accounts that are named, one account more at a time.
+-- The places of the accounts that calls name first, one account more at a time.
 use Rattle.std.proofs.Common.{◌≡◌, ℕ, ◌+◌, ◌<◌, ◌≤◌, ◌⊎◌, inl, inr, Option, None, Some, List, [], ◌∷◌, ◌++◌, length, get_or, replicate, set, take, true, true≢false, All, sym, ap, subst, ◌∙◌, arith}
 use Rattle.std.specs.Prelude.{is_some}
 use Rattle.std.proofs.lemmas.Bool.{cases_eq, cases_lt}
 use Rattle.std.proofs.lemmas.List.{get_or-replicate, get_or-set_other, get_or-set_same, get_or_append_left, get_or_default, length-append, length-replicate, length-set, take_more}
-use Rattle.std.proofs.lemmas.List.Elements.{All-nil, All-push, All-weaker}
+use Rattle.std.proofs.lemmas.List.Elements.{All-push, All-weaker}
 use Rattle.std.proofs.Math.ListN.{get_or-eq_default}
 use Rattle.std.proofs.Math.Nat.{eq-or-lt_of_le}
 use Rattle.std.proofs.Math.Seq.{get_or-append_seam}
-use Rattle.at_ledger.specs.Call.{TargetPair, first_account, payout_of}
+use Rattle.at_ledger.specs.Call.{IsCallOn, TargetPair, first_account}
 use Rattle.at_ledger.specs.declared.call.Call.{Call}
 use Rattle.at_ledger.specs.declared.call.Call.TheVariants.{Transfer, Read, Pay}
-use Rattle.at_orders.specs.Walk.{ArePlaces, HasPlace, HasPlaces, KeepsPlaces}
+use Rattle.at_orders.specs.Walk.{ArePlaces, HasFirstPlace, HasPlace, KeepsPlaces}
+
+-- the account that a call names first is there
+pub first-known : (accounts : ℕ) (call : Call) (account : ℕ) → account ≡ first_account call → IsCallOn accounts call → account < accounts
+first-known accounts (Transfer from to amount) account is known = omega (arith, is, known.0)
+first-known accounts (Read other) account is known = omega (arith, is, known)
+first-known accounts (Pay from targets) account is known = omega (arith, is, known.0)
 
 -- an account with a place is there
 pub place-known : (places : List (Option ℕ)) (account place : ℕ) → get_or places account None ≡ Some place → account < length places
@@ -95,73 +101,32 @@ keeps-more places account new none a place is =
 pub has_place-kept : (old new : List (Option ℕ)) (account : ℕ) → KeepsPlaces old new → HasPlace old account → HasPlace new account
 has_place-kept old new account keeps has = (has.0, keeps account has.0 has.1)
 
-pub has_places-kept : (old new : List (Option ℕ)) (call : Call) → KeepsPlaces old new → HasPlaces old call → HasPlaces new call
-has_places-kept old new (Transfer from to amount) keeps has = (has_place-kept old new from keeps has.0, has_place-kept old new to keeps has.1)
-has_places-kept old new (Read account) keeps has = has_place-kept old new account keeps has
-has_places-kept old new (Pay from targets) keeps has =
-    (has_place-kept old new from keeps has.0, All-weaker (λ t. HasPlace old t.0) (λ t. HasPlace new t.0) (λ t placed. has_place-kept old new t.0 keeps placed) targets has.1)
+pub all-places-kept : (old new : List (Option ℕ)) (calls : List Call) → KeepsPlaces old new → All (HasFirstPlace old) calls → All (HasFirstPlace new) calls
+all-places-kept old new calls keeps all = All-weaker (HasFirstPlace old) (HasFirstPlace new) (λ call has. has_place-kept old new (first_account call) keeps has) calls all
 
-pub all-places-kept : (old new : List (Option ℕ)) (calls : List Call) → KeepsPlaces old new → All (HasPlaces old) calls → All (HasPlaces new) calls
-all-places-kept old new calls keeps all = All-weaker (HasPlaces old) (HasPlaces new) (λ call has. has_places-kept old new call keeps has) calls all
-
-pub files-places-kept : (old new : List (Option ℕ)) (files : List (List Call)) → KeepsPlaces old new → All (All (HasPlaces old)) files → All (All (HasPlaces new)) files
-files-places-kept old new files keeps all = All-weaker (All (HasPlaces old)) (All (HasPlaces new)) (λ calls has. all-places-kept old new calls keeps has) files all
-
-pub targets-kept : (old new : List (Option ℕ)) (targets : List TargetPair) → KeepsPlaces old new → All (λ t. HasPlace old t.0) targets → All (λ t. HasPlace new t.0) targets
-targets-kept old new targets keeps all = All-weaker (λ t. HasPlace old t.0) (λ t. HasPlace new t.0) (λ t has. has_place-kept old new t.0 keeps has) targets all
+pub files-places-kept : (old new : List (Option ℕ)) (files : List (List Call)) → KeepsPlaces old new → All (All (HasFirstPlace old)) files → All (All (HasFirstPlace new)) files
+files-places-kept old new files keeps all = All-weaker (All (HasFirstPlace old)) (All (HasFirstPlace new)) (λ calls has. all-places-kept old new calls keeps has) files all
 
 pub same_payout : (x y : ℕ × List TargetPair) → Some x ≡ Some y → x ≡ y
 same_payout x y is = cc is
-
--- a call whose first account and targets have places
-pub has_places-payout : (places : List (Option ℕ)) (call : Call) (source : ℕ) (targets : List TargetPair) → payout_of call ≡ Some (source, targets)
-    → HasPlace places (first_account call) → All (λ t. HasPlace places t.0) targets → HasPlaces places call
-has_places-payout places (Transfer from to amount) source targets is first all =
-    let parts = same_payout (from, (to, amount) ∷ []) (source, targets) is in
-    (first, subst (λ (ts : List TargetPair). All (λ t. HasPlace places t.0) ts) (ap (λ (x : ℕ × List TargetPair). x.1) (sym parts)) all 0 (0, 0) (omega arith))
-has_places-payout places (Read account) source targets is first all = absurd (cc is)
-has_places-payout places (Pay from amounts) source targets is first all =
-    let parts = same_payout (from, amounts) (source, targets) is in
-    (first, subst (λ (ts : List TargetPair). All (λ t. HasPlace places t.0) ts) (ap (λ (x : ℕ × List TargetPair). x.1) (sym parts)) all)
-
-pub has_places-read : (places : List (Option ℕ)) (call : Call) → payout_of call ≡ None → HasPlace places (first_account call) → HasPlaces places call
-has_places-read places (Transfer from to amount) is first = absurd (cc is)
-has_places-read places (Read account) is first = first
-has_places-read places (Pay from targets) is first = absurd (cc is)
-
--- and the reverse
-pub payout-has_places : (places : List (Option ℕ)) (call : Call) (source : ℕ) (targets : List TargetPair) → payout_of call ≡ Some (source, targets) → HasPlaces places call
-    → HasPlace places source × All (λ t. HasPlace places t.0) targets
-payout-has_places places (Transfer from to amount) source targets is has =
-    let parts = same_payout (from, (to, amount) ∷ []) (source, targets) is in
-    subst (λ (x : ℕ × List TargetPair). HasPlace places x.0 × All (λ t. HasPlace places t.0) x.1) parts (has.0, All-push (λ t. HasPlace places t.0) [] (to, amount) (All-nil (λ t. HasPlace places t.0)) has.1)
-payout-has_places places (Read account) source targets is has = absurd (cc is)
-payout-has_places places (Pay from amounts) source targets is has =
-    subst (λ (x : ℕ × List TargetPair). HasPlace places x.0 × All (λ t. HasPlace places t.0) x.1) (same_payout (from, amounts) (source, targets) is) has
 
 -- a place that is there
 pub has_place-some : (places : List (Option ℕ)) (account : ℕ) (o : Option ℕ) → account < length places → o ≡ get_or places account o → is_some o ≡ true → HasPlace places account
 has_place-some places account None within is some = absurd (true≢false (sym some))
 has_place-some places account (Some place) within is some = (place, get_or_default places account None (Some place) within ∙ sym is)
 
--- the targets, the calls and the files so far, with one more
-pub targets-more : (old new : List (Option ℕ)) (targets : List TargetPair) (i account : ℕ) → i < length targets → KeepsPlaces old new
-    → All (λ t. HasPlace old t.0) (take i targets) → account ≡ (get_or targets i (0, 0)).0 → HasPlace new account → All (λ t. HasPlace new t.0) (take (i + 1) targets)
-targets-more old new targets i account within keeps all is placed =
-    subst (All (λ t. HasPlace new t.0)) (sym (take_more targets i (0, 0) within))
-    (All-push (λ t. HasPlace new t.0) (take i targets) (get_or targets i (0, 0)) (targets-kept old new (take i targets) keeps all) (subst (HasPlace new) is placed))
-
+-- the calls and the files so far, with one more
 pub calls-more : (old new : List (Option ℕ)) (file : List Call) (i : ℕ) (call : Call) → i < length file → KeepsPlaces old new
-    → All (HasPlaces old) (take i file) → call ≡ get_or file i call → HasPlaces new call → All (HasPlaces new) (take (i + 1) file)
+    → All (HasFirstPlace old) (take i file) → call ≡ get_or file i call → HasFirstPlace new call → All (HasFirstPlace new) (take (i + 1) file)
 calls-more old new file i call within keeps all is placed =
-    subst (All (HasPlaces new)) (sym (take_more file i call within))
-    (All-push (HasPlaces new) (take i file) (get_or file i call) (all-places-kept old new (take i file) keeps all) (subst (HasPlaces new) is placed))
+    subst (All (HasFirstPlace new)) (sym (take_more file i call within))
+    (All-push (HasFirstPlace new) (take i file) (get_or file i call) (all-places-kept old new (take i file) keeps all) (subst (HasFirstPlace new) is placed))
 
 pub files-more : (old new : List (Option ℕ)) (files : List (List Call)) (i : ℕ) → i < length files → KeepsPlaces old new
-    → All (All (HasPlaces old)) (take i files) → All (HasPlaces new) (get_or files i []) → All (All (HasPlaces new)) (take (i + 1) files)
+    → All (All (HasFirstPlace old)) (take i files) → All (HasFirstPlace new) (get_or files i []) → All (All (HasFirstPlace new)) (take (i + 1) files)
 files-more old new files i within keeps all placed =
-    subst (All (All (HasPlaces new))) (sym (take_more files i [] within))
-    (All-push (All (HasPlaces new)) (take i files) (get_or files i []) (files-places-kept old new (take i files) keeps all) placed)
+    subst (All (All (HasFirstPlace new))) (sym (take_more files i [] within))
+    (All-push (All (HasFirstPlace new)) (take i files) (get_or files i []) (files-places-kept old new (take i files) keeps all) placed)
 
 -- the named accounts are there
 pub named-known : (accounts : ℕ) (named : List ℕ) (places : List (Option ℕ)) → ArePlaces accounts named places → All (λ a. a < accounts) named

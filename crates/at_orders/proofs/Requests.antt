@@ -1,7 +1,7 @@
 -- The requests that the counts of calls tell, and what the next call of a process leaves of a stage.
-use Rattle.std.proofs.Common.{◌≡◌, ℕ, ◌+◌, ◌*◌, ◌/◌, ◌%◌, ◌<◌, ◌≤◌, ◌==◌, ◌&&◌, ◌||◌, ◌⊎◌, inl, inr, Bool, true, false, not, cond, leb, ltb, min, List, [], ◌∷◌, length, get_or, set, map, replicate, sum, take, Some, None, refl, sym, ap, subst, ◌∙◌, arith}
+use Rattle.std.proofs.Common.{◌≡◌, ℕ, ◌+◌, ◌*◌, ◌/◌, ◌%◌, ◌<◌, ◌≤◌, ◌==◌, ◌&&◌, ◌||◌, ◌⊎◌, inl, inr, Bool, true, false, true≢false, not, cond, leb, ltb, min, List, [], ◌∷◌, length, get_or, set, map, replicate, take, Some, None, refl, sym, ap, subst, ◌∙◌, arith}
 use Rattle.std.specs.Prelude.{is_some}
-use Rattle.std.specs.List.{range_with_len}
+use Rattle.std.specs.List.{position, range_with_len}
 use Rattle.std.proofs.lemmas.Bool.{cases_Bool, cases_eq, cases_lt, eq-eqb, le-leb, leb-true, ne_eqb}
 use Rattle.std.proofs.lemmas.Bool.Decides.{Decides-eqb}
 use Rattle.std.proofs.lemmas.List.{ext_get_or, get_or-replicate, get_or-set_other, get_or-set_same, length-map, length-replicate, length-set}
@@ -12,7 +12,7 @@ use Rattle.std.proofs.lemmas.Nat.{div-add-mod', div-mul-add, mod-mul-add, mul-ad
 use Rattle.std.proofs.lemmas.Option.{get_or_from_slice_get, slice_get_within}
 use Rattle.std.proofs.Math.ListN.{get_or-eq_default}
 use Rattle.std.proofs.Math.Nat.{min-le_right, mul_comm}
-use Rattle.at_ledger.specs.Account.{AccountTerms, is_shared}
+use Rattle.at_ledger.specs.Account.{AccountTerms, is_shared, slots_of}
 use Rattle.at_ledger.specs.Book.{account_of, is_owner}
 use Rattle.at_ledger.specs.Call.{TargetPair, amount_of, first_account, payout_of}
 use Rattle.at_ledger.specs.State.{LedgerState, Step, after_done, after_short, asked_of, asked_position, balance_of, is_full, moved, pay, sent_of, step, with_asked, with_sent}
@@ -22,12 +22,11 @@ use Rattle.at_ledger.specs.declared.call.Reply.TheVariants.{Balance, Done, Full,
 use Rattle.at_ledger.specs.declared.call.Call.TheVariants.{Transfer, Read, Pay}
 use Rattle.at_ledger.specs.NextCalls.{with_made}
 use Rattle.at_ledger.proofs.Made.{get_or-with_made, get_or-with_made_other}
-use Rattle.at_orders.specs.Stages.{GroundTerms, after_success, balances_at, calls_made, first_stage, is_payment_from, ledger_at, payments_from, requests_at, requests_of, stage_after, stage_at}
-use Rattle.at_orders.specs.Walk.{ArePlaces, IsMadeTo, IsNextCall, IsNextPayment, IsStanding}
+use Rattle.at_orders.specs.Stages.{GroundTerms, StageTerms, after_success, calls_made, first_stage, is_payment_from, ledger_at, payments_from, requests_at, requests_of, stage_after}
+use Rattle.at_orders.specs.Walk.{AreKept, ArePlaces, HasNumbers, IsMadeTo, IsNextCall, IsNextPayment, IsStanding, StandsFor}
 use Rattle.at_orders.specs.declared.stage.Stage.{Stage}
-use Rattle.at_orders.proofs.Keeping.{balances_at-openings}
+use Rattle.at_orders.proofs.Keeping.{kept-openings}
 use Rattle.at_orders.proofs.Placing.{same_payout}
-use Rattle.at_orders.proofs.Reaching.{stage-ext}
 
 -- the requests of a process on an account
 abbrev requests : GroundTerms → List ℕ → ℕ → ℕ → ℕ
@@ -109,10 +108,10 @@ full-shared s p a shared =
     let single = single-shared (length (account_of s.book a).owners) shared in
     λ t. (single t && (sent_of s p == s.book.own_room)) || (shared t && (asked_of s p a == s.book.request_room))
 
-full-owner : (g : GroundTerms) (s : Stage) (p a : ℕ) → p < g.book.processes → a < length g.book.accounts → is_owner g.book p a ≡ true → is_shared (account_of g.book a) ≡ true
-    → is_full (ledger_at g s) p a ≡ (min g.book.request_room (payments_from a (calls_made g s.made.items p)) == g.book.request_room)
-full-owner g s p a known within owner shared =
-    full-shared (ledger_at g s) p a shared
+full-owner : (g : GroundTerms) (s : Stage) (balances : List ℕ) (p a : ℕ) → p < g.book.processes → a < length g.book.accounts → is_owner g.book p a ≡ true → is_shared (account_of g.book a) ≡ true
+    → is_full (ledger_at g s balances) p a ≡ (min g.book.request_room (payments_from a (calls_made g s.made.items p)) == g.book.request_room)
+full-owner g s balances p a known within owner shared =
+    full-shared (ledger_at g s balances) p a shared
     ∙ ap (λ n. n == g.book.request_room) (requests_at-place g s.made.items p a known within
     ∙ (λ t. cond (owner t && shared t) (min g.book.request_room (payments_from a (calls_made g s.made.items p))) 0))
 
@@ -127,9 +126,9 @@ all-room : (room n : ℕ) → (min room n == room) ≡ true → room ≤ n
 all-room room n all = let same : min room n ≡ room = (Decides-eqb (min room n) room).0 all in let less = min-le_right room n in omega arith
 
 -- what a payment leaves, by its reply
-record Leaves (g : GroundTerms) (s : Stage) (p a : ℕ) (targets : List TargetPair) (asked : List ℕ) (after : Step) : Type 0 where
-  done : after.reply ≡ Done → after.ledger ≡ record (after_success (ledger_at g s) p a targets) { asked = asked }
-  other : (after.reply ≡ Done → ⊥) → after.ledger ≡ record (ledger_at g s) { asked = asked }
+record Leaves (g : GroundTerms) (s : Stage) (balances : List ℕ) (p a : ℕ) (targets : List TargetPair) (asked : List ℕ) (after : Step) : Type 0 where
+  done : after.reply ≡ Done → after.ledger ≡ record (after_success (ledger_at g s balances) p a targets) { asked = asked }
+  other : (after.reply ≡ Done → ⊥) → after.ledger ≡ record (ledger_at g s balances) { asked = asked }
 
 -- a payment is from its source
 is_payment_from-payout : (account source : ℕ) (targets : List TargetPair) (call : Call) → payout_of call ≡ Some (source, targets) → is_payment_from account call ≡ (source == account)
@@ -168,6 +167,57 @@ is_done NotOwner = inr (λ is. absurd (cc is))
 is_done Full = inr (λ is. absurd (cc is))
 is_done (Balance v) = inr (λ is. absurd (cc is))
 
+-- a payment that is done is an owner's, and its room is left
+record IsLeft (l : LedgerState) (p a : ℕ) : Type 0 where
+  owner : is_owner l.book p a ≡ true
+  room : is_full l p a ≡ false
+
+done-left : (l : LedgerState) (p a : ℕ) (targets : List TargetPair) → (pay l p a targets).reply ≡ Done → IsLeft l p a
+done-left l p a targets = first_of_four (λ (x : Step). x.reply ≡ Done → IsLeft l p a) (is_owner l.book p a) (is_full l p a) (ltb (balance_of l a) (amount_of targets))
+    (record { ledger = l; reply = NotOwner }) (record { ledger = l; reply = Full }) (record { ledger = after_short l p a; reply = Short })
+    (record { ledger = after_done l p a targets; reply = Done })
+    (λ owner is. absurd (cc is)) (λ owner full is. absurd (cc is)) (λ owner room less is. absurd (cc is))
+    (λ owner room covered is. record { owner = owner; room = room })
+
+owned : (owners : List ℕ) (p : ℕ) → is_some (position (λ owner. owner == p) owners) ≡ true → 1 ≤ length owners
+owned [] p is = absurd (true≢false (sym is))
+owned (owner ∷ owners) p is = omega arith
+
+-- an account without slots isn't shared
+pub slots-single : (t : AccountTerms) → slots_of t ≡ 0 → is_shared t ≡ false
+slots-single t none = by (cases_Bool (is_shared t))
+  where
+    by : (is_shared t ≡ true) ⊎ (is_shared t ≡ false) → is_shared t ≡ false
+    by (inl shared) =
+        let all : length t.owners ≡ 0 = sym (ap (λ (c : Bool). cond {A = ℕ} c (length t.owners) 0) shared) ∙ none in
+        let two : 2 ≤ length t.owners = leb-true 2 (length t.owners) shared in
+        absurd (omega arith)
+    by (inr single) = single
+
+not-shared : (n : ℕ) → leb 2 n ≡ false → n < 2
+not-shared n single = by (cases_lt n 2)
+  where
+    by : (n < 2) ⊎ (2 ≤ n) → n < 2
+    by (inl few) = few
+    by (inr more) = absurd (true≢false (sym (le-leb 2 n more) ∙ single))
+
+-- the owner of a single account has own room left, where a payment from it is done
+pub own_room-left : (l : LedgerState) (p a : ℕ) (targets : List TargetPair) → (pay l p a targets).reply ≡ Done → slots_of (account_of l.book a) ≡ 0
+    → sent_of l p ≤ l.book.own_room → sent_of l p < l.book.own_room
+own_room-left l p a targets done none most = by (cases_lt (sent_of l p) l.book.own_room)
+  where
+    by : (sent_of l p < l.book.own_room) ⊎ (l.book.own_room ≤ sent_of l p) → sent_of l p < l.book.own_room
+    by (inl less) = less
+    by (inr used) =
+        let left = done-left l p a targets done in
+        let owners : List ℕ = (account_of l.book a).owners in
+        let some = owned owners p left.owner in
+        let few : length owners < 2 = not-shared (length owners) (slots-single (account_of l.book a) none) in
+        let single = eq-eqb (length owners) 1 (omega arith) in
+        let all = eq-eqb (sent_of l p) l.book.own_room (omega arith) in
+        let full : is_full l p a ≡ true = λ t. (single t && all t) || (is_shared (account_of l.book a) && (asked_of l p a == l.book.request_room)) in
+        absurd (true≢false (sym full ∙ left.room))
+
 -- the next call of the process is counted
 module _ (g : GroundTerms) (s : Stage) (p : ℕ) (call : Call) (counted : p < length s.made.items) (next : IsNextCall g s p call) where
   payments-next : (x : ℕ) → payments_from x (calls_made g (with_made s.made.items p) p) ≡ payments_from x (calls_made g s.made.items p) + cond (is_payment_from x call) 1 0
@@ -197,7 +247,7 @@ module _ (g : GroundTerms) (s : Stage) (p : ℕ) (call : Call) (counted : p < le
       by q x (inr apart) = requests-other q x apart
 
 -- a payment is counted
-module _ (g : GroundTerms) (s : Stage) (p a : ℕ) (targets : List TargetPair) (call : Call) (counted : p < length s.made.items) (next : IsNextCall g s p call)
+module _ (g : GroundTerms) (s : Stage) (balances : List ℕ) (p a : ℕ) (targets : List TargetPair) (call : Call) (counted : p < length s.made.items) (next : IsNextCall g s p call)
     (known : p < g.book.processes) (within : a < length g.book.accounts) (paid : payout_of call ≡ Some (a, targets)) where
   abbrev later : List ℕ
   later = with_made s.made.items p
@@ -206,7 +256,7 @@ module _ (g : GroundTerms) (s : Stage) (p a : ℕ) (targets : List TargetPair) (
   n = payments_from a (calls_made g s.made.items p)
 
   abbrev old : LedgerState
-  old = ledger_at g s
+  old = ledger_at g s balances
 
   one-more : payments_from a (calls_made g later p) ≡ n + 1
   one-more = payments-next g s p call counted next a ∙ ap (λ t. n + cond t 1 0) (is_payment_from-payout a a targets call paid ∙ eq-eqb a a refl)
@@ -236,7 +286,7 @@ module _ (g : GroundTerms) (s : Stage) (p a : ℕ) (targets : List TargetPair) (
   more : is_owner g.book p a ≡ true → is_shared (account_of g.book a) ≡ true → is_full old p a ≡ false
       → set (requests_at g s.made.items) (asked_position g.book p a) (get_or (requests_at g s.made.items) (asked_position g.book p a) 0 + 1) ≡ requests_at g later
   more owner shared room =
-      let left : (min g.book.request_room n == g.book.request_room) ≡ false = sym (full-owner g s p a known within owner shared) ∙ room in
+      let left : (min g.book.request_room n == g.book.request_room) ≡ false = sym (full-owner g s balances p a known within owner shared) ∙ room in
       sym (requests_at-set g s.made.items later p a known within others
       (capped-more (is_owner g.book p a && is_shared (account_of g.book a)) g.book.request_room (payments_from a (calls_made g later p)) n (λ t. owner t && shared t) (below-room g.book.request_room n left) one-more))
 
@@ -244,7 +294,7 @@ module _ (g : GroundTerms) (s : Stage) (p a : ℕ) (targets : List TargetPair) (
   used : is_owner g.book p a ≡ true → is_full old p a ≡ true → (is_shared (account_of g.book a) ≡ true) ⊎ (is_shared (account_of g.book a) ≡ false)
       → old ≡ record old { asked = requests_at g later }
   used owner full (inl shared) =
-      let all : (min g.book.request_room n == g.book.request_room) ≡ true = sym (full-owner g s p a known within owner shared) ∙ full in
+      let all : (min g.book.request_room n == g.book.request_room) ≡ true = sym (full-owner g s balances p a known within owner shared) ∙ full in
       let same = kept (capped-used (is_owner g.book p a && is_shared (account_of g.book a)) g.book.request_room (payments_from a (calls_made g later p)) n
       (all-room g.book.request_room n all) (let one = one-more in omega arith)) in
       λ t. record old { asked = sym same t }
@@ -275,8 +325,8 @@ module _ (g : GroundTerms) (s : Stage) (p a : ℕ) (targets : List TargetPair) (
       let same = kept-none (λ t. owner t && single t) in
       ap (λ t. cond t one own) single ∙ ((λ t. record own { asked = (same t).asked }) ∙ sym (ap (λ t. record (cond t paid own) { asked = requests_at g later }) single))
 
-  leaves : Leaves g s p a targets (requests_at g later) (pay old p a targets)
-  leaves = first_of_four (Leaves g s p a targets (requests_at g later)) (is_owner g.book p a) (is_full old p a) (ltb (balance_of old a) (amount_of targets))
+  leaves : Leaves g s balances p a targets (requests_at g later) (pay old p a targets)
+  leaves = first_of_four (Leaves g s balances p a targets (requests_at g later)) (is_owner g.book p a) (is_full old p a) (ltb (balance_of old a) (amount_of targets))
       (record { ledger = old; reply = NotOwner }) (record { ledger = old; reply = Full }) (record { ledger = after_short old p a; reply = Short })
       (record { ledger = after_done old p a targets; reply = Done })
       (λ owner. record { done = λ is. absurd (cc is); other = λ no. kept-none (λ t. owner t && is_shared (account_of g.book a)) })
@@ -285,43 +335,72 @@ module _ (g : GroundTerms) (s : Stage) (p a : ℕ) (targets : List TargetPair) (
       (λ owner room covered. record { done = λ is. done owner room (cases_Bool (is_shared (account_of g.book a))); other = λ no. absurd (no refl) })
 
 -- the ledger after the call, where the call isn't counted yet
-pub made-payment : (g : GroundTerms) (s u : Stage) (p a : ℕ) (targets : List TargetPair) → IsNextPayment g s p a targets → p < length s.made.items → p < g.book.processes
-    → a < length g.book.accounts
-    → ((pay (ledger_at g s) p a targets).reply ≡ Done → ledger_at g u ≡ after_success (ledger_at g s) p a targets)
-    → (((pay (ledger_at g s) p a targets).reply ≡ Done → ⊥) → ledger_at g u ≡ ledger_at g s) → IsMadeTo g s p (pay (ledger_at g s) p a targets).ledger u
-made-payment g s u p a targets next counted known within success other = by (is_done (pay (ledger_at g s) p a targets).reply)
+pub made-payment : (g : GroundTerms) (s u : Stage) (p a : ℕ) (targets : List TargetPair) (l : LedgerState) → IsNextPayment g s p a targets → p < length s.made.items
+    → p < g.book.processes → a < length g.book.accounts → HasNumbers g s l
+    → ((pay l p a targets).reply ≡ Done → HasNumbers g u (after_success l p a targets))
+    → (((pay l p a targets).reply ≡ Done → ⊥) → HasNumbers g u l) → IsMadeTo g s p (pay l p a targets).ledger u
+made-payment g s u p a targets l next counted known within has =
+    subst (λ (x : LedgerState). ((pay x p a targets).reply ≡ Done → HasNumbers g u (after_success x p a targets))
+    → (((pay x p a targets).reply ≡ Done → ⊥) → HasNumbers g u x) → IsMadeTo g s p (pay x p a targets).ledger u) has.is of
   where
-    left : Leaves g s p a targets (requests_at g (with_made s.made.items p)) (pay (ledger_at g s) p a targets)
-    left = leaves g s p a targets next.call counted next.next known within next.paid
+    old : LedgerState
+    old = ledger_at g s l.balances
 
-    by : ((pay (ledger_at g s) p a targets).reply ≡ Done) ⊎ ((pay (ledger_at g s) p a targets).reply ≡ Done → ⊥)
-        → record (ledger_at g u) { asked = requests_at g (with_made s.made.items p) } ≡ (pay (ledger_at g s) p a targets).ledger
-    by (inl is) = ap (λ (l : LedgerState). record l { asked = requests_at g (with_made s.made.items p) }) (success is) ∙ sym (left.done is)
-    by (inr differs) = ap (λ (l : LedgerState). record l { asked = requests_at g (with_made s.made.items p) }) (other differs) ∙ sym (left.other differs)
+    asked : List ℕ
+    asked = requests_at g (with_made s.made.items p)
 
-pub made-step : (g : GroundTerms) (s u : Stage) (p a : ℕ) (targets : List TargetPair) (call : Call) → payout_of call ≡ Some (a, targets)
-    → IsMadeTo g s p (pay (ledger_at g s) p a targets).ledger u → IsMadeTo g s p (step (ledger_at g s) p call).ledger u
-made-step g s u p a targets call paid made = made ∙ sym (ap (λ (x : Step). x.ledger) (step-payout (ledger_at g s) p a targets call paid))
+    left : Leaves g s l.balances p a targets asked (pay old p a targets)
+    left = leaves g s l.balances p a targets next.call counted next.next known within next.paid
 
-pub made-read : (g : GroundTerms) (s : Stage) (p : ℕ) (call : Call) → p < length s.made.items → IsNextCall g s p call → payout_of call ≡ None
-    → IsMadeTo g s p (step (ledger_at g s) p call).ledger s
-made-read g s p call counted next read =
+    of : ((pay old p a targets).reply ≡ Done → HasNumbers g u (after_success old p a targets)) → (((pay old p a targets).reply ≡ Done → ⊥) → HasNumbers g u old)
+        → IsMadeTo g s p (pay old p a targets).ledger u
+    of success other = by (is_done (pay old p a targets).reply)
+      where
+        by : ((pay old p a targets).reply ≡ Done) ⊎ ((pay old p a targets).reply ≡ Done → ⊥) → IsMadeTo g s p (pay old p a targets).ledger u
+        by (inl is) =
+            let after = success is in
+            subst (λ (x : LedgerState). IsMadeTo g s p x u) (sym (left.done is)) (record { is = ap (λ (x : LedgerState). record x { asked = asked }) after.is; kept = after.kept })
+        by (inr differs) =
+            let after = other differs in
+            subst (λ (x : LedgerState). IsMadeTo g s p x u) (sym (left.other differs)) (record { is = ap (λ (x : LedgerState). record x { asked = asked }) after.is; kept = after.kept })
+
+pub made-step : (g : GroundTerms) (s u : Stage) (p a : ℕ) (targets : List TargetPair) (call : Call) (l : LedgerState) → payout_of call ≡ Some (a, targets)
+    → IsMadeTo g s p (pay l p a targets).ledger u → IsMadeTo g s p (step l p call).ledger u
+made-step g s u p a targets call l paid made = subst (λ (x : Step). IsMadeTo g s p x.ledger u) (sym (step-payout l p a targets call paid)) made
+
+pub made-read : (g : GroundTerms) (s : Stage) (p : ℕ) (call : Call) (l : LedgerState) → p < length s.made.items → IsNextCall g s p call → payout_of call ≡ None
+    → HasNumbers g s l → IsMadeTo g s p (step l p call).ledger s
+made-read g s p call l counted next read has =
     let same = requests-read g s p call counted next read in
-    (λ i. record (ledger_at g s) { asked = same i }) ∙ sym (step-read (ledger_at g s) p call read)
+    subst (λ (x : LedgerState). IsMadeTo g s p x s) (sym (step-read l p call read))
+    (record { is = (λ i. record (ledger_at g s l.balances) { asked = same i }) ∙ has.is; kept = has.kept })
+
+-- the same numbers, of another stage
+pub numbers-moved : (g : GroundTerms) (s t : Stage) (l : LedgerState) → t.made.items ≡ s.made.items → t.balances.items ≡ s.balances.items → t.sent.items ≡ s.sent.items
+    → HasNumbers g s l → HasNumbers g t l
+numbers-moved g s t l made balances sent has = record {
+  is = (λ i. record { book = g.book; balances = l.balances; sent = sent i; asked = requests_at g (made i) }) ∙ has.is;
+  kept = subst (λ (kept : List ℕ). AreKept g kept l.balances) (sym balances) has.kept;
+}
 
 -- a copy on which the next call was made, and then counted
 pub stage_after-made : (g : GroundTerms) (s copy u t : Stage) (p : ℕ) (call : Call)
     → copy.made.items ≡ s.made.items → copy.balances.items ≡ s.balances.items → copy.sent.items ≡ s.sent.items
-    → u.made.items ≡ copy.made.items → IsMadeTo g copy p (step (ledger_at g copy) p call).ledger u
+    → u.made.items ≡ copy.made.items → ((l : LedgerState) → HasNumbers g copy l → IsMadeTo g copy p (step l p call).ledger u)
     → t.made.items ≡ with_made u.made.items p → t.balances.items ≡ u.balances.items → t.sent.items ≡ u.sent.items
-    → stage_at g t ≡ stage_after (stage_at g s) p call
-stage_after-made g s copy u t p call made balances sent still is counts balances_too sent_too =
-    let ledger : ledger_at g copy ≡ ledger_at g s = λ i. record { book = g.book; balances = balances_at g (balances i); sent = sent i; asked = requests_at g (made i) } in
+    → (x : StageTerms) → StandsFor g s x → StandsFor g t (stage_after x p call)
+stage_after-made g s copy u t p call made balances sent still is counts balances_too sent_too x stands =
     let before : with_made u.made.items p ≡ with_made copy.made.items p = ap (λ (m : List ℕ). with_made m p) still in
-    let after : t.made.items ≡ with_made s.made.items p = counts ∙ (before ∙ ap (λ (m : List ℕ). with_made m p) made) in
     let now : t.made.items ≡ with_made copy.made.items p = counts ∙ before in
-    stage-ext (stage_at g t) (stage_after (stage_at g s) p call) after
-    ((λ i. record { book = g.book; balances = balances_at g (balances_too i); sent = sent_too i; asked = requests_at g (now i) }) ∙ (is ∙ ap (λ (l : LedgerState). (step l p call).ledger) ledger))
+    let later : LedgerState = (step x.ledger p call).ledger in
+    let after = is x.ledger (numbers-moved g s copy x.ledger made balances sent stands.ledger) in
+    record {
+      made = now ∙ ap (λ (m : List ℕ). with_made m p) (made ∙ stands.made);
+      ledger = record {
+        is = (λ i. record { book = g.book; balances = later.balances; sent = sent_too i; asked = requests_at g (now i) }) ∙ after.is;
+        kept = subst (λ (kept : List ℕ). AreKept g kept later.balances) (sym balances_too) after.kept;
+      };
+    }
 
 -- the count of payments before the next call tells whether the room is used
 min-eqb : (room n : ℕ) → leb room n ≡ (min room n == room)
@@ -331,12 +410,12 @@ min-eqb room n = by (cases_Bool (leb room n))
     by (inl used) = let more : room ≤ n = leb-true room n used in used ∙ sym (eq-eqb (min room n) room (grind arith))
     by (inr left) = left ∙ sym (ne_eqb (min room n) room (λ all. let less = min-le_right room n in let is = le-leb room n (omega arith) in absurd (cc (left, is))))
 
-pub is_full-counted : (g : GroundTerms) (s : Stage) (p a i n : ℕ) → p < g.book.processes → a < length g.book.accounts → is_owner g.book p a ≡ true
+pub is_full-counted : (g : GroundTerms) (s : Stage) (l : LedgerState) (p a i n : ℕ) → HasNumbers g s l → p < g.book.processes → a < length g.book.accounts → is_owner g.book p a ≡ true
     → is_shared (account_of g.book a) ≡ true → i ≡ get_or s.made.items p 0 → n ≡ payments_from a (take i (get_or g.files p []))
-    → leb g.book.request_room n ≡ is_full (ledger_at g s) p a
-is_full-counted g s p a i n known within owner shared at count =
-    ap (leb g.book.request_room) (count ∙ ap (λ (m : ℕ). payments_from a (take m (get_or g.files p []))) at)
-    ∙ (min-eqb g.book.request_room (payments_from a (calls_made g s.made.items p)) ∙ sym (full-owner g s p a known within owner shared))
+    → leb g.book.request_room n ≡ is_full l p a
+is_full-counted g s l p a i n has known within owner shared at count =
+    subst (λ (x : LedgerState). leb g.book.request_room n ≡ is_full x p a) has.is (ap (leb g.book.request_room) (count ∙ ap (λ (m : ℕ). payments_from a (take m (get_or g.files p []))) at)
+    ∙ (min-eqb g.book.request_room (payments_from a (calls_made g s.made.items p)) ∙ sym (full-owner g s l.balances p a known within owner shared)))
 
 pub first_account-payout : (source : ℕ) (targets : List TargetPair) (call : Call) → payout_of call ≡ Some (source, targets) → first_account call ≡ source
 first_account-payout source targets (Transfer from to amount) is = ap (λ (x : ℕ × List TargetPair). x.0) (same_payout (from, (to, amount) ∷ []) (source, targets) is)
@@ -366,19 +445,30 @@ requests_at-none g =
         ap (λ m. requests_of g.book q x (take m (get_or g.files q []))) (get_or-zeros g.book.processes q)
         ∙ capped-zero (is_owner g.book q x && is_shared (account_of g.book x)) g.book.request_room
 
+-- the openings are kept at first
+first-kept : (g : GroundTerms) (s : Stage) → ArePlaces (length g.book.accounts) g.named g.places → s.balances.items ≡ map (λ a. (account_of g.book a).opening) g.named
+    → AreKept g s.balances.items (map (λ (t : AccountTerms). t.opening) g.book.accounts)
+first-kept g s law kept = subst (λ (xs : List ℕ). AreKept g xs (map (λ (t : AccountTerms). t.opening) g.book.accounts)) (sym kept) (kept-openings g law)
+
 -- the openings, with no call made
-pub first-is : (g : GroundTerms) (s : Stage) → ArePlaces (length g.book.accounts) g.named g.places → s.made.items ≡ replicate g.book.processes 0
-    → s.balances.items ≡ map (λ a. (account_of g.book a).opening) g.named → s.sent.items ≡ replicate g.book.processes 0 → stage_at g s ≡ first_stage g.book
-first-is g s law made kept sent =
-    let balances = ap (balances_at g) kept ∙ balances_at-openings g law in
-    stage-ext (stage_at g s) (first_stage g.book) made (λ i. record { book = g.book; balances = balances i; sent = sent i; asked = (ap (requests_at g) made ∙ requests_at-none g) i })
+pub first-stands : (g : GroundTerms) (s : Stage) → ArePlaces (length g.book.accounts) g.named g.places → s.made.items ≡ replicate g.book.processes 0
+    → s.balances.items ≡ map (λ a. (account_of g.book a).opening) g.named → s.sent.items ≡ replicate g.book.processes 0 → StandsFor g s (first_stage g.book)
+first-stands g s law made kept sent = record {
+  made = made;
+  ledger = record {
+    is = λ i. record { book = g.book; balances = map (λ (t : AccountTerms). t.opening) g.book.accounts; sent = sent i; asked = (ap (requests_at g) made ∙ requests_at-none g) i };
+    kept = first-kept g s law kept;
+  };
+}
 
 pub standing-first : (g : GroundTerms) (s : Stage) → ArePlaces (length g.book.accounts) g.named g.places → s.made.items ≡ replicate g.book.processes 0
     → s.balances.items ≡ map (λ a. (account_of g.book a).opening) g.named → s.sent.items ≡ replicate g.book.processes 0 → IsStanding g s
 standing-first g s law made kept sent = record {
   counts = ap (length {A = ℕ}) made ∙ length-replicate g.book.processes 0;
   balances = ap (length {A = ℕ}) kept ∙ length-map g.named (λ a. (account_of g.book a).opening);
-  total = ap sum (ap (balances_at g) kept ∙ balances_at-openings g law) ∙ sum-map (λ (t : AccountTerms). t.opening) g.book.accounts;
+  all = map (λ (t : AccountTerms). t.opening) g.book.accounts;
+  kept = first-kept g s law kept;
+  total = sum-map (λ (t : AccountTerms). t.opening) g.book.accounts;
   sent = ap (length {A = ℕ}) sent ∙ length-replicate g.book.processes 0;
   sent_room = λ k d within.
       let long = ap (length {A = ℕ}) sent ∙ length-replicate g.book.processes 0 in

@@ -1,13 +1,13 @@
 -- Stages that are seen, and the replies that are heard at them.
-use Rattle.std.proofs.Common.{◌≡◌, ℕ, ◌+◌, ◌<◌, ◌≤◌, ◌==◌, Bool, true, false, ◌-◌, ◌⊎◌, ⊎_elim, inl, inr, List, [], ◌∷◌, ◌++◌, length, get_or, set, map, replicate, sum, All, true≢false, Contains, Some, refl, sym, ap, subst, ◌∙◌, arith}
+use Rattle.std.proofs.Common.{◌≡◌, ℕ, zero, suc, ◌+◌, ◌<◌, ◌≤◌, ◌==◌, Bool, true, false, ◌-◌, ◌⊎◌, ⊎_elim, inl, inr, List, [], ◌∷◌, ◌++◌, length, get_or, set, replicate, sum, All, true≢false, Contains, Some, refl, sym, ap, subst, ◌∙◌, arith}
 use Rattle.std.specs.Prelude.{slice_get}
 use Rattle.std.proofs.lemmas.Bool.{cases_lt}
 use Rattle.std.proofs.lemmas.Bool.Decides.{Decides-eqb}
 use Rattle.std.specs.List.{IsDistinct}
 use Rattle.std.proofs.lemmas.Map.Keys.{apart_from_distinct}
-use Rattle.std.proofs.lemmas.List.{get_or-map, length-map, get_or-append-add, get_or_append_left, get_or-set_other, get_or-set_same, length-append, length-set, append_assoc, append-nil}
+use Rattle.std.proofs.lemmas.List.{get_or-append-add, get_or_append_left, get_or-set_other, get_or-set_same, length-append, length-set, append_assoc, append-nil}
 use Rattle.std.proofs.Math.Seq.{get_or-append_seam}
-use Rattle.std.proofs.lemmas.List.Elements.{All-append, All-contains, All-map, All-push, All-weaker, Contains-append_left, Contains-append_right, Contains-push, Contains-push_cases}
+use Rattle.std.proofs.lemmas.List.Elements.{All-append, All-contains, All-push, All-weaker, Contains-append_left, Contains-append_right, Contains-push, Contains-push_cases}
 use Rattle.at_ledger.specs.State.{LedgerState, opening_state, step}
 use Rattle.at_ledger.specs.declared.call.Call.{Call}
 use Rattle.at_ledger.specs.declared.call.Line.{Line}
@@ -16,8 +16,8 @@ use Rattle.at_ledger.specs.NextCalls.{IsNextOfProcess, with_made}
 use Rattle.at_ledger.proofs.Continuing.{none_made}
 use Rattle.at_orders.specs.Orders.{AreAnswers, Comes}
 use Rattle.at_orders.specs.Replies.{AreJust, no_replies, replies_with}
-use Rattle.at_orders.specs.Stages.{GroundTerms, HasMoreStages, IsStage, StageTerms, first_stage, ledger_at, stage_after, stage_at}
-use Rattle.at_orders.specs.Walk.{AreAllHeard, AreAllStages, AreApart, AreHeard, AreHeardInPart, Grows, HasAllNext, HasMoreNext, HasNext, HasStage, IsHeard, IsNextLevel, IsSeen, IsWalkedTo}
+use Rattle.at_orders.specs.Stages.{GroundTerms, HasMoreStages, IsStage, StageTerms, first_stage, stage_after}
+use Rattle.at_orders.specs.Walk.{AreAllHeard, AreAllStages, AreApart, AreHeard, AreHeardInPart, Grows, HasAllNext, HasMoreNext, HasNext, HasNumbers, HasStage, IsHeard, IsNextLevel, IsSeen, IsWalkedTo, StandsFor}
 use Rattle.at_orders.specs.declared.replies.Replies.{Replies}
 use Rattle.at_orders.specs.declared.stage.Stage.{Stage}
 use Rattle.at_orders.proofs.Reaching.{Leads, comes-next, leads-cons, leads-nil, order-next, stage-ext, stage-reached}
@@ -40,11 +40,11 @@ has-grows : (g : GroundTerms) (xs ys : List Stage) (t : StageTerms) → Grows xs
 has-grows g xs ys t grows has = record {
   one = has.one;
   there = subst (λ (ws : List Stage). Contains ws has.one) (sym grows.is) (Contains-append_left xs grows.more has.one has.there);
-  is = has.is;
+  stands = has.stands;
 }
 
 pub next-grows : (g : GroundTerms) (xs ys : List Stage) (s : Stage) (p : ℕ) → Grows xs ys → HasNext g xs s p → HasNext g ys s p
-next-grows g xs ys s p grows next call is = has-grows g xs ys (stage_after (stage_at g s) p call) grows (next call is)
+next-grows g xs ys s p grows next t call stands is = has-grows g xs ys (stage_after t p call) grows (next t call stands is)
 
 pub all-next-grows : (g : GroundTerms) (xs ys stages : List Stage) → Grows xs ys → All (HasAllNext g xs) stages → All (HasAllNext g ys) stages
 all-next-grows g xs ys stages grows looked =
@@ -61,19 +61,20 @@ next-more g xs ys s process grows looked next p less =
     cases
 
 -- stages that are told apart
-pub apart-distinct : (g : GroundTerms) (eq : Stage → Stage → Bool) (xs : List Stage) → ((x y : Stage) → IsSeen g x → IsSeen g y → stage_at g x ≡ stage_at g y → eq x y ≡ true)
+pub apart-distinct : (g : GroundTerms) (eq : Stage → Stage → Bool) (xs : List Stage)
+    → ((x y : Stage) (t : StageTerms) → IsSeen g x → IsSeen g y → StandsFor g x t → StandsFor g y t → eq x y ≡ true)
     → All (IsSeen g) xs → IsDistinct eq xs → AreApart g xs
-apart-distinct g eq xs same seen distinct i j s less within equal =
+apart-distinct g eq xs same seen distinct i j s t less within one other =
     let differ = apart_from_distinct eq xs i j s distinct less within in
-    true≢false (sym (same (get_or xs i s) (get_or xs j s) (seen i s (omega arith)) (seen j s within) equal) ∙ differ)
+    true≢false (sym (same (get_or xs i s) (get_or xs j s) t (seen i s (omega arith)) (seen j s within) one other) ∙ differ)
 
-sum-same : (g : GroundTerms) (x y : Stage) → stage_at g x ≡ stage_at g y → sum x.made.items ≡ sum y.made.items
-sum-same g x y is = ap (λ (t : StageTerms). sum t.made) is
+sum-same : (g : GroundTerms) (x y : Stage) (t : StageTerms) → StandsFor g x t → StandsFor g y t → sum x.made.items ≡ sum y.made.items
+sum-same g x y t one other = ap sum (one.made ∙ sym other.made)
 
 -- stages of two parts, told apart by how many calls were made
 apart-append : (g : GroundTerms) (xs ys : List Stage) (made : ℕ) → AreApart g xs → AreApart g ys → All (λ (s : Stage). sum s.made.items < made) xs
     → All (λ (s : Stage). sum s.made.items ≡ made) ys → AreApart g (xs ++ ys)
-apart-append g xs ys made first second fewer here i j s less within equal = by (cases_lt i (length xs)) (cases_lt j (length xs))
+apart-append g xs ys made first second fewer here i j s t less within one other = by (cases_lt i (length xs)) (cases_lt j (length xs))
   where
     size : length (xs ++ ys) ≡ length xs + length ys
     size = length-append xs ys
@@ -81,15 +82,18 @@ apart-append g xs ys made first second fewer here i j s less within equal = by (
     right : (k : ℕ) → length xs ≤ k → get_or (xs ++ ys) k s ≡ get_or ys (k - length xs) s
     right k past = let back : length xs + (k - length xs) ≡ k = omega arith in ap (λ (n : ℕ). get_or (xs ++ ys) n s) (sym back) ∙ get_or-append-add xs ys (k - length xs) s
 
+    of : (x y : Stage) → x ≡ y → StandsFor g x t → StandsFor g y t
+    of x y same stands = subst (λ (z : Stage). StandsFor g z t) same stands
+
     by : (i < length xs) ⊎ (length xs ≤ i) → (j < length xs) ⊎ (length xs ≤ j) → ⊥
     by (inl a) (inl c) =
         let x = get_or_append_left xs ys s i a in
         let y = get_or_append_left xs ys s j c in
-        first i j s less c (ap (stage_at g) (sym x) ∙ (equal ∙ ap (stage_at g) y))
+        first i j s t less c (of _ _ x one) (of _ _ y other)
     by (inl a) (inr c) =
         let x = get_or_append_left xs ys s i a in
         let y = right j c in
-        let same = sum-same g (get_or xs i s) (get_or ys (j - length xs) s) (ap (stage_at g) (sym x) ∙ (equal ∙ ap (stage_at g) y)) in
+        let same = sum-same g (get_or xs i s) (get_or ys (j - length xs) s) t (of _ _ x one) (of _ _ y other) in
         let low = fewer i s a in
         let there = here (j - length xs) s (omega (arith, size)) in
         omega arith
@@ -97,7 +101,7 @@ apart-append g xs ys made first second fewer here i j s less within equal = by (
     by (inr a) (inr c) =
         let x = right i a in
         let y = right j c in
-        second (i - length xs) (j - length xs) s (omega arith) (omega (arith, size)) (ap (stage_at g) (sym x) ∙ (equal ∙ ap (stage_at g) y))
+        second (i - length xs) (j - length xs) s t (omega arith) (omega (arith, size)) (of _ _ x one) (of _ _ y other)
 
 grows-append : (xs ys : List Stage) → Grows xs (xs ++ ys)
 grows-append xs ys = record { more = ys; is = refl }
@@ -114,7 +118,7 @@ walked-next g past level next made walked later = record {
   looked = All-append (HasAllNext g ((past ++ level) ++ next)) past level
       (all-next-grows g (past ++ level) ((past ++ level) ++ next) past (grows-append (past ++ level) next) walked.looked)
       (All-weaker (HasAllNext g next) (HasAllNext g ((past ++ level) ++ next))
-      (λ s all p known call is. has-right g (past ++ level) next (stage_after (stage_at g s) p call) (all p known call is)) level later.looked);
+      (λ s all p known t call stands is. has-right g (past ++ level) next (stage_after t p call) (all p known t call stands is)) level later.looked);
 }
   where
     before : All (λ (s : Stage). sum s.made.items < made + 1) (past ++ level)
@@ -123,7 +127,7 @@ walked-next g past level next made walked later = record {
         (All-weaker (λ (s : Stage). sum s.made.items ≡ made) (λ (s : Stage). sum s.made.items < made + 1) (λ s same. omega arith) level walked.stages.counts)
 
     has-right : (g : GroundTerms) (xs ys : List Stage) (t : StageTerms) → HasStage g ys t → HasStage g (xs ++ ys) t
-    has-right g xs ys t has = record { one = has.one; there = Contains-append_right xs ys has.one has.there; is = has.is }
+    has-right g xs ys t has = record { one = has.one; there = Contains-append_right xs ys has.one has.there; stands = has.stands }
 
 -- one more stage of a level is looked at
 pub looked-more : (g : GroundTerms) (xs ys stages : List Stage) (s : Stage) → Grows xs ys → All (HasAllNext g xs) stages
@@ -139,12 +143,10 @@ closed g seen count looked s made [] t has leads =
 closed g seen count looked s made (l ∷ lines) t has leads =
     let parts = leads-cons g.files s made l lines t leads in
     let known : l.process < g.book.processes = let h = parts.0.process in omega arith in
-    let counts : has.one.made.items ≡ made = ap (λ (u : StageTerms). u.made) has.is in
     let next : slice_get (get_or g.files l.process []) (get_or has.one.made.items l.process 0) ≡ Some l.call =
-    subst (λ (m : List ℕ). slice_get (get_or g.files l.process []) (get_or m l.process 0) ≡ Some l.call) (sym counts) parts.0.call in
-    let after = All-contains (HasAllNext g seen) seen has.one looked has.there l.process known l.call next in
-    closed g seen count looked (step s l.process l.call).ledger (with_made made l.process) lines t
-    (subst (λ (u : StageTerms). HasStage g seen (stage_after u l.process l.call)) has.is after) parts.1
+    subst (λ (m : List ℕ). slice_get (get_or g.files l.process []) (get_or m l.process 0) ≡ Some l.call) (sym has.stands.made) parts.0.call in
+    let after = All-contains (HasAllNext g seen) seen has.one looked has.there l.process known (record { made = made; ledger = s }) l.call has.stands next in
+    closed g seen count looked (step s l.process l.call).ledger (with_made made l.process) lines t after parts.1
 
 -- where no stage is left to be looked at, all are seen
 pub walked-all : (g : GroundTerms) (past level : List Stage) (made : ℕ) → length g.files ≡ g.book.processes → level ≡ [] → IsWalkedTo g past level made
@@ -169,33 +171,56 @@ heard-old g file xs s p i y heard = record {
   before = heard.before;
   call = heard.call;
   next = heard.next;
+  stage = heard.stage;
+  stands = heard.stands;
+  is = heard.is;
   answered = heard.answered;
 }
+
+-- of one stage the replies are these
+abbrev Replies-are : GroundTerms → Stage → ℕ → Call → Reply → Type 0
+Replies-are g s p call x = (l : LedgerState) → HasNumbers g s l → x ≡ (step l p call).reply
+
+heard-here : (g : GroundTerms) (file : List Call) (s : Stage) (p i : ℕ) (y : Reply) → (heard : IsHeard g file (s ∷ []) p i y) → s ≡ heard.one
+heard-here g file s p i y heard = ⊎_elim (λ (old : Contains {X = Stage} [] heard.one). absurd (let w = old.1 in omega arith)) (λ e. e) (Contains-push_cases [] s heard.one heard.there)
 
 heard-cases : (g : GroundTerms) (file : List Call) (xs : List Stage) (s : Stage) (p i : ℕ) (y : Reply) → IsHeard g file (xs ++ s ∷ []) p i y
     → IsHeard g file xs p i y ⊎ IsHeard g file (s ∷ []) p i y
 heard-cases g file xs s p i y heard =
     ⊎_elim
-    (λ old. inl (record { one = heard.one; there = old; before = heard.before; call = heard.call; next = heard.next; answered = heard.answered }))
+    (λ old. inl (record {
+      one = heard.one;
+      there = old;
+      before = heard.before;
+      call = heard.call;
+      next = heard.next;
+      stage = heard.stage;
+      stands = heard.stands;
+      is = heard.is;
+      answered = heard.answered;
+    }))
     (λ same. inr (record {
       one = s;
       there = Contains-push [] s;
       before = ap (λ (u : Stage). get_or u.made.items p 0) same ∙ heard.before;
       call = heard.call;
       next = heard.next;
-      answered = ap (λ (u : Stage). (step (ledger_at g u) p heard.call).reply) same ∙ heard.answered;
+      stage = heard.stage;
+      stands = subst (λ (u : Stage). StandsFor g u heard.stage) (sym same) heard.stands;
+      is = heard.is;
+      answered = heard.answered;
     }))
     (Contains-push_cases xs s heard.one heard.there)
 
-heard-only : (g : GroundTerms) (file : List Call) (s : Stage) (p i : ℕ) (y : Reply) → IsHeard g file (s ∷ []) p i y
-    → (get_or s.made.items p 0 ≡ i) × ((call : Call) → slice_get file i ≡ Some call → y ≡ (step (ledger_at g s) p call).reply)
-heard-only g file s p i y heard =
-    let same : s ≡ heard.one = ⊎_elim (λ (old : Contains {X = Stage} [] heard.one). absurd (let w = old.1 in omega arith)) (λ e. e) (Contains-push_cases [] s heard.one heard.there) in (
-      ap (λ (u : Stage). get_or u.made.items p 0) same ∙ heard.before,
-      λ call is.
-          let calls : heard.call ≡ call = let next = heard.next in cc in
-          sym heard.answered ∙ (ap (λ (c : Call). (step (ledger_at g heard.one) p c).reply) calls ∙ ap (λ (u : Stage). (step (ledger_at g u) p call).reply) (sym same)),
-    )
+heard-before : (g : GroundTerms) (file : List Call) (s : Stage) (p i : ℕ) (y : Reply) → IsHeard g file (s ∷ []) p i y → get_or s.made.items p 0 ≡ i
+heard-before g file s p i y heard = ap (λ (u : Stage). get_or u.made.items p 0) (heard-here g file s p i y heard) ∙ heard.before
+
+heard-only : (g : GroundTerms) (file : List Call) (s : Stage) (p i : ℕ) (x y : Reply) (call : Call) → slice_get file i ≡ Some call → Replies-are g s p call x
+    → IsHeard g file (s ∷ []) p i y → y ≡ x
+heard-only g file s p i x y call is replies heard =
+    let stands = subst (λ (u : Stage). StandsFor g u heard.stage) (sym (heard-here g file s p i y heard)) heard.stands in
+    let calls : heard.call ≡ call = let next = heard.next in cc in
+    sym heard.answered ∙ (ap (λ (c : Call). (step heard.stage.ledger p c).reply) calls ∙ sym (replies heard.stage.ledger stands.ledger))
 
 -- no stage
 pub heard-none : (g : GroundTerms) (file : List Call) (p : ℕ) (replies : List Replies) → length replies ≡ length file
@@ -210,7 +235,7 @@ other-call : (g : GroundTerms) (file : List Call) (xs : List Stage) (s : Stage) 
     → AreJust (IsHeard g file xs p i) r → AreJust (IsHeard g file (xs ++ s ∷ []) p i) r
 other-call g file xs s p i r other just =
     just-same (IsHeard g file xs p i) (IsHeard g file (xs ++ s ∷ []) p i) r (λ y heard. heard-old g file xs s p i y heard)
-    (λ y heard. ⊎_elim (λ old. old) (λ only. absurd (other (heard-only g file s p i y only).0)) (heard-cases g file xs s p i y heard)) just
+    (λ y heard. ⊎_elim (λ old. old) (λ only. absurd (other (heard-before g file s p i y only))) (heard-cases g file xs s p i y heard)) just
 
 pub heard-skip : (g : GroundTerms) (file : List Call) (xs : List Stage) (s : Stage) (p : ℕ) (replies : List Replies) → length file ≤ get_or s.made.items p 0
     → AreHeard g file xs p replies → AreHeard g file (xs ++ s ∷ []) p replies
@@ -220,56 +245,64 @@ heard-skip g file xs s p replies past heard = record {
 }
 
 -- a stage before a call
-one-more : (g : GroundTerms) (file : List Call) (xs : List Stage) (s : Stage) (p k : ℕ) (call : Call) → get_or s.made.items p 0 ≡ k → slice_get file k ≡ Some call
-    → More (IsHeard g file xs p k) (IsHeard g file (xs ++ s ∷ []) p k) (step (ledger_at g s) p call).reply
-one-more g file xs s p k call before next = record {
+one-more : (g : GroundTerms) (file : List Call) (xs : List Stage) (s : Stage) (p k : ℕ) (call : Call) (x : Reply) → IsSeen g s → get_or s.made.items p 0 ≡ k
+    → slice_get file k ≡ Some call → Replies-are g s p call x → More (IsHeard g file xs p k) (IsHeard g file (xs ++ s ∷ []) p k) x
+one-more g file xs s p k call x seen before next replies = record {
   up = λ y heard. heard-old g file xs s p k y heard;
-  here = record { one = s; there = Contains-push xs s; before = before; call = call; next = next; answered = refl };
-  down = λ y heard. ⊎_elim (λ old. inl old) (λ only. inr ((heard-only g file s p k y only).1 call next)) (heard-cases g file xs s p k y heard);
+  here = record {
+    one = s;
+    there = Contains-push xs s;
+    before = before;
+    call = call;
+    next = next;
+    stage = seen.stage;
+    stands = seen.stands;
+    is = seen.is;
+    answered = sym (replies seen.stage.ledger seen.stands.ledger);
+  };
+  down = λ y heard. ⊎_elim (λ old. inl old) (λ only. inr (heard-only g file s p k x y call next replies only)) (heard-cases g file xs s p k y heard);
 }
 
-pub heard-push : (g : GroundTerms) (file : List Call) (xs : List Stage) (s : Stage) (p k : ℕ) (replies : List Replies) (call : Call) (r : Replies)
-    → get_or s.made.items p 0 ≡ k → slice_get file k ≡ Some call → AreHeard g file xs p replies
-    → AreHeard g file (xs ++ s ∷ []) p (set replies k (replies_with (get_or replies k r) (step (ledger_at g s) p call).reply))
-heard-push g file xs s p k replies call r before next heard = record {
-  calls = length-set replies k (replies_with (get_or replies k r) (step (ledger_at g s) p call).reply) ∙ heard.calls;
+pub heard-push : (g : GroundTerms) (file : List Call) (xs : List Stage) (s : Stage) (p k : ℕ) (replies : List Replies) (call : Call) (r : Replies) (x : Reply) → IsSeen g s
+    → get_or s.made.items p 0 ≡ k → slice_get file k ≡ Some call → ((l : LedgerState) → HasNumbers g s l → x ≡ (step l p call).reply) → AreHeard g file xs p replies
+    → AreHeard g file (xs ++ s ∷ []) p (set replies k (replies_with (get_or replies k r) x))
+heard-push g file xs s p k replies call r x seen before next told heard = record {
+  calls = length-set replies k (replies_with (get_or replies k r) x) ∙ heard.calls;
   each = λ i d within. by i d within (k == i) refl;
 }
   where
-    by : (i : ℕ) (d : Replies) → i < length file → (t : Bool) → (k == i) ≡ t
-        → AreJust (IsHeard g file (xs ++ s ∷ []) p i) (get_or (set replies k (replies_with (get_or replies k r) (step (ledger_at g s) p call).reply)) i d)
+    v : Replies
+    v = replies_with (get_or replies k r) x
+
+    by : (i : ℕ) (d : Replies) → i < length file → (t : Bool) → (k == i) ≡ t → AreJust (IsHeard g file (xs ++ s ∷ []) p i) (get_or (set replies k v) i d)
     by i d within true is =
         let same : k ≡ i = (Decides-eqb k i).0 is in
         let size = heard.calls in
         let inside : k < length replies = omega arith in
-        let x : Reply = (step (ledger_at g s) p call).reply in
-        let v : Replies = replies_with (get_or replies k r) x in
         let read : get_or (set replies k v) i d ≡ v = ap (λ (n : ℕ). get_or (set replies k v) n d) (sym same) ∙ get_or-set_same replies k v d inside in
-        let just = just-with (IsHeard g file xs p k) (IsHeard g file (xs ++ s ∷ []) p k) (get_or replies k r) x (heard.each k r (omega arith)) (one-more g file xs s p k call before next) in
+        let just = just-with (IsHeard g file xs p k) (IsHeard g file (xs ++ s ∷ []) p k) (get_or replies k r) x (heard.each k r (omega arith)) (one-more g file xs s p k call x seen before next told) in
         subst (AreJust (IsHeard g file (xs ++ s ∷ []) p i)) (sym read) (subst (λ (n : ℕ). AreJust (IsHeard g file (xs ++ s ∷ []) p n) v) same just)
     by i d within false is =
-        let x : Reply = (step (ledger_at g s) p call).reply in
-        let v : Replies = replies_with (get_or replies k r) x in
         let other : k ≡ i → ⊥ = λ same. let wrong = (Decides-eqb k i).1 same in cc in
         let read : get_or (set replies k v) i d ≡ get_or replies i d = get_or-set_other replies k i v d (λ same. other (sym same)) in
         subst (AreJust (IsHeard g file (xs ++ s ∷ []) p i)) (sym read)
         (other-call g file xs s p i (get_or replies i d) (λ same. other (sym before ∙ same)) (heard.each i d within))
 
 -- what is heard at all stages is what comes
-heard-comes : (g : GroundTerms) (seen : List Stage) (p i : ℕ) (y : Reply) → p < length g.files → AreAllStages g seen
+heard-comes : (g : GroundTerms) (seen : List Stage) (p i : ℕ) (y : Reply) → p < length g.files
     → IsHeard g (get_or g.files p []) seen p i y → Comes g.book g.files p i y
-heard-comes g seen p i y known all heard =
-    let s : Stage = heard.one in
-    let is = (All-contains (IsSeen g) seen s all.are heard.there).stage in
-    let l : Line = record { process = p; number = get_or s.made.items p 0 + 1; call = heard.call; reply = (step (ledger_at g s) p heard.call).reply } in
-    let next : IsNextOfProcess g.files (ledger_at g s) s.made.items l = record {
+heard-comes g seen p i y known heard =
+    let t : StageTerms = heard.stage in
+    let before : get_or t.made p 0 ≡ i = ap (λ (m : List ℕ). get_or m p 0) (sym heard.stands.made) ∙ heard.before in
+    let l : Line = record { process = p; number = get_or t.made p 0 + 1; call = heard.call; reply = (step t.ledger p heard.call).reply } in
+    let next : IsNextOfProcess g.files t.ledger t.made l = record {
       process = known;
       number = refl;
-      call = subst (λ (n : ℕ). slice_get (get_or g.files p []) n ≡ Some heard.call) (sym heard.before) heard.next;
+      call = subst (λ (n : ℕ). slice_get (get_or g.files p []) n ≡ Some heard.call) (sym before) heard.next;
       reply = refl;
     } in
-    let comes = comes-next g.book g.files (stage_at g s) l is next in
-    subst (λ (z : Reply). Comes g.book g.files p i z) heard.answered (subst (λ (n : ℕ). Comes g.book g.files p n l.reply) heard.before comes)
+    let comes = comes-next g.book g.files t l heard.is next in
+    subst (λ (z : Reply). Comes g.book g.files p i z) heard.answered (subst (λ (n : ℕ). Comes g.book g.files p n l.reply) before comes)
 
 comes-heard : (g : GroundTerms) (seen : List Stage) (p i : ℕ) (y : Reply) → AreAllStages g seen
     → Comes g.book g.files p i y → IsHeard g (get_or g.files p []) seen p i y
@@ -277,11 +310,9 @@ comes-heard g seen p i y all comes =
     let l : Line = comes.line in
     let at = order-next g.book g.files comes.lines l comes.order comes.stands in
     let has = all.all at.stage at.is in
-    let counts : has.one.made.items ≡ at.stage.made = ap (λ (u : StageTerms). u.made) has.is in
-    let ledger : ledger_at g has.one ≡ at.stage.ledger = ap (λ (u : StageTerms). u.ledger) has.is in
     let by = comes.made_by in
     let number : get_or at.stage.made l.process 0 ≡ i = let a = at.next.number in let n = comes.number in omega arith in
-    let before : get_or has.one.made.items p 0 ≡ i = ap (λ (m : List ℕ). get_or m p 0) counts ∙ (ap (λ (q : ℕ). get_or at.stage.made q 0) (sym by) ∙ number) in
+    let before : get_or has.one.made.items p 0 ≡ i = ap (λ (m : List ℕ). get_or m p 0) has.stands.made ∙ (ap (λ (q : ℕ). get_or at.stage.made q 0) (sym by) ∙ number) in
     let next : slice_get (get_or g.files p []) i ≡ Some l.call =
     subst (λ (q : ℕ). slice_get (get_or g.files q []) i ≡ Some l.call) by (subst (λ (n : ℕ). slice_get (get_or g.files l.process []) n ≡ Some l.call) number at.next.call) in
     record {
@@ -290,9 +321,10 @@ comes-heard g seen p i y all comes =
       before = before;
       call = l.call;
       next = next;
-      answered =
-          ap (λ (u : LedgerState). (step u p l.call).reply) ledger
-          ∙ (ap (λ (q : ℕ). (step at.stage.ledger q l.call).reply) (sym by) ∙ (sym at.next.reply ∙ comes.answered));
+      stage = at.stage;
+      stands = has.stands;
+      is = at.is;
+      answered = ap (λ (q : ℕ). (step at.stage.ledger q l.call).reply) (sym by) ∙ (sym at.next.reply ∙ comes.answered);
     }
 
 -- the replies of one more file
@@ -357,9 +389,37 @@ answers g seen replies all heard = record {
   calls = λ p known. (heard.each p known).calls;
   replies = λ p i r known within.
       just-same (IsHeard g (get_or g.files p []) seen p i) (Comes g.book g.files p i) (get_or (get_or replies p []) i r)
-      (λ y h. heard-comes g seen p i y known all h) (λ y h. comes-heard g seen p i y all h)
+      (λ y h. heard-comes g seen p i y known h) (λ y h. comes-heard g seen p i y all h)
       ((heard.each p known).each i r within);
 }
+
+-- what seen stages stand for, one stage each
+record AreStoodFor (g : GroundTerms) (all : List Stage) : Type 0 where
+  stages : List StageTerms
+  size : length stages ≡ length all
+  are : (i : ℕ) (t : StageTerms) → i < length all → IsStage g.book g.files (get_or stages i t)
+  stand : (i : ℕ) (d : Stage) (t : StageTerms) → i < length all → StandsFor g (get_or all i d) (get_or stages i t)
+
+stood-for : (g : GroundTerms) (all : List Stage) → All (IsSeen g) all → AreStoodFor g all
+stood-for g [] seen = record { stages = []; size = refl; are = λ i t within. absurd (omega arith); stand = λ i d t within. absurd (omega arith) }
+stood-for g (s ∷ all) seen =
+    let first = seen 0 s (omega arith) in
+    let rest = stood-for g all (λ i d within. seen (suc i) d (omega arith)) in
+    record {
+      stages = first.stage ∷ rest.stages;
+      size = let size = rest.size in omega arith;
+      are = are first rest;
+      stand = stand first rest;
+    }
+  where
+    are : (first : IsSeen g s) (rest : AreStoodFor g all) (i : ℕ) (t : StageTerms) → i < length (s ∷ all) → IsStage g.book g.files (get_or (first.stage ∷ rest.stages) i t)
+    are first rest zero t within = first.is
+    are first rest (suc i) t within = rest.are i t (omega arith)
+
+    stand : (first : IsSeen g s) (rest : AreStoodFor g all) (i : ℕ) (d : Stage) (t : StageTerms) → i < length (s ∷ all)
+        → StandsFor g (get_or (s ∷ all) i d) (get_or (first.stage ∷ rest.stages) i t)
+    stand first rest zero d t within = first.stands
+    stand first rest (suc i) d t within = rest.stand i d t (omega arith)
 
 -- more stages than so many
 pub more-stages : (g : GroundTerms) (past level : List Stage) (made left most : ℕ) → IsWalkedTo g past level made
@@ -376,17 +436,17 @@ more-stages g past level made left most walked later enough =
     stages-from g all walked.begun.one most are apart (omega arith)
   where
     stages-from : (g : GroundTerms) (all : List Stage) (d : Stage) (most : ℕ) → All (IsSeen g) all → AreApart g all → most < length all → HasMoreStages g.book g.files most
-    stages-from g all d most are apart more = record {
-      stages = map (stage_at g) all;
-      are = All-map (IsStage g.book g.files) (stage_at g) all (All-weaker (IsSeen g) (λ s. IsStage g.book g.files (stage_at g s)) (λ s is. is.stage) all are);
-      apart = λ i j t less within equal.
-          let size = length-map all (stage_at g) in
-          let known : j < length all = omega arith in
-          let here : get_or (map (stage_at g) all) i t ≡ stage_at g (get_or all i d) = get_or-map (stage_at g) all i d t (omega arith) in
-          let there : get_or (map (stage_at g) all) j t ≡ stage_at g (get_or all j d) = get_or-map (stage_at g) all j d t known in
-          apart i j d less known (sym here ∙ (equal ∙ there));
-      more = let size = length-map all (stage_at g) in omega arith;
-    }
+    stages-from g all d most are apart more =
+        let of = stood-for g all are in
+        let size = of.size in
+        record {
+          stages = of.stages;
+          are = λ i t within. of.are i t (omega arith);
+          apart = λ i j t less within equal.
+              let known : j < length all = omega arith in
+              apart i j d (get_or of.stages i t) less known (of.stand i d t (omega arith)) (subst (StandsFor g (get_or all j d)) (sym equal) (of.stand j d t known));
+          more = omega arith;
+        }
 
 pub length-none : (xs : List Stage) → length xs ≡ 0 → xs ≡ []
 length-none [] is = refl

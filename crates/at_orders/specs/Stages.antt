@@ -1,5 +1,5 @@
 -- The stages that orders go through: how many calls each process has made, and the ledger then.
-use Rattle.std.specs.Prelude.{◌≡◌, ℕ, ◌*◌, ◌/◌, ◌%◌, ◌<◌, ◌≢◌, ◌==◌, ◌&&◌, Bool, List, [], ◌++◌, length, filter, map, min, replicate, slice_index, slice_index_or, take, All, Option, None, Some, is_some, if◌then◌else◌}
+use Rattle.std.specs.Prelude.{◌≡◌, ℕ, ◌*◌, ◌/◌, ◌%◌, ◌<◌, ◌≢◌, ◌==◌, ◌&&◌, Bool, List, [], ◌++◌, length, filter, map, min, replicate, slice_index, slice_index_or, take, All, Option, is_some, if◌then◌else◌}
 use Rattle.std.specs.List.{range_with_len}
 use Rattle.at_ledger.specs.Account.{is_shared}
 use Rattle.at_ledger.specs.Call.{TargetPair, first_account, payout_of}
@@ -41,7 +41,7 @@ pub record HasMoreStages (b : BookTerms) (files : List (List Call)) (most : ℕ)
   pub apart : (i j : ℕ) (t : StageTerms) → i < j → j < length stages → slice_index_or stages i t ≢ slice_index_or stages j t
   pub more : most < length stages
 
--- what the stages of a walk stand on: the book, the files, the accounts whose balances are kept, and the place of each account among them, if it is there
+-- what the stages of a walk stand on: the book, the files, the accounts that calls name first, and the place of each account among them, if it is there
 pub record GroundTerms : Type 0 where
   pub book : BookTerms
   pub files : List (List Call)
@@ -71,24 +71,11 @@ requests_at g made =
     let accounts = length g.book.accounts in
     map (λ k. requests_of g.book (k / accounts) (k % accounts) (calls_made g made (k / accounts))) (range_with_len 0 (g.book.processes * accounts))
 
--- the balance that is kept at the place, if there is one, and else the opening
-abbrev pub kept_or : List ℕ → ℕ → Option ℕ → ℕ
-kept_or kept opening None = opening
-kept_or kept opening (Some place) = slice_index kept place
-
--- the balance of each account: what isn't kept is as it opened
-abbrev pub balances_at : GroundTerms → List ℕ → List ℕ
-balances_at g kept = map (λ a. kept_or kept (account_of g.book a).opening (slice_index_or g.places a None)) (range_with_len 0 (length g.book.accounts))
-
--- the ledger with the numbers of a stage
-abbrev pub ledger_at : GroundTerms → Stage → LedgerState
-ledger_at g s = record { book = g.book; balances = balances_at g s.balances.items; sent = s.sent.items; asked = requests_at g s.made.items }
+-- the ledger with the numbers of a stage, and these balances
+abbrev pub ledger_at : GroundTerms → Stage → List ℕ → LedgerState
+ledger_at g s balances = record { book = g.book; balances = balances; sent = s.sent.items; asked = requests_at g s.made.items }
 
 -- a success, but for the request that it may have used: the counts of calls tell the requests
 abbrev pub after_success : LedgerState → ℕ → ℕ → List TargetPair → LedgerState
 after_success s process source targets =
     if is_shared (account_of s.book source) then moved s source targets else with_sent (moved s source targets) process
-
--- what a stage stands for
-abbrev pub stage_at : GroundTerms → Stage → StageTerms
-stage_at g s = record { made = s.made.items; ledger = ledger_at g s }

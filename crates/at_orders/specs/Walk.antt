@@ -1,14 +1,13 @@
 -- What the walk knows of the stages that it has seen.
-use Rattle.std.specs.Prelude.{◌≡◌, ℕ, ◌+◌, ◌<◌, ◌≤◌, ◌≢◌, List, [], ◌++◌, length, slice_get, slice_index, slice_index_or, sum, take, All, Contains, Option, None, Some}
+use Rattle.std.specs.Prelude.{◌≡◌, ℕ, ◌+◌, ◌<◌, ◌≤◌, List, [], ◌++◌, length, slice_get, slice_index, slice_index_or, sum, take, All, Contains, Option, None, Some}
 use Rattle.at_ledger.specs.Book.{IsBook, total_of}
 use Rattle.at_ledger.specs.Call.{TargetPair, first_account, payout_of}
 use Rattle.at_ledger.specs.State.{LedgerState, step}
 use Rattle.at_ledger.specs.Files.{IsPlayable}
 use Rattle.at_ledger.specs.declared.call.Call.{Call}
-use Rattle.at_ledger.specs.declared.call.Call.TheVariants.{Transfer, Read, Pay}
 use Rattle.at_ledger.specs.declared.call.Reply.{Reply}
 use Rattle.at_ledger.specs.NextCalls.{AreWithinFiles, with_made}
-use Rattle.at_orders.specs.Stages.{GroundTerms, IsStage, StageTerms, first_stage, ledger_at, payments_from, requests_at, stage_after, stage_at}
+use Rattle.at_orders.specs.Stages.{GroundTerms, IsStage, StageTerms, first_stage, ledger_at, payments_from, requests_at, stage_after}
 use Rattle.at_orders.specs.Replies.{AreJust}
 use Rattle.at_orders.specs.declared.replies.Replies.{Replies}
 use Rattle.at_orders.specs.declared.stage.Stage.{Stage}
@@ -34,23 +33,21 @@ pub record ArePlaces (accounts : ℕ) (named : List ℕ) (places : List (Option 
 abbrev pub HasPlace : List (Option ℕ) → ℕ → Type 0
 HasPlace places account = (place : ℕ) × (slice_index_or places account None ≡ Some place)
 
--- so has each account that the call names
-abbrev pub HasPlaces : List (Option ℕ) → Call → Type 0
-HasPlaces places (Transfer from to amount) = HasPlace places from × HasPlace places to
-HasPlaces places (Read account) = HasPlace places account
-HasPlaces places (Pay from targets) = HasPlace places from × All (λ t. HasPlace places t.0) targets
+-- so has the account that the call names first
+abbrev pub HasFirstPlace : List (Option ℕ) → Call → Type 0
+HasFirstPlace places call = HasPlace places (first_account call)
 
 -- no account has lost its place
 abbrev pub KeepsPlaces : List (Option ℕ) → List (Option ℕ) → Type 0
 KeepsPlaces old new = (account place : ℕ) → slice_index_or old account None ≡ Some place → slice_index_or new account None ≡ Some place
 
--- there is a file for each process, each can be played, and each account that a call names has a place
+-- there is a file for each process, each can be played, and each account that a call names first has a place
 pub record IsGround (g : GroundTerms) : Type 0 where
   pub book : IsBook g.book
   pub processes : length g.files ≡ g.book.processes
   pub files : All (IsPlayable (length g.book.accounts)) g.files
   pub places : ArePlaces (length g.book.accounts) g.named g.places
-  pub named : All (All (HasPlaces g.places)) g.files
+  pub named : All (All (HasFirstPlace g.places)) g.files
 
 -- the next call of the process
 abbrev pub IsNextCall : GroundTerms → Stage → ℕ → Call → Type 0
@@ -62,23 +59,43 @@ pub record IsNextPayment (g : GroundTerms) (s : Stage) (p source : ℕ) (targets
   pub next : IsNextCall g s p call
   pub paid : payout_of call ≡ Some (source, targets)
 
--- once the next call of the process is counted too, this is the ledger
-abbrev pub IsMadeTo : GroundTerms → Stage → ℕ → LedgerState → Stage → Type 0
-IsMadeTo g s p ledger new = record (ledger_at g new) { asked = requests_at g (with_made s.made.items p) } ≡ ledger
+-- of these balances of all accounts, those of the accounts with a place are kept there
+pub record AreKept (g : GroundTerms) (kept balances : List ℕ) : Type 0 where
+  pub size : length balances ≡ length g.book.accounts
+  pub each : (account place : ℕ) → slice_index_or g.places account None ≡ Some place → slice_index balances account ≡ slice_index kept place
+
+-- the ledger has the numbers of the stage, and any balance where none is kept
+pub record HasNumbers (g : GroundTerms) (s : Stage) (l : LedgerState) : Type 0 where
+  pub is : ledger_at g s l.balances ≡ l
+  pub kept : AreKept g s.balances.items l.balances
+
+-- so it has, once the next call of the process is counted too
+pub record IsMadeTo (g : GroundTerms) (s : Stage) (p : ℕ) (l : LedgerState) (new : Stage) : Type 0 where
+  pub is : record (ledger_at g new l.balances) { asked = requests_at g (with_made s.made.items p) } ≡ l
+  pub kept : AreKept g new.balances.items l.balances
+
+-- the stage of the walk stands for this one: as many calls were made, and the ledger has its numbers
+pub record StandsFor (g : GroundTerms) (s : Stage) (t : StageTerms) : Type 0 where
+  pub made : s.made.items ≡ t.made
+  pub ledger : HasNumbers g s t.ledger
 
 -- its numbers are those of a ledger of the book, and it counts the calls of each process
 pub record IsStanding (g : GroundTerms) (s : Stage) : Type 0 where
   pub counts : length s.made.items ≡ g.book.processes
   pub balances : length s.balances.items ≡ length g.named
-  pub total : sum (ledger_at g s).balances ≡ total_of g.book
+  pub all : List ℕ
+  pub kept : AreKept g s.balances.items all
+  pub total : sum all ≡ total_of g.book
   pub sent : length s.sent.items ≡ g.book.processes
   pub sent_room : All (λ n. n ≤ g.book.own_room) s.sent.items
 
--- an order goes through it
+-- an order goes through a stage that it stands for
 pub record IsSeen (g : GroundTerms) (s : Stage) : Type 0 where
   pub standing : IsStanding g s
   pub within : AreWithinFiles g.files s.made.items
-  pub stage : IsStage g.book g.files (stage_at g s)
+  pub stage : StageTerms
+  pub stands : StandsFor g s stage
+  pub is : IsStage g.book g.files stage
 
 -- these stages, and maybe more
 pub record Grows (old new : List Stage) : Type 0 where
@@ -89,24 +106,24 @@ pub record Grows (old new : List Stage) : Type 0 where
 pub record HasStage (g : GroundTerms) (seen : List Stage) (t : StageTerms) : Type 0 where
   pub one : Stage
   pub there : Contains seen one
-  pub is : stage_at g one ≡ t
+  pub stands : StandsFor g one t
 
--- the stage after the next call of the process is seen, if it has one
+-- whatever it stands for: the stage after the next call of the process is seen, if it has one
 abbrev pub HasNext : GroundTerms → List Stage → Stage → ℕ → Type 0
-HasNext g seen s p = (call : Call) → IsNextCall g s p call → HasStage g seen (stage_after (stage_at g s) p call)
+HasNext g seen s p = (t : StageTerms) (call : Call) → StandsFor g s t → IsNextCall g s p call → HasStage g seen (stage_after t p call)
 
 -- so are those after the next calls of all processes
 abbrev pub HasAllNext : GroundTerms → List Stage → Stage → Type 0
 HasAllNext g seen s = (p : ℕ) → p < g.book.processes → HasNext g seen s p
 
--- orders go through these stages, after so many calls
+-- orders go through what these stages stand for, after so many calls
 pub record AreLevel (g : GroundTerms) (made : ℕ) (stages : List Stage) : Type 0 where
   pub are : All (IsSeen g) stages
   pub counts : All (λ s. sum s.made.items ≡ made) stages
 
--- no two of them are the same
+-- no two of them stand for the same
 abbrev pub AreApart : GroundTerms → List Stage → Type 0
-AreApart g stages = (i j : ℕ) (s : Stage) → i < j → j < length stages → stage_at g (slice_index_or stages i s) ≢ stage_at g (slice_index_or stages j s)
+AreApart g stages = (i j : ℕ) (s : Stage) (t : StageTerms) → i < j → j < length stages → StandsFor g (slice_index_or stages i s) t → StandsFor g (slice_index_or stages j s) t → ⊥
 
 -- the level after this one has these stages
 pub record IsNextLevel (g : GroundTerms) (made : ℕ) (level next : List Stage) : Type 0 where
@@ -130,19 +147,22 @@ pub record IsWalkedTo (g : GroundTerms) (past level : List Stage) (made : ℕ) :
   pub begun : HasStage g (past ++ level) (first_stage g.book)
   pub looked : All (HasAllNext g (past ++ level)) past
 
--- they are all stages of the orders
+-- they stand for all stages of the orders
 pub record AreAllStages (g : GroundTerms) (seen : List Stage) : Type 0 where
   pub are : All (IsSeen g) seen
   pub all : (t : StageTerms) → IsStage g.book g.files t → HasStage g seen t
 
--- one of these stages is before call i of the process, and has this reply for it
+-- one of these stages is before call i of the process, and a stage of an order that it stands for has this reply for it
 pub record IsHeard (g : GroundTerms) (file : List Call) (stages : List Stage) (p i : ℕ) (reply : Reply) : Type 0 where
   pub one : Stage
   pub there : Contains stages one
   pub before : slice_index one.made.items p ≡ i
   pub call : Call
   pub next : slice_get file i ≡ Some call
-  pub answered : (step (ledger_at g one) p call).reply ≡ reply
+  pub stage : StageTerms
+  pub stands : StandsFor g one stage
+  pub is : IsStage g.book g.files stage
+  pub answered : (step stage.ledger p call).reply ≡ reply
 
 -- each call of the file has just the replies that it has at these stages
 pub record AreHeard (g : GroundTerms) (file : List Call) (stages : List Stage) (p : ℕ) (replies : List Replies) : Type 0 where

@@ -14,7 +14,7 @@ use std::alloc::Global;
 use std::marker::Model;
 
 /// The book and the files of a walk, for each call how many payments from the account that it names first stand before it in
-/// its file, and where the balances of the accounts that the files name are kept.
+/// its file, and where the balances of these accounts are kept.
 pub(crate) struct Ground<'a> {
     book: &'a Book,
     files: &'a [Vec<Call>],
@@ -113,6 +113,14 @@ impl<'a> Ground<'a> {
         ensures known { IsGround self.now }
     {
         self.places.named.as_slice()
+    }
+
+    /// Where the account's balance is kept, if it is.
+    pub(crate) fn find(&self, account: u32) -> Option<usize>
+        requires { account < length self.now.book.accounts }
+        ensures place { result ≡ slice_index_or self.now.places account None }
+    {
+        self.places.of[account as usize]
     }
 
     /// Where the account's balance is kept.

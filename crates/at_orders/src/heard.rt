@@ -3,7 +3,7 @@
 ghost use Rattle.std.specs.Prelude.{◌≡◌, ◌<◌, ◌++◌, List, All, IfOk, [], length, slice_index_or};
 ghost use Rattle.at_ledger.specs.Files.{contents_of};
 ghost use Rattle.at_orders.specs.declared.stage.Stage.{Stage};
-ghost use Rattle.at_orders.specs.Walk.{AreAllHeard, AreHeard, IsStanding};
+ghost use Rattle.at_orders.specs.Walk.{AreAllHeard, AreHeard, IsSeen};
 
 use crate::ground::Ground;
 use crate::replies::Replies;
@@ -27,7 +27,7 @@ pub(crate) fn silent(alloc: Global, ground: &Ground) -> Result<Vec<Vec<Replies>>
 /// Hears the replies that each call of the process gets at these stages too.
 fn hear(ground: &Ground, stages: &[Stage], process: u32, replies: &mut [Replies])
     requires process_in { process < ground.now.book.processes }
-    requires stages { All (IsStanding ground.now) stages.now }
+    requires stages { All (IsSeen ground.now) stages.now }
     requires replies { length replies.old
         ≡ length (slice_index_or ground.now.files process []) }
     ensures heard { (past : List Stage)
@@ -38,7 +38,8 @@ fn hear(ground: &Ground, stages: &[Stage], process: u32, replies: &mut [Replies]
 {
     let file = ground.file(process);
     for stage in stages {
-        let i = stage.made(process) as usize;
+        let made = stage.made(process);
+        let i = made as usize;
         if i < file.len() {
             replies[i] = replies[i].with(stage.reply(ground, process, &file[i]));
         }
@@ -47,7 +48,7 @@ fn hear(ground: &Ground, stages: &[Stage], process: u32, replies: &mut [Replies]
 
 /// Hears the replies that each call of each file gets at these stages too.
 pub(crate) fn hear_all(ground: &Ground, stages: &[Stage], answers: &mut Vec<Vec<Replies>>)
-    requires stages { All (IsStanding ground.now) stages.now }
+    requires stages { All (IsSeen ground.now) stages.now }
     requires answers { (past : List Stage) × AreAllHeard ground.now past
         (contents_of answers.old.items) (length ground.now.files) }
     ensures heard { (past : List Stage)

@@ -3,7 +3,7 @@
 //!
 //! No order is tried by itself. Where the openings cover all that the files ask, what one file does depends on no other,
 //! and `orders` adds up what each does alone. Else it walks the stages that the orders go through, each of them once, level
-//! by level: by how many calls were made in all.
+//! by level: by how many calls were made in all. Stages that differ only in balances that no reply depends on are one there.
 #![tactic(auto)]
 
 mod alone;

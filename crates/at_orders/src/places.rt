@@ -1,14 +1,14 @@
-//! Where the balances of the accounts that the files name are kept.
+//! Where the balances of the accounts that calls name first are kept.
 
 ghost use Rattle.std.specs.Prelude.{◌<◌, All, IfOk, OnOk, length};
 ghost use Rattle.at_ledger.specs.Files.{contents_of};
-ghost use Rattle.at_ledger.specs.Call.{AreTargetsOn, IsCallOn};
-ghost use Rattle.at_orders.specs.Walk.{ArePlaces, HasPlace, HasPlaces, KeepsPlaces};
+ghost use Rattle.at_ledger.specs.Call.{IsCallOn};
+ghost use Rattle.at_orders.specs.Walk.{ArePlaces, HasFirstPlace, HasPlace, KeepsPlaces};
 
-use at_ledger::{Call, NoMemory, Targets};
+use at_ledger::{Call, NoMemory};
 use std::alloc::Global;
 
-/// The accounts that are named, in the order in which they are first, and the place of each account among them, if it is.
+/// The accounts that calls name first, each once, and the place of each account among them, if it is there.
 #[derive(Drop)]
 pub(crate) struct Places {
     pub(crate) named: Vec<u32>,
@@ -16,12 +16,12 @@ pub(crate) struct Places {
 }
 
 impl Places {
-    /// The places of all accounts that the files name.
+    /// The places of all accounts that calls of the files name first.
     pub(crate) fn new(alloc: Global, accounts: u32, files: &[Vec<Call>]) -> Result<Places, NoMemory>
         requires { All (All (IsCallOn accounts)) (contents_of files.now) }
         ensures places { IfOk result (λ p. ArePlaces accounts p.named.items p.of.items) }
         ensures named { IfOk result
-            (λ p. All (All (HasPlaces p.of.items)) (contents_of files.now)) }
+            (λ p. All (All (HasFirstPlace p.of.items)) (contents_of files.now)) }
     {
         let mut places = Places {
             named: Vec::new(alloc),
@@ -33,7 +33,7 @@ impl Places {
         Ok(places)
     }
 
-    /// Gives a place to each account that the calls name.
+    /// Gives a place to each account that a call names first.
     fn add_file(&mut self, file: &[Call]) -> Result<(), NoMemory>
         requires places { ArePlaces (length self.old.of.items) self.old.named.items
             self.old.of.items }
@@ -41,44 +41,10 @@ impl Places {
         ensures places { ArePlaces (length self.old.of.items) self.new.named.items
             self.new.of.items }
         ensures keeps { KeepsPlaces self.old.of.items self.new.of.items }
-        ensures named { OnOk result (All (HasPlaces self.new.of.items) file.now) }
+        ensures named { OnOk result (All (HasFirstPlace self.new.of.items) file.now) }
     {
         for call in file {
-            self.add_call(call)?;
-        }
-        Ok(())
-    }
-
-    /// Gives a place to each account that the call names.
-    fn add_call(&mut self, call: &Call) -> Result<(), NoMemory>
-        requires places { ArePlaces (length self.old.of.items) self.old.named.items
-            self.old.of.items }
-        requires call { IsCallOn (length self.old.of.items) call.now }
-        ensures places { ArePlaces (length self.old.of.items) self.new.named.items
-            self.new.of.items }
-        ensures keeps { KeepsPlaces self.old.of.items self.new.of.items }
-        ensures named { OnOk result (HasPlaces self.new.of.items call.now) }
-    {
-        self.add(call.first_account())?;
-        match call.payout() {
-            Some((_, targets)) => self.add_targets(&targets),
-            None => Ok(()),
-        }
-    }
-
-    /// Gives a place to each target.
-    fn add_targets(&mut self, targets: &Targets) -> Result<(), NoMemory>
-        requires places { ArePlaces (length self.old.of.items) self.old.named.items
-            self.old.of.items }
-        requires targets { AreTargetsOn (length self.old.of.items) targets.now }
-        ensures places { ArePlaces (length self.old.of.items) self.new.named.items
-            self.new.of.items }
-        ensures keeps { KeepsPlaces self.old.of.items self.new.of.items }
-        ensures named { OnOk result
-            (All (λ t. HasPlace self.new.of.items t.0) targets.now) }
-    {
-        for i in 0..targets.len() {
-            self.add(targets.to(i))?;
+            self.add(call.first_account())?;
         }
         Ok(())
     }

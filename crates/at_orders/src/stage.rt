@@ -1,20 +1,20 @@
 //! A stage of an order.
 
-ghost use Rattle.std.specs.Prelude.{◌≡◌, ◌+◌, ◌-◌, ◌^◌, ◌<◌, ◌≤◌, All, List, length, sum, true, slice_index, slice_set, IfOk};
+ghost use Rattle.std.specs.Prelude.{◌≡◌, ℕ, ◌+◌, ◌-◌, ◌^◌, ◌<◌, ◌≤◌, List, length, sum, true, slice_index, slice_set, IfOk};
 ghost use Rattle.at_ledger.specs.Book.{is_owner};
-ghost use Rattle.at_ledger.specs.Call.{AreTargetsOn, IsCallOn, TargetPair, amount_of};
-ghost use Rattle.at_ledger.specs.State.{balance_of, credited, is_full, moved, pay, sent_of, step, with_sent};
+ghost use Rattle.at_ledger.specs.Call.{AreTargetsOn, IsCallOn, TargetPair, amount_of, first_account};
+ghost use Rattle.at_ledger.specs.State.{LedgerState, balance_of, credited, is_full, moved, pay, step, with_sent};
 ghost use Rattle.at_ledger.specs.declared.call.Reply.TheVariants.{Done};
-ghost use Rattle.at_orders.specs.Stages.{after_success, balances_at, first_stage, ledger_at, stage_after, stage_at};
-ghost use Rattle.at_orders.specs.Walk.{HasPlace, HasPlaces, IsMadeTo, IsNextCall, IsNextPayment, IsStanding};
+ghost use Rattle.at_orders.specs.Stages.{StageTerms, after_success, first_stage, stage_after};
+ghost use Rattle.at_orders.specs.Walk.{AreKept, HasNumbers, HasPlace, IsMadeTo, IsNextCall, IsNextPayment, IsStanding, StandsFor};
 
 use crate::ground::Ground;
 use at_ledger::{Call, NoMemory, Reply, Targets};
 use std::alloc::Global;
 use std::hash::{Hash, Hasher};
 
-/// How many calls each process has made, and the balances of the accounts that the files name and the used own room then.
-/// The requests follow from the calls.
+/// How many calls each process has made, and the balances of the accounts that calls name first and the used own room then.
+/// The requests follow from the calls, and no reply depends on another balance.
 #[derive(PartialEq, Eq, Drop)]
 pub(crate) struct Stage {
     made: Vec<u32>,
@@ -47,7 +47,7 @@ impl Hash for Stage {
 impl Stage {
     /// Before the first call.
     pub(crate) fn first(alloc: Global, ground: &Ground) -> Result<Stage, NoMemory>
-        ensures stage { IfOk result (λ s. stage_at ground.now s ≡ first_stage ground.now.book) }
+        ensures stage { IfOk result (λ s. StandsFor ground.now s (first_stage ground.now.book)) }
         ensures standing { IfOk result (λ s. IsStanding ground.now s) }
     {
         let book = ground.book();
@@ -75,7 +75,8 @@ impl Stage {
     fn balance(&self, ground: &Ground, account: u32) -> u64
         requires standing { IsStanding ground.now self.now }
         requires placed { HasPlace ground.now.places account }
-        ensures { result ≡ balance_of (ledger_at ground.now self.now) account }
+        ensures { (l : LedgerState) → HasNumbers ground.now self.now l
+            → result ≡ balance_of l account }
     {
         let _known = ground.book();
         self.balances[ground.place(account)]
@@ -86,9 +87,10 @@ impl Stage {
         requires standing { IsStanding ground.now self.now }
         requires process_in { process < ground.now.book.processes }
         requires call_in { IsCallOn (length ground.now.book.accounts) call.now }
-        requires named { HasPlaces ground.now.places call.now }
+        requires placed { HasPlace ground.now.places (first_account call.now) }
         requires next { IsNextCall ground.now self.now process call.now }
-        ensures { result ≡ (step (ledger_at ground.now self.now) process call.now).reply }
+        ensures { (l : LedgerState) → HasNumbers ground.now self.now l
+            → result ≡ (step l process call.now).reply }
     {
         match call.payout() {
             Some((from, targets)) => self.reply_to_pay(ground, process, from, &targets),
@@ -107,10 +109,10 @@ impl Stage {
         requires standing { IsStanding ground.now self.now }
         requires process_in { process < ground.now.book.processes }
         requires call_in { IsCallOn (length ground.now.book.accounts) call.now }
-        requires named { HasPlaces ground.now.places call.now }
+        requires placed { HasPlace ground.now.places (first_account call.now) }
         requires next { IsNextCall ground.now self.now process call.now }
-        ensures stage { IfOk result (λ s. stage_at ground.now s
-            ≡ stage_after (stage_at ground.now self.now) process call.now) }
+        ensures stage { IfOk result (λ s. (t : StageTerms) → StandsFor ground.now self.now t
+            → StandsFor ground.now s (stage_after t process call.now)) }
         ensures standing { IfOk result (λ s. IsStanding ground.now s) }
     {
         let _known = ground.book();
@@ -139,7 +141,8 @@ impl Stage {
         requires source_in { from < length ground.now.book.accounts }
         requires placed { HasPlace ground.now.places from }
         requires next { IsNextPayment ground.now self.now process from targets.now }
-        ensures { result ≡ (pay (ledger_at ground.now self.now) process from targets.now).reply }
+        ensures { (l : LedgerState) → HasNumbers ground.now self.now l
+            → result ≡ (pay l process from targets.now).reply }
     {
         if ground.book().slot_of(from, process).is_none() {
             return Reply::NotOwner;
@@ -161,7 +164,8 @@ impl Stage {
         requires owner { is_owner ground.now.book process source ≡ true }
         requires next { (targets : List TargetPair)
             × IsNextPayment ground.now self.now process source targets }
-        ensures { result ≡ is_full (ledger_at ground.now self.now) process source }
+        ensures { (l : LedgerState) → HasNumbers ground.now self.now l
+            → result ≡ is_full l process source }
     {
         let book = ground.book();
         match book.owner_count(source) {
@@ -179,10 +183,10 @@ impl Stage {
         requires standing { IsStanding ground.now self.old }
         requires process_in { process < ground.now.book.processes }
         requires call_in { IsCallOn (length ground.now.book.accounts) call.now }
-        requires named { HasPlaces ground.now.places call.now }
+        requires placed { HasPlace ground.now.places (first_account call.now) }
         requires next { IsNextCall ground.now self.old process call.now }
-        ensures ledger { IsMadeTo ground.now self.old process
-            (step (ledger_at ground.now self.old) process call.now).ledger self.new }
+        ensures ledger { (l : LedgerState) → HasNumbers ground.now self.old l
+            → IsMadeTo ground.now self.old process (step l process call.now).ledger self.new }
         ensures made { self.new.made ≡ self.old.made }
         ensures standing { IsStanding ground.now self.new }
     {
@@ -198,10 +202,9 @@ impl Stage {
         requires source_in { from < length ground.now.book.accounts }
         requires targets_in { AreTargetsOn (length ground.now.book.accounts) targets.now }
         requires placed { HasPlace ground.now.places from }
-        requires targets_placed { All (λ t. HasPlace ground.now.places t.0) targets.now }
         requires next { IsNextPayment ground.now self.old process from targets.now }
-        ensures ledger { IsMadeTo ground.now self.old process
-            (pay (ledger_at ground.now self.old) process from targets.now).ledger self.new }
+        ensures ledger { (l : LedgerState) → HasNumbers ground.now self.old l
+            → IsMadeTo ground.now self.old process (pay l process from targets.now).ledger self.new }
         ensures made { self.new.made ≡ self.old.made }
         ensures standing { IsStanding ground.now self.new }
     {
@@ -217,11 +220,10 @@ impl Stage {
         requires source_in { from < length ground.now.book.accounts }
         requires targets_in { AreTargetsOn (length ground.now.book.accounts) targets.now }
         requires placed { HasPlace ground.now.places from }
-        requires targets_placed { All (λ t. HasPlace ground.now.places t.0) targets.now }
-        requires done { (pay (ledger_at ground.now self.old) process from targets.now).reply
-            ≡ Done }
-        ensures ledger { ledger_at ground.now self.new
-            ≡ after_success (ledger_at ground.now self.old) process from targets.now }
+        requires done { (l : LedgerState) → HasNumbers ground.now self.old l
+            → (pay l process from targets.now).reply ≡ Done }
+        ensures ledger { (l : LedgerState) → HasNumbers ground.now self.old l
+            → HasNumbers ground.now self.new (after_success l process from targets.now) }
         ensures made { self.new.made ≡ self.old.made }
         ensures standing { IsStanding ground.now self.new }
     {
@@ -237,11 +239,10 @@ impl Stage {
         requires source_in { source < length ground.now.book.accounts }
         requires targets_in { AreTargetsOn (length ground.now.book.accounts) targets.now }
         requires placed { HasPlace ground.now.places source }
-        requires targets_placed { All (λ t. HasPlace ground.now.places t.0) targets.now }
-        requires covered { amount_of targets.now
-            ≤ balance_of (ledger_at ground.now self.old) source }
-        ensures moved { ledger_at ground.now self.new
-            ≡ moved (ledger_at ground.now self.old) source targets.now }
+        requires covered { (l : LedgerState) → HasNumbers ground.now self.old l
+            → amount_of targets.now ≤ balance_of l source }
+        ensures moved { (l : LedgerState) → HasNumbers ground.now self.old l
+            → HasNumbers ground.now self.new (moved l source targets.now) }
         ensures made { self.new.made ≡ self.old.made }
         ensures standing { IsStanding ground.now self.new }
     {
@@ -254,10 +255,9 @@ impl Stage {
     fn count_sent(&mut self, ground: &Ground, process: u32)
         requires standing { IsStanding ground.now self.old }
         requires process_in { process < ground.now.book.processes }
-        requires room { sent_of (ledger_at ground.now self.old) process
-            < ground.now.book.own_room }
-        ensures counted { ledger_at ground.now self.new
-            ≡ with_sent (ledger_at ground.now self.old) process }
+        requires room { slice_index self.old.sent.items process < ground.now.book.own_room }
+        ensures counted { (l : LedgerState) → HasNumbers ground.now self.old l
+            → HasNumbers ground.now self.new (with_sent l process) }
         ensures made { self.new.made ≡ self.old.made }
         ensures standing { IsStanding ground.now self.new }
     {
@@ -270,32 +270,31 @@ impl Stage {
 fn debit(ground: &Ground, balances: &mut [u64], account: u32, amount: u64)
     requires kept { length balances.old ≡ length ground.now.named }
     requires placed { HasPlace ground.now.places account }
-    requires covered { amount ≤ slice_index (balances_at ground.now balances.old) account }
-    ensures debited { balances_at ground.now balances.new
-        ≡ slice_set (balances_at ground.now balances.old) account
-        (slice_index (balances_at ground.now balances.old) account - amount) }
-    ensures total { sum (balances_at ground.now balances.new) + amount
-        ≡ sum (balances_at ground.now balances.old) }
+    requires covered { (all : List ℕ) × AreKept ground.now balances.old all
+        × (amount ≤ slice_index all account) }
+    ensures debited { (all : List ℕ) → AreKept ground.now balances.old all
+        → AreKept ground.now balances.new
+        (slice_set all account (slice_index all account - amount)) }
     ensures len { length balances.new ≡ length balances.old }
 {
     let _known = ground.book();
     balances[ground.place(account)] -= amount;
 }
 
-/// Adds each amount to its target, in order.
+/// Adds each amount to its target, in order, where the target's balance is kept.
 fn credit(ground: &Ground, balances: &mut [u64], targets: &Targets)
     requires kept { length balances.old ≡ length ground.now.named }
     requires targets_in { AreTargetsOn (length ground.now.book.accounts) targets.now }
-    requires targets_placed { All (λ t. HasPlace ground.now.places t.0) targets.now }
-    requires fits { sum (balances_at ground.now balances.old) + amount_of targets.now < 2 ^ 64 }
-    ensures credited { balances_at ground.now balances.new
-        ≡ credited (balances_at ground.now balances.old) targets.now }
-    ensures total { sum (balances_at ground.now balances.new)
-        ≡ sum (balances_at ground.now balances.old) + amount_of targets.now }
+    requires fits { (all : List ℕ) × AreKept ground.now balances.old all
+        × (sum all + amount_of targets.now < 2 ^ 64) }
+    ensures credited { (all : List ℕ) → AreKept ground.now balances.old all
+        → AreKept ground.now balances.new (credited all targets.now) }
     ensures len { length balances.new ≡ length balances.old }
 {
     let _known = ground.book();
     for i in 0..targets.len() {
-        balances[ground.place(targets.to(i))] += targets.amount(i);
+        if let Some(place) = ground.find(targets.to(i)) {
+            balances[place] += targets.amount(i);
+        }
     }
 }

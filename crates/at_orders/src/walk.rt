@@ -4,8 +4,8 @@ ghost use Rattle.std.specs.Prelude.{◌≡◌, ◌<◌, ◌≤◌, ◌+◌, ◌�
 ghost use Rattle.at_ledger.specs.Files.{IsPlayable, contents_of};
 ghost use Rattle.at_orders.specs.declared.stage.Stage.{Stage};
 ghost use Rattle.at_orders.specs.Orders.{AreAnswers};
-ghost use Rattle.at_orders.specs.Stages.{GroundTerms, HasMoreStages, stage_at};
-ghost use Rattle.at_orders.specs.Walk.{AreLevel, Grows, HasAllNext, HasMoreNext, HasNext, HasStage, IsNextLevel, IsSeen, IsWalkedTo};
+ghost use Rattle.at_orders.specs.Stages.{GroundTerms, HasMoreStages, StageTerms};
+ghost use Rattle.at_orders.specs.Walk.{AreLevel, Grows, HasAllNext, HasMoreNext, HasNext, HasStage, IsNextLevel, IsSeen, IsWalkedTo, StandsFor};
 
 use crate::error::OrdersError;
 use crate::ground::Ground;
@@ -25,7 +25,8 @@ fn add(seen: &mut IndexSet<Stage>, stage: Stage) -> Result<(), NoMemory>
     ensures len { length seen.new.keys ≤ length seen.old.keys + 1 }
     ensures only { (s : Stage) → Contains seen.new.keys s
         → Contains seen.old.keys s ⊎ (s ≡ stage) }
-    ensures has { OnOk result ((g : GroundTerms) → HasStage g seen.new.keys (stage_at g stage)) }
+    ensures has { OnOk result ((g : GroundTerms) (t : StageTerms) → StandsFor g stage t
+        → HasStage g seen.new.keys t) }
 {
     let Ok(_added) = seen.insert(stage) else {
         return Err(AllocError);

@@ -3,19 +3,13 @@ use Rattle.std.proofs.lemmas.List.{length-append, length-set}
 use Rattle.std.proofs.lemmas.Grind.{get_or_default_zero}
 use Rattle.std.proofs.lemmas.Option.{slice_get_within}
 use Rattle.std.specs.Prelude.{is_some}
-use Rattle.at_ledger.specs.Call.{IsCallOn, first_account}
+use Rattle.at_ledger.specs.Call.{IsCallOn}
 use Rattle.at_ledger.specs.declared.call.Call.{Call}
-use Rattle.at_ledger.specs.declared.call.Call.TheVariants.{Transfer, Read, Pay}
 use Rattle.at_orders.specs.Stages.{payments_from}
 use Rattle.at_orders.proofs.Counting.{before-more, counts-payment, counts-read, payments_from-few}
+use Rattle.at_orders.proofs.Placing.{first-known}
 use Rattle.at_orders.proofs.ground.count_before.Goals as goal
 use Rattle.at_orders.proofs.ground.count_before.Goals.{then-is_some, else-is_some}
-
--- the account that a call names first is there
-first-known : (accounts : ℕ) (call : Call) (account : ℕ) → account ≡ first_account call → IsCallOn accounts call → account < accounts
-first-known accounts (Transfer from to amount) account is known = omega (arith, is, known.0)
-first-known accounts (Read other) account is known = omega (arith, is, known)
-first-known accounts (Pay from targets) account is known = omega (arith, is, known.0)
 
 pub overflow_add-index_mut : goal.overflow_add-index_mut
 overflow_add-index_mut c =

@@ -1,18 +1,28 @@
 use Rattle.std.proofs.Common.{◌≡◌, ℕ, ◌+◌, ◌≤◌, ◌++◌, set, take, Some, [], ◌∷◌, List, length, get_or, sym, ap, subst, ◌∙◌, arith}
 use Rattle.std.specs.Prelude.{slice_get}
 use Rattle.at_ledger.specs.declared.call.Call.{Call}
-use Rattle.at_orders.specs.Walk.{AreHeard}
+use Rattle.at_orders.specs.Walk.{AreHeard, IsSeen}
 use Rattle.at_orders.specs.declared.stage.Stage.{Stage}
+use Rattle.at_orders.proofs.Seen.{call-placed, next-call}
 use Rattle.at_orders.proofs.Walking.{heard-push, heard-skip}
 use Rattle.std.proofs.lemmas.List.{append_assoc, take_all, take_more}
 use Rattle.std.proofs.lemmas.Option.{slice_get-get_or}
-use Rattle.at_ledger.specs.State.{step}
 use Rattle.at_ledger.specs.declared.call.Reply.{Reply}
 use Rattle.at_orders.specs.Replies.{no_replies, replies_with}
-use Rattle.at_orders.specs.Stages.{ledger_at}
 use Rattle.at_orders.specs.declared.replies.Replies.{Replies}
 use Rattle.at_orders.proofs.heard.hear.Goals as goal
 use Rattle.at_orders.proofs.heard.hear.Goals.{then-i-file, else-i-file}
+
+pub reply-requires-clause-next : goal.reply-requires-clause-next
+reply-requires-clause-next c =
+    next-call c.args.ground.now c.stage-item.result c.args.process c.file-file.result.now c.made-made.result c.index-file-i.result c.file-file.ensures.calls c.made-made.ensures
+    c.if-i-file.true c.index-file-i.is
+
+pub reply-requires-clause-placed : goal.reply-requires-clause-placed
+reply-requires-clause-placed c =
+    call-placed c.args.ground.now c.stage-item.result c.args.process c.index-file-i.result c.file-file.ensures.known c.requires.process_in
+    (next-call c.args.ground.now c.stage-item.result c.args.process c.file-file.result.now c.made-made.result c.index-file-i.result c.file-file.ensures.calls c.made-made.ensures
+    c.if-i-file.true c.index-file-i.is)
 
 pub loop-stage-preserved : goal.loop-stage-preserved
 loop-stage-preserved c past before =
@@ -20,10 +30,11 @@ loop-stage-preserved c past before =
     let file : List Call = get_or g.files c.args.process [] in
     let s : Stage = c.stage-item.result in
     let p : ℕ = c.args.process in
-    let k : ℕ = c.made-i.result in
+    let k : ℕ = c.made-made.result in
     let xs : List Stage = past ++ take c.loop-stage.stage-index c.args.stages.now in
     let replies : List Replies = c.loop-stage.replies in
     let heard = c.loop-stage.invariant past before in
+    let seen : IsSeen g s = subst (IsSeen g) (sym c.stage-item.is) (c.requires.stages c.loop-stage.stage-index s c.loop-stage-test.true) in
     let more : past ++ take (c.loop-stage.stage-index + 1) c.args.stages.now ≡ xs ++ s ∷ [] =
     ap (λ (ys : List Stage). past ++ ys) (take_more c.args.stages.now c.loop-stage.stage-index s c.loop-stage-test.true
     ∙ ap (λ (t : Stage). take c.loop-stage.stage-index c.args.stages.now ++ t ∷ []) (sym c.stage-item.is))
@@ -31,15 +42,14 @@ loop-stage-preserved c past before =
     rw more (elim c.if-i-file.branch [
       | then-i-file w ↦
           let call : Call = w.index-file-i.result in
-          let x : Reply = (step (ledger_at g s) p call).reply in
+          let x : Reply = w.reply.result in
           let here : slice_get c.file-file.result.now k ≡ Some call = slice_get-get_or c.file-file.result.now k call w.if-i-file.true ∙ ap Some (sym w.index-file-i.is) in
           let next : slice_get file k ≡ Some call = subst (λ (calls : List Call). slice_get calls k ≡ Some call) c.file-file.ensures.calls here in
-          let pushed = heard-push g file xs s p k replies call no_replies (sym c.made-i.ensures) next heard in
-          let value : replies_with (get_or replies k no_replies) x ≡ w.with.result =
-          ap (λ (y : Reply). replies_with (get_or replies k no_replies) y) (sym w.reply.ensures) ∙ sym w.with.ensures in
+          let pushed = heard-push g file xs s p k replies call no_replies x seen (sym c.made-made.ensures) next w.reply.ensures heard in
+          let value : replies_with (get_or replies k no_replies) x ≡ w.with.result = sym w.with.ensures in
           subst (AreHeard g file (xs ++ s ∷ []) p) (sym w.replies-is) (subst (λ (q : Replies). AreHeard g file (xs ++ s ∷ []) p (set replies k q)) value pushed)
       | else-i-file w ↦
-          let past : length file ≤ get_or s.made.items p 0 = let size = ap (length {A = Call}) c.file-file.ensures.calls in let is = c.made-i.ensures in let far = w.if-i-file.false in omega arith in
+          let past : length file ≤ get_or s.made.items p 0 = let size = ap (length {A = Call}) c.file-file.ensures.calls in let is = c.made-made.ensures in let far = w.if-i-file.false in omega arith in
           subst (AreHeard g file (xs ++ s ∷ []) p) (sym w.replies-is) (heard-skip g file xs s p replies past heard)
     ])
 

@@ -1,32 +1,21 @@
-use Rattle.std.proofs.Common.{◌≡◌, ℕ, ◌+◌, ◌<◌, Some, None, List, length, get_or, set, drop, sum, sym, ap, subst, ◌∙◌, arith}
-use Rattle.std.proofs.lemmas.List.{length-set}
-use Rattle.std.proofs.lemmas.List.Sums.{get_or-le-sum_by}
+use Rattle.std.proofs.Common.{◌≡◌, ℕ, ◌+◌, ◌<◌, Some, None, List, length, get_or, set, sym, ap, subst, ◌∙◌, arith}
 use Rattle.at_ledger.specs.Call.{TargetPair}
-use Rattle.at_ledger.specs.State.{credited}
-use Rattle.at_ledger.proofs.Credited.{amount_of-drop_more, credited-drop_all, credited-drop_more, sum-set_more}
-use Rattle.at_orders.specs.Stages.{balances_at}
-use Rattle.at_orders.specs.Walk.{HasPlace}
-use Rattle.at_orders.proofs.Keeping.{balances_at-more, balances_at-place, place-inside}
+use Rattle.at_orders.proofs.Crediting.{IsCreditedTo, credited-all, credited-fits, credited-kept, credited-other}
 use Rattle.at_orders.proofs.stage.credit.Goals as goal
-
-pub place-requires : goal.place-requires
-place-requires c =
-    let within : c.loop-i.i < length c.args.targets.now = let less = c.loop-i-test.true in let count = c.len-i-end.ensures.count in omega arith in
-    subst (HasPlace c.args.ground.now.places) (sym c.to.ensures) (c.requires.targets_placed c.loop-i.i (0, 0) within)
+use Rattle.at_orders.proofs.stage.credit.Goals.{in-Some, in_default}
 
 pub overflow_add-balances : goal.overflow_add-balances
 overflow_add-balances c =
     let g = c.args.ground.now in
-    let kept : List ℕ = c.loop-i.balances in
-    let within : c.loop-i.i < length c.args.targets.now = let less = c.loop-i-test.true in let count = c.len-i-end.ensures.count in omega arith in
-    let law = c.book-known.ensures.known.places in
-    let here = balances_at-place g kept c.to.result c.place.result law c.place.ensures.place in
-    let most = get_or-le-sum_by (λ n. n) (balances_at g kept) c.to.result 0 (place-inside g kept c.to.result c.place.result law c.place.ensures.place) in
-    let more = amount_of-drop_more c.args.targets.now c.loop-i.i within in
+    let targets : List TargetPair = c.args.targets.now in
+    let i : ℕ = c.loop-i.i in
+    let within : i < length targets = let less = c.loop-i-test.true in let count = c.len-i-end.ensures.count in omega arith in
+    let place : get_or g.places (get_or targets i (0, 0)).0 None ≡ Some c.in-Some.place =
+    ap (λ (n : ℕ). get_or g.places n None) (sym c.to.ensures) ∙ (sym c.find.ensures.place ∙ c.in-Some.is) in
+    let done = c.loop-i.invariant.credited c.requires.fits.0 c.requires.fits.1 in
+    let fits = credited-fits g c.loop-i.balances c.requires.fits.0 targets i c.in-Some.place 18446744073709551616 c.book-known.ensures.known.places within place c.requires.fits.2 done in
     let amount = c.amount.ensures in
-    let total = c.loop-i.invariant.total in
-    let fits = c.requires.fits in
-    omega (arith, here, most, more, amount, total, fits)
+    omega (arith, fits, amount)
 
 pub loop-i-preserved : goal.loop-i-preserved
 loop-i-preserved c =
@@ -34,25 +23,24 @@ loop-i-preserved c =
     let kept : List ℕ = c.loop-i.balances in
     let targets : List TargetPair = c.args.targets.now in
     let i : ℕ = c.loop-i.i in
-    let t : TargetPair = get_or targets i (0, 0) in
     let within : i < length targets = let less = c.loop-i-test.true in let count = c.len-i-end.ensures.count in omega arith in
     let law = c.book-known.ensures.known.places in
     let sized = c.loop-i.invariant.kept ∙ c.requires.kept in
-    let place : get_or g.places t.0 None ≡ Some c.place.result = ap (λ (n : ℕ). get_or g.places n None) (sym c.to.ensures) ∙ c.place.ensures.place in
-    let amount : c.amount.result ≡ t.1 = c.amount.ensures in
-    let step : balances_at g (set kept c.place.result (get_or kept c.place.result 0 + c.amount.result)) ≡ set (balances_at g kept) t.0 (get_or (balances_at g kept) t.0 0 + t.1) =
-    ap (λ (n : ℕ). balances_at g (set kept c.place.result (get_or kept c.place.result 0 + n))) amount ∙ balances_at-more g kept t.0 c.place.result t.1 law sized place in
-    let more = amount_of-drop_more targets i within in
-    let grown = sum-set_more (balances_at g kept) t.0 t.1 (place-inside g kept t.0 c.place.result law place) in
-    let same = ap sum step in
-    let total = c.loop-i.invariant.total in
+    let found : get_or g.places (get_or targets i (0, 0)).0 None ≡ c.find.result = ap (λ (n : ℕ). get_or g.places n None) (sym c.to.ensures) ∙ sym c.find.ensures.place in
     record {
-      credited = ap (λ (bs : List ℕ). credited bs (drop (i + 1) targets)) step ∙ (sym (credited-drop_more (balances_at g kept) targets i within) ∙ c.loop-i.invariant.credited);
-      total = omega (arith, more, grown, same, total);
-      kept = length-set kept c.place.result (get_or kept c.place.result 0 + c.amount.result) ∙ c.loop-i.invariant.kept;
+      credited = λ all are. elim c.match-find.branch [
+        | in-Some w ↦
+            subst (λ (xs : List ℕ). IsCreditedTo g xs all targets (i + 1)) (sym w.balances-is)
+            (subst (λ (n : ℕ). IsCreditedTo g (set kept w.in-Some.place (get_or kept w.in-Some.place 0 + n)) all targets (i + 1)) (sym w.amount.ensures)
+            (credited-kept g kept all targets i w.in-Some.place law sized c.requires.targets_in within (found ∙ w.in-Some.is) (c.loop-i.invariant.credited all are)))
+        | in_default w ↦
+            subst (λ (xs : List ℕ). IsCreditedTo g xs all targets (i + 1)) (sym w.balances-is)
+            (credited-other g kept all targets i c.requires.targets_in within (found ∙ w.in_default.is) (c.loop-i.invariant.credited all are))
+      ];
+      kept = c.match-find.auto.balances ∙ c.loop-i.invariant.kept;
     }
 
 pub returns-clause-credited : goal.returns-clause-credited
-returns-clause-credited c =
-    sym (credited-drop_all (balances_at c.args.ground.now c.loop-i.balances) c.args.targets.now c.loop-i.i
-    (let past = c.loop-i-test.false in let count = c.len-i-end.ensures.count in omega arith)) ∙ c.loop-i.invariant.credited
+returns-clause-credited c all are =
+    credited-all c.args.ground.now c.loop-i.balances all c.args.targets.now c.loop-i.i
+    (let past = c.loop-i-test.false in let count = c.len-i-end.ensures.count in omega arith) (c.loop-i.invariant.credited all are)

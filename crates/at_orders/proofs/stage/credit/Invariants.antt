@@ -1,12 +1,10 @@
-use Rattle.std.proofs.Common.{◌≡◌, ◌+◌, drop, length, sum}
-use Rattle.at_ledger.specs.Call.{amount_of}
-use Rattle.at_ledger.specs.State.{credited}
-use Rattle.at_orders.specs.Stages.{balances_at}
+use Rattle.std.proofs.Common.{◌≡◌, ℕ, List, length}
+use Rattle.at_orders.specs.Walk.{AreKept}
+use Rattle.at_orders.proofs.Crediting.{IsCreditedTo}
 use Rattle.at_orders.proofs.stage.credit.Given as goal
 
 abbrev pub invariant-loop-i : goal.invariant-loop-i
 invariant-loop-i l = record {
-  credited : credited (balances_at l.ground l.balances) (drop l.i l.targets) ≡ credited (balances_at l.ground l.fn.balances) l.targets;
-  total : sum (balances_at l.ground l.balances) + amount_of (drop l.i l.targets) ≡ sum (balances_at l.ground l.fn.balances) + amount_of l.targets;
+  credited : (all : List ℕ) → AreKept l.ground l.fn.balances all → IsCreditedTo l.ground l.balances all l.targets l.i;
   kept : length l.balances ≡ length l.fn.balances;
 }

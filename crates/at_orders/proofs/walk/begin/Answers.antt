@@ -1,4 +1,5 @@
 use Rattle.std.proofs.Common.{◌≡◌, ◌≤◌, ◌⊎◌, Contains, length, ap, [], List, subst, arith}
+use Rattle.at_orders.specs.Stages.{first_stage}
 use Rattle.at_orders.specs.declared.stage.Stage.{Stage}
 use Rattle.at_orders.proofs.Seen.{walked-first}
 use Rattle.at_orders.proofs.walk.begin.Goals as goal
@@ -10,4 +11,4 @@ returns-clause-walked c =
     λ x there. subst (λ (ks : List Stage). Contains ks x ⊎ (x ≡ s)) c.new-seen.ensures.empty (c.in_ok-add.ensures.only x there) in
     let few : length c.add.new.seen.keys ≤ 1 = let len = c.in_ok-add.ensures.len in let empty = ap (length {A = Stage}) c.new-seen.ensures.empty in omega arith in
     walked-first c.args.ground.now c.add.new.seen.keys s c.book-known.ensures.known.processes
-    c.in_ok-first.ensures.stage c.in_ok-first.ensures.standing only few (c.in_ok-add.ensures.has c.args.ground.now)
+    c.in_ok-first.ensures.stage c.in_ok-first.ensures.standing only few (c.in_ok-add.ensures.has c.args.ground.now (first_stage c.args.ground.now.book) c.in_ok-first.ensures.stage)

@@ -1,8 +1,8 @@
-use Rattle.std.proofs.Common.{◌≡◌, ℕ, ◌+◌, ◌<◌, [], length, get_or, sum, ap, subst, ◌∙◌, arith}
+use Rattle.std.proofs.Common.{◌≡◌, ◌+◌, ◌<◌, [], length, get_or, sum, subst, arith}
 use Rattle.std.proofs.lemmas.Result.{on_ok_weaker}
-use Rattle.at_orders.specs.Stages.{GroundTerms, stage_after, stage_at}
+use Rattle.at_orders.specs.Stages.{GroundTerms, StageTerms, stage_after}
 use Rattle.at_ledger.specs.declared.call.Call.{Call}
-use Rattle.at_orders.specs.Walk.{HasNext, HasStage, IsNextCall}
+use Rattle.at_orders.specs.Walk.{HasNext, HasStage, IsNextCall, StandsFor}
 use Rattle.at_orders.specs.declared.stage.Stage.{Stage}
 use Rattle.at_orders.proofs.Seen.{call-known, call-placed, level-with, next-call, next-seen, sum-after}
 use Rattle.at_orders.proofs.walk.turn.Goals as goal
@@ -12,8 +12,8 @@ after-requires-clause-next c =
     let lookup = c.in-Some.ensures.lookup.3 in
     next-call c.args.ground.now c.args.stage.now c.args.process c.file.result.now c.made.result c.in-Some.call.now c.file.ensures.calls c.made.ensures lookup.0 (lookup.1 c.in-Some.call.now)
 
-pub after-requires-clause-named : goal.after-requires-clause-named
-after-requires-clause-named c =
+pub after-requires-clause-placed : goal.after-requires-clause-placed
+after-requires-clause-placed c =
     let lookup = c.in-Some.ensures.lookup.3 in
     call-placed c.args.ground.now c.args.stage.now c.args.process c.in-Some.call.now c.file.ensures.known c.requires.process_in
     (next-call c.args.ground.now c.args.stage.now c.args.process c.file.result.now c.made.result c.in-Some.call.now c.file.ensures.calls c.made.ensures lookup.0 (lookup.1 c.in-Some.call.now))
@@ -42,16 +42,14 @@ returns-clause-level c =
     (next-seen g s c.in_ok-after.after c.args.process c.in-Some.call.now known c.requires.stage (call-is c) c.in_ok-after.ensures.stage c.in_ok-after.ensures.standing)
     (sum-after g s c.in_ok-after.after c.args.process c.in-Some.call.now known c.requires.stage c.in_ok-after.ensures.stage)
 
-next-from : (c : goal.After-add) → ((g : GroundTerms) → HasStage g c.add.new.seen.keys (stage_at g c.in_ok-after.after))
+next-from : (c : goal.After-add) → ((g : GroundTerms) (t : StageTerms) → StandsFor g c.in_ok-after.after t → HasStage g c.add.new.seen.keys t)
     → HasNext c.args.ground.now c.add.new.seen.keys c.args.stage.now c.args.process
-next-from c has call next =
+next-from c has t call stands next =
     let g = c.args.ground.now in
-    let p : ℕ = c.args.process in
     let there = call-is c in
     let calls : c.in-Some.call.now ≡ call = cc in
-    let after : stage_at g c.in_ok-after.after ≡ stage_after (stage_at g c.args.stage.now) p call =
-    c.in_ok-after.ensures.stage ∙ ap (λ (d : Call). stage_after (stage_at g c.args.stage.now) p d) calls in
-    subst (HasStage g c.add.new.seen.keys) after (has g)
+    subst (λ (d : Call). HasStage g c.add.new.seen.keys (stage_after t c.args.process d)) calls
+    (has g (stage_after t c.args.process c.in-Some.call.now) (c.in_ok-after.ensures.stage t stands))
 
 pub returns-clause-next : goal.returns-clause-next
 returns-clause-next c = on_ok_weaker c.add.result (next-from c) c.add.ensures.has

@@ -4,7 +4,7 @@ use Rattle.at_ledger.specs.Files.{contents_of}
 use Rattle.at_ledger.proofs.FileLists.{get_or-contents_of, length-contents_of}
 use Rattle.at_ledger.specs.Call.{IsCallOn}
 use Rattle.at_ledger.specs.declared.call.Call.{Call}
-use Rattle.at_orders.specs.Walk.{ArePlaces, HasPlaces}
+use Rattle.at_orders.specs.Walk.{ArePlaces, HasFirstPlace}
 use Rattle.at_orders.proofs.Placing.{files-more}
 use Rattle.at_orders.proofs.places.Places.new.Goals as goal
 
@@ -25,7 +25,7 @@ loop-file-preserved c =
     let within = c.loop-file-test.true in
     let new : List (Option ℕ) = c.add_file.new.self.of.items in
     let file = get_or-contents_of c.args.files.now i c.file-item.result within c.file-item.is in
-    let placed = subst (All (HasPlaces new)) (c.as_slice.ensures.value ∙ sym file) c.in_ok-add_file.ensures.named in
+    let placed = subst (All (HasFirstPlace new)) (c.as_slice.ensures.value ∙ sym file) c.in_ok-add_file.ensures.named in
     let places = subst (λ (n : ℕ). ArePlaces n c.add_file.new.self.named.items new) c.loop-file.invariant.size c.in_ok-add_file.ensures.places in
     record {
       size = places.size;
@@ -38,4 +38,4 @@ returns-clause-named c =
     let files : List (List Call) = contents_of c.args.files.now in
     let size = length-contents_of c.args.files.now in
     let whole : take c.loop-file.file-index files ≡ files = take_all c.loop-file.file-index files (let past = c.loop-file-test.false in omega arith) in
-    subst (All (All (HasPlaces c.loop-file.places.of.items))) whole c.loop-file.invariant.named
+    subst (All (All (HasFirstPlace c.loop-file.places.of.items))) whole c.loop-file.invariant.named

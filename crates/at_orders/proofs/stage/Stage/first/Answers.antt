@@ -2,7 +2,7 @@ use Rattle.std.proofs.Common.{◌≡◌, ℕ, length, map, replicate, take, ap, 
 use Rattle.std.proofs.lemmas.List.{take_all}
 use Rattle.at_ledger.specs.Book.{BookTerms, account_of}
 use Rattle.at_orders.specs.declared.stage.Stage.{Stage}
-use Rattle.at_orders.proofs.Requests.{first-is, standing-first}
+use Rattle.at_orders.proofs.Requests.{first-stands, standing-first}
 use Rattle.at_orders.proofs.stage.Stage.first.Goals as goal
 
 pub returns-clause-stage : goal.returns-clause-stage
@@ -12,7 +12,7 @@ returns-clause-stage c =
     let all : take c.loop-account.account-index g.named ≡ g.named =
     take_all c.loop-account.account-index g.named (let past = c.loop-account-test.false in let size = ap (length {A = ℕ}) c.named-account-items.ensures.named in omega arith) in
     let s : Stage = record { made = c.in_ok-vec.field-0; balances = c.loop-account.balances; sent = c.in_ok-vec-2.field-0 } in
-    first-is g s c.book-book.ensures.known.places
+    first-stands g s c.book-book.ensures.known.places
     (c.in_ok-vec.ensures.items_if_clones_equal (λ y is. is) ∙ ap (λ (n : ℕ). replicate n 0) processes)
     (c.loop-account.invariant ∙ ap (map (λ a. (account_of g.book a).opening)) all)
     (c.in_ok-vec-2.ensures.items_if_clones_equal (λ y is. is) ∙ ap (λ (n : ℕ). replicate n 0) processes)

@@ -9,7 +9,7 @@ use Rattle.at_orders.proofs.Requests.{first_account-payout, is_full-counted}
 use Rattle.at_orders.proofs.stage.Stage.is_full.Goals as goal
 
 pub returns-in_default : goal.returns-in_default
-returns-in_default c =
+returns-in_default c l has =
     let g = c.args.ground.now in
     let p : ℕ = c.args.process in
     let a : ℕ = c.args.source in
@@ -26,4 +26,4 @@ returns-in_default c =
     ∙ ap (λ (n : ℕ). payments_from n (take i (get_or g.files p []))) (first_account-payout a c.requires.next.0 next.call next.paid) in
     let room : c.request_room.result ≡ g.book.request_room = c.request_room.ensures ∙ ap (λ (b : BookTerms). b.request_room) book in
     ap (λ (r : ℕ). leb r c.payments_before-used.result) room
-    ∙ is_full-counted g c.args.self.now p a i c.payments_before-used.result c.requires.process_in c.requires.source_in c.requires.owner shared at count
+    ∙ is_full-counted g c.args.self.now l p a i c.payments_before-used.result has c.requires.process_in c.requires.source_in c.requires.owner shared at count

@@ -2,13 +2,16 @@ use Rattle.std.proofs.Common.{◌<◌, length, refl, sym, ◌∙◌, arith}
 use Rattle.at_orders.proofs.Requests.{made-payment}
 use Rattle.at_orders.proofs.stage.Stage.pay.Goals as goal
 
+pub succeed-requires-clause-done : goal.succeed-requires-clause-done
+succeed-requires-clause-done c l has = sym (c.reply_to_pay.ensures l has) ∙ c.in-Done.is
+
 pub returns-in-Done-clause-ledger : goal.returns-in-Done-clause-ledger
-returns-in-Done-clause-ledger c =
+returns-in-Done-clause-ledger c l has =
     let known = c.requires.process_in in
     let counts = c.requires.standing.counts in
     let counted : c.args.process < length c.args.self.now.made.items = omega arith in
-    made-payment c.args.ground.now c.args.self.now c.succeed.new.self c.args.process c.args.from c.args.targets.now c.requires.next counted known c.requires.source_in
-    (λ done. c.succeed.ensures.ledger) (λ differs. absurd (differs (sym c.reply_to_pay.ensures ∙ c.in-Done.is)))
+    made-payment c.args.ground.now c.args.self.now c.succeed.new.self c.args.process c.args.from c.args.targets.now l c.requires.next counted known c.requires.source_in has
+    (λ done. c.succeed.ensures.ledger l has) (λ differs. absurd (differs (sym (c.reply_to_pay.ensures l has) ∙ c.in-Done.is)))
 
 pub returns-in_default : goal.returns-in_default
 returns-in_default c =
@@ -16,8 +19,8 @@ returns-in_default c =
     let counts = c.requires.standing.counts in
     let counted : c.args.process < length c.args.self.now.made.items = omega arith in
     record {
-      ledger = made-payment c.args.ground.now c.args.self.now c.args.self.now c.args.process c.args.from c.args.targets.now c.requires.next counted known c.requires.source_in
-          (λ done. absurd (c.in_default.not-Done (c.reply_to_pay.ensures ∙ done))) (λ differs. refl);
+      ledger = λ l has. made-payment c.args.ground.now c.args.self.now c.args.self.now c.args.process c.args.from c.args.targets.now l c.requires.next counted known c.requires.source_in has
+          (λ done. absurd (c.in_default.not-Done (c.reply_to_pay.ensures l has ∙ done))) (λ differs. has);
       made = refl;
       standing = c.requires.standing;
     }
