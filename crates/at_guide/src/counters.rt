@@ -1,7 +1,8 @@
 //! What a call cost.
 
-ghost use Rattle.std.specs.Prelude.{◌<◌, length};
-ghost use Rattle.at_object.specs.Passes.{IsPassOf};
+ghost use Rattle.std.specs.Prelude.{◌≡◌, ◌<◌, ◌-◌, length};
+ghost use Rattle.at_object.specs.Calls.{ReadMade};
+ghost use Rattle.at_object.specs.Passes.{IsPassOf, others_counted};
 
 use at_log::Receipt;
 use at_object::{Ledger, Pass};
@@ -20,6 +21,12 @@ pub struct Cost {
 pub fn read_counted(ledger: &Ledger, pass: &mut Pass, account: u32) -> (Receipt, Cost)
     requires pass { IsPassOf pass.old ledger.now }
     requires account_in { account < length ledger.now.book.accounts }
+    ensures made { ReadMade ledger.now.book pass.old pass.new account result.0 }
+    ensures steps { result.1.steps ≡ pass.new.steps - pass.old.steps }
+    ensures exchanges { result.1.exchanges ≡ pass.new.exchanges - pass.old.exchanges }
+    ensures new_records { result.1.new_records
+        ≡ others_counted pass.new - others_counted pass.old }
+    ensures pass { IsPassOf pass.new ledger.now }
 {
     let steps = pass.steps();
     let exchanges = pass.exchanges();

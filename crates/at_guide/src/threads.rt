@@ -1,6 +1,6 @@
 //! Calls from threads.
 
-ghost use Rattle.std.specs.Prelude.{◌≡◌, ◌^◌, ◌<◌, All, IfOk, length};
+ghost use Rattle.std.specs.Prelude.{◌≡◌, ◌^◌, ◌<◌, All, IfErr, IfOk, length};
 ghost use Rattle.std.specs.List.{AllZip};
 ghost use Rattle.at_ledger.specs.Call.{IsCallOn};
 ghost use Rattle.at_object.specs.Passes.{IsNewPass};
@@ -24,6 +24,7 @@ pub fn job_of(
     requires few { length calls.items < 2 ^ 32 }
     ensures ready { IfOk result (IsReady ledger.now) }
     ensures calls { IfOk result (λ job. job.calls ≡ calls.items) }
+    ensures refused { IfErr result (λ r. (r.pass ≡ pass) × (r.calls.items ≡ calls.items)) }
 {
     Job::noting(alloc, pass, calls)
 }
