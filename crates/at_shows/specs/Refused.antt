@@ -2,6 +2,7 @@
 use Rattle.std.specs.Prelude.{◌≡◌, ◌⊎◌, ℕ, Bool, true, Result, Ok, Err}
 use Rattle.at_loading.specs.Faults.{IsWritten, MayRefuse}
 use Rattle.at_loading.specs.Loading.{Loaded}
+use Rattle.at_orders.specs.Covered.{OpeningsCover}
 use Rattle.at_orders.specs.Stages.{HasMoreStages}
 use Rattle.at_orders.specs.declared.walk.TheConstants.{STAGES_MAX}
 use Rattle.at_report.specs.declared.status.Status.{Status}
@@ -9,9 +10,10 @@ use Rattle.at_report.specs.declared.status.Status.TheVariants.{Done, NoMemory, T
 use Rattle.at_shows.specs.declared.words.View.{View}
 use Rattle.at_shows.specs.declared.words.View.TheVariants.{Orders}
 
--- `orders` was asked for, and the orders of the calls go through more stages than are walked
+-- `orders` was asked for, the openings don't cover the files, and the orders of the calls go through more stages than are walked
 pub record HasTooMany (view : View) (l : Loaded) : Type 0 where
   pub asked : view ≡ Orders
+  pub uncovered : OpeningsCover l.book l.files → ⊥
   pub stages : HasMoreStages l.book l.files STAGES_MAX
 
 -- no fault was counted, and what was loaded has too many orders, which is what the files lead to where they are told
