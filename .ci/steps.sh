@@ -4,7 +4,9 @@
 #
 #   1. In at_board, a function names an operation of the table once at most, outside every loop and closure, and counts one step or
 #      exchange where it does. No function names a raw operation or looks at a word without a step, but `meet`, which loads a word of
-#      its own once.
+#      its own once. `make_note` and `take_in` make one operation each and leave its count to who names them, for whom that is an
+#      operation. `learn_from` alone names both and counts none: whoever calls it has both seats, so no thread hears of another by
+#      it, and it loads no word of the table.
 #   2. In every crate of the product, nothing names an atomic word, a lock, a channel or a yield. A test may.
 cd "$(dirname "$0")/../crates" || exit 2
 failed=0
@@ -15,18 +17,22 @@ say() {
 
 # The operations of a table's shared part that a seat makes.
 steps='(load|store|compare_exchange|split_seat|join_seat)::<'
+# The functions that make one and leave its count to who names them.
+left='([.]|::)(make_note|take_in)[(]'
 # What no call of at_board may use: an operation that no rule of the table sees, a look at its words, and waiting.
 unseen='peek|raw::|fetch_add|swap::<|exchange_weak|loop *\{|while |spin|yield|park|sleep'
 
-# Of each function of a file: its name, how often it names an operation, whether in a loop, how often it counts.
+# Of each function of a file: its name, how often it names an operation, how often one whose count is left to it, whether in a loop,
+# how often it counts.
 functions() {
-    awk -v steps="$steps" '
-        function flush() { if (name != "") print name, made, looped, counted; name = ""; made = 0; looped = 0; counted = 0; depth = 0 }
+    awk -v steps="$steps" -v left="$left" '
+        function flush() { if (name != "") print name, made, taken, looped, counted; name = ""; made = taken = looped = counted = depth = 0 }
         { line = $0; sub(/\/\/.*/, "", line) }
         match(line, /(^| )fn [a-z_0-9]+/) { flush(); name = substr(line, RSTART, RLENGTH); sub(/.*fn /, "", name) }
         line ~ /(^| )(for|while|loop) / { if (name != "") depth = 1 }
         line ~ /\|\|? *\{|\| [a-z]/ && line !~ /(requires|ensures|ghost)/ { if (name != "") depth = 1 }
         { text = line; while (match(text, steps)) { made++; if (depth) looped = 1; text = substr(text, RSTART + RLENGTH) } }
+        { text = line; while (match(text, left)) { taken++; if (depth) looped = 1; text = substr(text, RSTART + RLENGTH) } }
         { text = line; while (match(text, /count_(step|exchange)\(\)/)) { counted++; text = substr(text, RSTART + RLENGTH) } }
         END { flush() }
     ' "$1"
@@ -42,15 +48,22 @@ for file in at_board/src/*.rt; do
             printf '%s\n' "$code" | grep -v '^ *\(requires\|ensures\|ghost\)' | grep -nE "$unseen" && say "$file: an operation that no step counts"
             ;;
     esac
-    functions "$file" | while read -r name made looped counted; do
+    functions "$file" | while read -r name made taken looped counted; do
         case $file:$name in
             # Cutting and gathering seats, before and after all steps.
             at_board/src/deal.rt:deal | at_board/src/close.rt:gather) continue ;;
             at_board/src/counter.rt:* | at_board/src/meet.rt:meet) continue ;;
         esac
-        [ "$made" -le 1 ] || echo "$file: $name makes $made operations"
         [ "$looped" -eq 0 ] || echo "$file: $name makes an operation in a loop or a closure"
-        [ "$made" -eq "$counted" ] || echo "$file: $name makes $made operations and counts $counted"
+        case $file:$name in
+            at_board/src/note.rt:make_note | at_board/src/note.rt:take_in) wanted='1 0 0' ;;
+            at_board/src/note.rt:learn_from) wanted='0 2 0' ;;
+            *)
+                [ $((made + taken)) -le 1 ] || echo "$file: $name makes $((made + taken)) operations"
+                wanted="$made $taken $((made + taken))"
+                ;;
+        esac
+        [ "$made $taken $counted" = "$wanted" ] || echo "$file: $name makes $made operations and takes $taken, and counts $counted"
     done | grep . && say "$file: an operation for each step, and a step for each operation"
 done
 

@@ -42,10 +42,7 @@ impl Board {
         ensures noted { result.knows ≡ noted seat.old.knows }
     {
         seat.made.count_exchange();
-        // Right here: what the seat has seen never changes, so a copy of it is right at every later moment. No word changes.
-        BoardNote {
-            seat: self.table.shared.split_seat::<Note>(&mut seat.seat),
-        }
+        self.make_note(seat)
     }
 
     /// Takes in a note, in one step, which counts as an exchange. The seat has then seen the longer of the two lists, of which
@@ -60,6 +57,48 @@ impl Board {
         ensures exchanges { seat.new.exchanges ≡ raised seat.old.exchanges 1 }
     {
         seat.made.count_exchange();
+        self.take_in(seat, note);
+    }
+
+    /// Takes in all that another seat has seen, for a caller that has both seats. It is no step of either: it loads no word of the
+    /// board, and no thread hears of another by it, since one thread has both seats.
+    pub fn learn_from(&self, seat: &mut BoardSeat, other: &mut BoardSeat)
+        requires board { IsOf seat.old self.now }
+        requires other { IsOf other.old self.now }
+        ensures learned { Learns self.now.book seat.old.knows (noted other.old.knows) seat.new.knows }
+        ensures seat { IsKept seat.new.knows }
+        ensures board { seat.new.board ≡ seat.old.board }
+        ensures steps { seat.new.steps ≡ seat.old.steps }
+        ensures exchanges { seat.new.exchanges ≡ seat.old.exchanges }
+        ensures other { other.new ≡ other.old }
+    {
+        let note = self.make_note(other);
+        self.take_in(seat, note);
+    }
+
+    /// The copy alone. Whether it counts as an exchange, its callers decide.
+    fn make_note(&self, seat: &mut BoardSeat) -> BoardNote
+        requires board { IsOf seat.old self.now }
+        ensures same { seat.new ≡ seat.old }
+        ensures board { result.board ≡ seat.old.board }
+        ensures noted { result.knows ≡ noted seat.old.knows }
+    {
+        // Right here: what the seat has seen never changes, so a copy of it is right at every later moment. No word changes.
+        BoardNote {
+            seat: self.table.shared.split_seat::<Note>(&mut seat.seat),
+        }
+    }
+
+    /// The taking in alone. Whether it counts as an exchange, its callers decide.
+    fn take_in(&self, seat: &mut BoardSeat, note: BoardNote)
+        requires board { IsOf seat.old self.now }
+        requires note { IsOf note self.now }
+        ensures learned { Learns self.now.book seat.old.knows note.knows seat.new.knows }
+        ensures seat { IsKept seat.new.knows }
+        ensures board { seat.new.board ≡ seat.old.board }
+        ensures steps { seat.new.steps ≡ seat.old.steps }
+        ensures exchanges { seat.new.exchanges ≡ seat.old.exchanges }
+    {
         let shared = &self.table.shared;
         let BoardNote { seat: mut told } = note;
         // Right here: both lists are prefixes of the one list, whoever has published before, so the longer one has both.

@@ -8,8 +8,8 @@ use Rattle.at_board.specs.Steps.Learn.{Learns, learned}
 use Rattle.at_board.specs.Knowledge.Seats.{HasCounts}
 use Rattle.at_board.specs.Knowledge.Seats.{IsSeat}
 use Rattle.at_board.proofs.KnowledgeLaws.Kept.{IsKept-IsSeat}
-use Rattle.at_board.proofs.board.Board.learn.Goals.{After-join_seat}
-use Rattle.at_board.proofs.board.Board.learn.Goals as goal
+use Rattle.at_board.proofs.board.Board.take_in.Goals.{After-join_seat}
+use Rattle.at_board.proofs.board.Board.take_in.Goals as goal
 
 pub meet-requires : goal.meet-requires
 meet-requires c =
