@@ -8,8 +8,9 @@ pub mod Made
 -- the same of any call, and what it may take
 pub mod Calls
 pub mod Within
--- the seat and the rest of one pass
+-- the seat and the rest of one pass, and what is left of it where the seat takes in what another has seen
 pub mod OnePass
+pub mod Learning
 -- what a payment needs, and why it is done where the balance covers it
 pub mod Room
 pub mod Covered

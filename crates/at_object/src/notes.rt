@@ -6,11 +6,14 @@ ghost use Rattle.at_board.specs.Knowledge.Seats.{IsOf};
 ghost use Rattle.at_history.specs.Moves.{AreRuns};
 ghost use Rattle.at_history.specs.Publications.{IsPrefix, longer};
 ghost use Rattle.at_log.specs.declared.receipt.Receipt.{Receipt};
+ghost use Rattle.at_object.specs.Parted.{IsOfOnePass, pass_of};
 ghost use Rattle.at_object.specs.Passes.{IsPassOf, Stands, asked_by, sent_by};
+ghost use Rattle.at_shared.specs.Helpings.{decides_on};
 
 use crate::ledger::Ledger;
+use crate::parts::Rest;
 use crate::pass::Pass;
-use at_board::BoardNote;
+use at_board::{Board, BoardNote, BoardSeat};
 use std::marker::Model;
 
 /// What a pass had seen when the note was made, to be handed to another pass. It takes no memory.
@@ -67,4 +70,29 @@ impl Ledger {
         pass.seat.known();
         self.board.learn(&mut pass.seat, note.note);
     }
+}
+
+/// Takes in what the seat of another pass has seen, for a pass that was taken apart, so that its later calls come after all of it. It
+/// is no step, since one caller has both passes. Takes no memory.
+pub fn learn_from(board: &Board, seat: &mut BoardSeat, rest: &Rest, other: &mut BoardSeat)
+    requires board { IsOf seat.old board.now }
+    requires other { IsOf other.old board.now }
+    requires pass { IsOfOnePass seat.old rest.now }
+    ensures begins { IsPrefix seat.old.knows.seen seat.new.knows.seen }
+    ensures told { IsPrefix other.old.knows.seen seat.new.knows.seen }
+    ensures stands { (receipts : List Receipt) → Stands (pass_of seat.old rest.now) receipts
+        → Stands (pass_of seat.new rest.now) receipts }
+    ensures pass { IsOfOnePass seat.new rest.now }
+    ensures board { IsOf seat.new board.now }
+    ensures process { seat.new.knows.first ≡ seat.old.knows.first }
+    ensures sent { sent_by (pass_of seat.new rest.now) ≡ sent_by (pass_of seat.old rest.now) }
+    ensures asked { (a : ℕ) → asked_by (pass_of seat.new rest.now) a
+        ≡ asked_by (pass_of seat.old rest.now) a }
+    ensures decides { (a : ℕ) → decides_on seat.new.knows a ≡ decides_on seat.old.knows a }
+    ensures steps { seat.new.steps ≡ seat.old.steps }
+    ensures exchanges { seat.new.exchanges ≡ seat.old.exchanges }
+    ensures other { other.new ≡ other.old }
+{
+    seat.known();
+    board.learn_from(seat, other);
 }
