@@ -63,7 +63,7 @@ for file in at_board/src/*.rt; do
                 wanted="$made $taken $((made + taken))"
                 ;;
         esac
-        [ "$made $taken $counted" = "$wanted" ] || echo "$file: $name makes $made operations and takes $taken, and counts $counted"
+        [ "$made $taken $counted" = "$wanted" ] || echo "$file: $name makes $made operations, names $taken left to it, and counts $counted"
     done | grep . && say "$file: an operation for each step, and a step for each operation"
 done
 

@@ -1,4 +1,4 @@
-//! Notes: what one seat has seen, handed to another in two steps.
+//! Notes: what one seat has seen, handed to another in two steps, or in none by a caller that has both seats.
 
 ghost use Rattle.std.specs.Prelude.{◌≡◌, ◌+◌, ◌<◌, []};
 ghost use Rattle.at_board.specs.Counting.{exchanged, raised};
