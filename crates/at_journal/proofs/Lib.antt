@@ -19,3 +19,5 @@ pub mod LineOrder
 pub mod LinePositions
 pub mod OwnPositions
 pub mod RoundPositions
+pub mod StepCases
+pub mod Exchange

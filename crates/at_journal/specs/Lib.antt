@@ -3,3 +3,4 @@ pub mod Calls
 pub mod Order
 pub mod Ordered
 pub mod Positions
+pub mod Linearizable

@@ -9,3 +9,4 @@ pub mod Appending
 pub mod LastRecord
 pub mod Loading
 pub mod Ended
+pub mod InTime
