@@ -122,7 +122,7 @@ exchange s x y pass one two =
     ]
 
 -- the lines are answered as they say from a state on
-pub AnsweredFrom : LedgerState → List Line → Type 0
+unfoldable pub AnsweredFrom : LedgerState → List Line → Type 0
 AnsweredFrom s [] = Unit {0}
 AnsweredFrom s (x ∷ xs) = ((line_step s x).reply ≡ x.reply) × AnsweredFrom (line_step s x).ledger xs
 

@@ -21,3 +21,9 @@ pub mod OwnPositions
 pub mod RoundPositions
 pub mod StepCases
 pub mod Exchange
+pub mod PairLists
+pub mod Reordering
+pub mod LinePairs
+pub mod PlacedKeys
+pub mod Choosing
+pub mod TimedOrder
