@@ -1,20 +1,18 @@
 -- Lines of a journal in an order in which no call stands before one that ended before it began.
-use Rattle.std.proofs.Common.{◌≡◌, ◌≢◌, ℕ, ◌+◌, ◌-◌, ◌<◌, ◌≤◌, ◌⊎◌, ◌==◌, ◌&&◌, not, zero, suc, Bool, true, false, List, [], ◌∷◌, ◌++◌, length, get_or, take, refl, sym, ap, subst, ◌∙◌, arith, inl, inr}
-use Rattle.std.proofs.lemmas.Bool.{cases_Bool, cases_eq, cases_lt, eq-eqb, eqb-true}
+use Rattle.std.proofs.Common.{◌≡◌, ◌≢◌, ℕ, ◌-◌, ◌≤◌, true, false, List, [], ◌∷◌, ◌++◌, take, sym, ap, ◌∙◌, arith, inl, inr}
+use Rattle.std.proofs.lemmas.Bool.{cases_Bool}
 use Rattle.at_ledger.specs.Book.{BookTerms}
 use Rattle.at_ledger.specs.declared.call.Line.{Line}
 use Rattle.at_log.specs.ClosingTerms.{ClosingTerms, receipts_of}
 use Rattle.at_log.specs.Coherent.{Coherent}
-use Rattle.at_log.specs.JournalOrder.{journal_lines, journal_order}
+use Rattle.at_log.specs.JournalOrder.{journal_order}
 use Rattle.at_log.specs.Receipts.{is_success, receipt_at}
 use Rattle.at_journal.specs.Linearizable.{AreTimed, CallTimes, EndsBefore}
 use Rattle.at_journal.proofs.Exchange.{MayPass}
 use Rattle.at_journal.proofs.LinePairs.{IsReceiptLine, MayPrecede, key_of_line}
-use Rattle.at_journal.proofs.LineRuns.{line}
-use Rattle.at_journal.proofs.PairLists.{Each, Each-before, Each-both, Each-middle, Each-weaker, Each-without, Least, Pairwise, Pairwise-before, Pairwise-without, find_least}
+use Rattle.at_journal.proofs.PairLists.{Each, Each-before, Each-both, Each-middle, Each-weaker, Pairwise, Pairwise-before}
 use Rattle.at_journal.proofs.PlacedKeys.{has_place, unmoved-same_key}
-use Rattle.at_journal.proofs.Reordering.{Reordered}
-use Rattle.at_journal.proofs.StepCases.{is_refused}
+use Rattle.at_journal.proofs.StepCases.{lacks_place}
 
 -- when the call of a line begins and ends
 abbrev pub begun_of : CallTimes → Line → ℕ
@@ -44,11 +42,11 @@ pub record AreOrdered (c : ClosingTerms) (xs : List Line) : Type 0 where
 
 -- two lines that have places
 module _ (b : BookTerms) (c : ClosingTerms) (times : CallTimes) (coherent : Coherent b c) (timed : AreTimed c times) where
-  placed : (x : Line) → IsReceiptLine c x → is_refused x.reply ≡ false → is_refused (receipt_at (receipts_of c x.process) (x.number - 1)).reply ≡ false
-  placed x is told = sym (ap (λ (y : Line). is_refused y.reply) is.is) ∙ told
+  placed : (x : Line) → IsReceiptLine c x → lacks_place x.reply ≡ false → lacks_place (receipt_at (receipts_of c x.process) (x.number - 1)).reply ≡ false
+  placed x is told = sym (ap (λ (y : Line). lacks_place y.reply) is.is) ∙ told
 
   -- one that ended before the other began has the smaller key, or the same
-  pub key-le : (x y : Line) → IsReceiptLine c x → IsReceiptLine c y → is_refused x.reply ≡ false → is_refused y.reply ≡ false → EndsBefore times x y
+  pub key-le : (x y : Line) → IsReceiptLine c x → IsReceiptLine c y → lacks_place x.reply ≡ false → lacks_place y.reply ≡ false → EndsBefore times x y
       → key_of_line c x ≤ key_of_line c y
   key-le x y one two told answered earlier =
       let i = x.number - 1 in
@@ -64,7 +62,7 @@ module _ (b : BookTerms) (c : ClosingTerms) (times : CallTimes) (coherent : Cohe
       earlier).key
 
   -- a line passes one of another process that stands before it with the same key
-  still-same_key : (x y : Line) → IsReceiptLine c x → IsReceiptLine c y → is_refused x.reply ≡ false → is_refused y.reply ≡ false → x.process ≢ y.process
+  still-same_key : (x y : Line) → IsReceiptLine c x → IsReceiptLine c y → lacks_place x.reply ≡ false → lacks_place y.reply ≡ false → x.process ≢ y.process
       → key_of_line c x ≡ key_of_line c y → is_success x.reply ≡ false
   still-same_key x y one two told answered apart same =
       ap (λ (z : Line). is_success z.reply) one.is
@@ -100,28 +98,28 @@ module _ (b : BookTerms) (c : ClosingTerms) (times : CallTimes) (coherent : Cohe
       (Each-both (λ x. MayPrecede c x y) (λ x. EndsBefore times x y → ⊥) before (Pairwise-before (MayPrecede c) before y after ordered.pairs)
       (Each-before (λ x. EndsBefore times x y → ⊥) before (y ∷ after) free)))
 
-  -- a refused line before whose beginning none ends passes all
-  pub pass-refused : (before : List Line) (y : Line) (after : List Line) → AreOrdered c (before ++ y ∷ after) → is_refused y.reply ≡ true
+  -- a line without a place before whose beginning none ends passes those before it
+  pub pass-lacks_place : (before : List Line) (y : Line) (after : List Line) → AreOrdered c (before ++ y ∷ after) → lacks_place y.reply ≡ true
       → Each (λ x. EndsBefore times x y → ⊥) (before ++ y ∷ after) → Each (λ x. MayPass x y) before
-  pass-refused before y after ordered refused free =
+  pass-lacks_place before y after ordered lacks free =
       let two = Each-middle (IsReceiptLine c) before y after ordered.each in
       Each-weaker (λ x. Before x y) (λ x. MayPass x y) before
-      (λ x so. record { apart = apart-before x y so.one two so.precedes so.free; may = inr (inl refused) })
+      (λ x so. record { apart = apart-before x y so.one two so.precedes so.free; may = inr (inl lacks) })
       (Before-each before y after ordered free)
 
   -- and so does one with a place and the least key of those with places
-  pub pass-least : (before : List Line) (y : Line) (after : List Line) → AreOrdered c (before ++ y ∷ after) → is_refused y.reply ≡ false
-      → Each (λ x. is_refused x.reply ≡ false → key_of_line c y ≤ key_of_line c x) (before ++ y ∷ after)
+  pub pass-least : (before : List Line) (y : Line) (after : List Line) → AreOrdered c (before ++ y ∷ after) → lacks_place y.reply ≡ false
+      → Each (λ x. lacks_place x.reply ≡ false → key_of_line c y ≤ key_of_line c x) (before ++ y ∷ after)
       → Each (λ x. EndsBefore times x y → ⊥) (before ++ y ∷ after) → Each (λ x. MayPass x y) before
   pass-least before y after ordered told least free =
       let two = Each-middle (IsReceiptLine c) before y after ordered.each in
-      let Low : Line → Type 0 = λ x. is_refused x.reply ≡ false → key_of_line c y ≤ key_of_line c x in
+      let Low : Line → Type 0 = λ x. lacks_place x.reply ≡ false → key_of_line c y ≤ key_of_line c x in
       Each-weaker (λ x. Before x y × Low x) (λ x. MayPass x y) before
       (λ x all.
       let so = all.0 in
       let apart = apart-before x y so.one two so.precedes so.free in
-      elim (cases_Bool (is_refused x.reply)) as (λ _. MayPass x y) [
-        | inl refused ↦ record { apart = apart; may = inl refused }
+      elim (cases_Bool (lacks_place x.reply)) as (λ _. MayPass x y) [
+        | inl lacks ↦ record { apart = apart; may = inl lacks }
         | inr answered ↦
             let same : key_of_line c x ≡ key_of_line c y = omega (arith, so.precedes.key, all.1 answered) in
             record {

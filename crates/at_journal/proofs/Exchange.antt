@@ -1,19 +1,19 @@
--- Calls of two processes change places: where one is refused, or neither moves, each is answered as before.
-use Rattle.std.proofs.Common.{◌≡◌, ◌≢◌, ℕ, ◌⊎◌, Bool, true, false, List, [], ◌∷◌, ◌++◌, map, refl, sym, ap, subst, ◌∙◌, inl, inr}
-use Rattle.at_ledger.specs.Book.{BookTerms, is_owner}
-use Rattle.at_ledger.specs.Run.{Legal, Run, asked_in, run_from}
-use Rattle.at_ledger.specs.State.{LedgerState, Step, opening_state, step, with_asked}
+-- Calls of two processes change places: where one has no place, or neither moves, each is answered as before.
+use Rattle.std.proofs.Common.{◌≡◌, ◌≢◌, ◌⊎◌, true, false, List, [], ◌∷◌, map, refl, sym, ap, subst, ◌∙◌, inl, inr}
+use Rattle.at_ledger.specs.Book.{is_owner}
+use Rattle.at_ledger.specs.Run.{Run, asked_in, run_from}
+use Rattle.at_ledger.specs.State.{LedgerState, Step, step, with_asked}
 use Rattle.at_ledger.specs.declared.call.Line.{Line}
 use Rattle.at_ledger.specs.declared.call.Reply.{Reply}
 use Rattle.at_ledger.specs.declared.call.Reply.TheVariants.{Short}
-use Rattle.at_ledger.proofs.Run.{book-step, run_from-cons, run_from-nil}
+use Rattle.at_ledger.proofs.Run.{run_from-cons, run_from-nil}
 use Rattle.at_log.specs.Receipts.{is_success}
-use Rattle.at_journal.proofs.StepCases.{SameRoom, SameRoom-refl, SameRoom-step, SameRoom-sym, Unmoved, Unmoved-step, asked, is_refused, left, step-refused, with_asked-with_asked}
+use Rattle.at_journal.proofs.StepCases.{SameRoom-refl, SameRoom-step, SameRoom-sym, Unmoved, Unmoved-step, asked, lacks_place, left, step-lacks_place, with_asked-with_asked}
 
 -- the second line may be moved before the first
 pub record MayPass (x y : Line) : Type 0 where
   pub apart : x.process ≢ y.process
-  pub may : (is_refused x.reply ≡ true) ⊎ (is_refused y.reply ≡ true) ⊎ ((is_success x.reply ≡ false) × (is_success y.reply ≡ false))
+  pub may : (lacks_place x.reply ≡ true) ⊎ (lacks_place y.reply ≡ true) ⊎ ((is_success x.reply ≡ false) × (is_success y.reply ≡ false))
 
 -- what the ledger does with a line
 abbrev pub line_step : LedgerState → Line → Step
@@ -38,14 +38,14 @@ reply-Unmoved : (s t : LedgerState) (x : Line) → Unmoved s t x.process x.call 
 reply-Unmoved s t x (left reply here there) = ap (λ (z : Step). z.reply) here ∙ sym (ap (λ (z : Step). z.reply) there)
 reply-Unmoved s t x (asked a owner here there) = ap (λ (z : Step). z.reply) here ∙ sym (ap (λ (z : Step). z.reply) there)
 
--- the first line is refused
-exchange-first : (s : LedgerState) (x y : Line) → x.process ≢ y.process → is_refused x.reply ≡ true → (line_step s x).reply ≡ x.reply
+-- the first line has no place
+exchange-first : (s : LedgerState) (x y : Line) → x.process ≢ y.process → lacks_place x.reply ≡ true → (line_step s x).reply ≡ x.reply
     → (line_step (line_step s x).ledger y).reply ≡ y.reply → Exchanged s x y
-exchange-first s x y apart refused one two =
+exchange-first s x y apart lacks one two =
     let t : LedgerState = (line_step s y).ledger in
-    let told : is_refused (line_step s x).reply ≡ true = ap is_refused one ∙ refused in
-    let here = step-refused s s x.process x.call (SameRoom-refl s x.process) told in
-    let there = step-refused t s x.process x.call (SameRoom-sym s t x.process (SameRoom-step s x.process y.process y.call apart)) told in
+    let told : lacks_place (line_step s x).reply ≡ true = ap lacks_place one ∙ lacks in
+    let here = step-lacks_place s s x.process x.call (SameRoom-refl s x.process) told in
+    let there = step-lacks_place t s x.process x.call (SameRoom-sym s t x.process (SameRoom-step s x.process y.process y.call apart)) told in
     let stays : (line_step s x).ledger ≡ s = ledger_of (line_step s x) s (line_step s x).reply here in
     record {
       first = ap (λ u. (line_step u y).reply) (sym stays) ∙ two;
@@ -53,14 +53,14 @@ exchange-first s x y apart refused one two =
       last = ap (λ u. (line_step u y).ledger) stays ∙ sym (ledger_of (line_step t x) t (line_step s x).reply there);
     }
 
--- the second line is refused
-exchange-second : (s : LedgerState) (x y : Line) → x.process ≢ y.process → is_refused y.reply ≡ true → (line_step s x).reply ≡ x.reply
+-- the second line has no place
+exchange-second : (s : LedgerState) (x y : Line) → x.process ≢ y.process → lacks_place y.reply ≡ true → (line_step s x).reply ≡ x.reply
     → (line_step (line_step s x).ledger y).reply ≡ y.reply → Exchanged s x y
-exchange-second s x y apart refused one two =
+exchange-second s x y apart lacks one two =
     let u : LedgerState = (line_step s x).ledger in
-    let told : is_refused (line_step u y).reply ≡ true = ap is_refused two ∙ refused in
-    let here = step-refused s u y.process y.call (SameRoom-step s y.process x.process x.call (λ e. apart (sym e))) told in
-    let there = step-refused u u y.process y.call (SameRoom-refl u y.process) told in
+    let told : lacks_place (line_step u y).reply ≡ true = ap lacks_place two ∙ lacks in
+    let here = step-lacks_place s u y.process y.call (SameRoom-step s y.process x.process x.call (λ e. apart (sym e))) told in
+    let there = step-lacks_place u u y.process y.call (SameRoom-refl u y.process) told in
     let stays : (line_step s y).ledger ≡ s = ledger_of (line_step s y) s (line_step u y).reply here in
     record {
       first = ap (λ (z : Step). z.reply) here ∙ two;
@@ -113,10 +113,10 @@ exchange : (s : LedgerState) (x y : Line) → MayPass x y → (line_step s x).re
     → Exchanged s x y
 exchange s x y pass one two =
     elim pass.may as (λ _. Exchanged s x y) [
-      | inl refused ↦ exchange-first s x y pass.apart refused one two
+      | inl lacks ↦ exchange-first s x y pass.apart lacks one two
       | inr rest ↦
           elim rest as (λ _. Exchanged s x y) [
-            | inl refused ↦ exchange-second s x y pass.apart refused one two
+            | inl lacks ↦ exchange-second s x y pass.apart lacks one two
             | inr still ↦ exchange-unmoved s x y pass.apart still.0 still.1 one two
           ]
     ]

@@ -124,11 +124,11 @@ round_receipt b c p i (short source amount targets may single reply front less) 
 round_receipt b c p i (done source targets may single reply so) own = absurd (cc (own, ap is_at_round so.at))
 round_receipt b c p i (round source targets may shared so) own = (source, targets, may, so)
 
-and_first : (s t : Bool) → (s && t) ≡ true → s ≡ true
+pub and_first : (s t : Bool) → (s && t) ≡ true → s ≡ true
 and_first true t both = refl
 and_first false t both = absurd (cc both)
 
-and_second : (s t : Bool) → (s && t) ≡ true → t ≡ true
+pub and_second : (s t : Bool) → (s && t) ≡ true → t ≡ true
 and_second true t both = both
 and_second false t both = absurd (cc both)
 

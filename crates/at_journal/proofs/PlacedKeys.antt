@@ -1,5 +1,5 @@
 -- Two calls with places and one key: where their processes differ, neither moved.
-use Rattle.std.proofs.Common.{◌≡◌, ◌≢◌, ℕ, ◌+◌, ◌*◌, ◌<◌, true, false, List, length, take, sym, ap, ◌∙◌, arith, inl, inr}
+use Rattle.std.proofs.Common.{◌≡◌, ◌≢◌, ℕ, ◌+◌, ◌*◌, ◌<◌, true, false, List, length, take, sym, ap, ◌∙◌, inl, inr}
 use Rattle.std.proofs.lemmas.Bool.{cases_Bool}
 use Rattle.at_ledger.specs.Book.{BookTerms}
 use Rattle.at_ledger.specs.Call.{first_account}
@@ -10,20 +10,19 @@ use Rattle.at_log.specs.JournalOrder.{journal_order, line_key}
 use Rattle.at_log.specs.Placed.{IsPlaced, read, not_owner, full, short, done, round}
 use Rattle.at_log.specs.Receipts.{is_success, receipt_at}
 use Rattle.at_log.specs.Told.{key_at, own_position, round_position}
-use Rattle.at_log.specs.declared.receipt.At.{At}
 use Rattle.at_log.specs.declared.receipt.At.TheVariants.{Previous}
 use Rattle.at_log.specs.declared.receipt.Receipt.{Receipt}
-use Rattle.at_log.proofs.Laws.Keys.{key_at-odd, line_key-receipt, moves_at, previous_key}
+use Rattle.at_log.proofs.Laws.Keys.{key_at-odd, line_key-receipt, previous_key}
 use Rattle.at_journal.proofs.BucketRuns.{move_of}
 use Rattle.at_journal.proofs.SameMove.{IsMove, IsMove-process}
-use Rattle.at_journal.proofs.StepCases.{is_refused}
+use Rattle.at_journal.proofs.StepCases.{lacks_place}
 
--- a receipt that isn't refused has a place
+-- a receipt whose reply says that it has a place has one
 pub has_place : (b : BookTerms) (p : ℕ) (list : List Publication) (earlier : List Receipt) (r : Receipt) → IsPlaced b p list earlier r
-    → is_refused r.reply ≡ false → r.at ≢ Previous
+    → lacks_place r.reply ≡ false → r.at ≢ Previous
 has_place b p list earlier r (read account amount call reply front) told none = cc (front.at, none)
-has_place b p list earlier r (not_owner source targets call owner reply at) told none = absurd (cc (told, ap is_refused reply))
-has_place b p list earlier r (full source targets call owner room reply at) told none = absurd (cc (told, ap is_refused reply))
+has_place b p list earlier r (not_owner source targets call owner reply at) told none = absurd (cc (told, ap lacks_place reply))
+has_place b p list earlier r (full source targets call owner room reply at) told none = absurd (cc (told, ap lacks_place reply))
 has_place b p list earlier r (short source amount targets may single reply front less) told none = cc (front.at, none)
 has_place b p list earlier r (done source targets may single reply own) told none = cc (own.at, none)
 has_place b p list earlier r (round source targets may shared so) told none = cc (so.at, none)
@@ -49,7 +48,7 @@ key_of-moved b c p i within (round source targets may shared so) moved =
 
 -- a call with an odd key and a place is the move of its publication
 move_of-odd : (b : BookTerms) (c : ClosingTerms) (p i m : ℕ) → Coherent b c → p < b.processes → i < length (receipts_of c p)
-    → is_refused (receipt_at (receipts_of c p) i).reply ≡ false → line_key c p i ≡ 2 * m + 1 → IsMove b c p i m
+    → lacks_place (receipt_at (receipts_of c p) i).reply ≡ false → line_key c p i ≡ 2 * m + 1 → IsMove b c p i m
 move_of-odd b c p i m coherent known within told key =
     let r = receipt_at (receipts_of c p) i in
     let order = journal_order c in
@@ -61,7 +60,7 @@ move_of-odd b c p i m coherent known within told key =
 
 pub unmoved-same_key : (b : BookTerms) (c : ClosingTerms) (p q i j : ℕ) → Coherent b c → p < b.processes → q < b.processes
     → i < length (receipts_of c p) → j < length (receipts_of c q) → p ≢ q
-    → is_refused (receipt_at (receipts_of c p) i).reply ≡ false → is_refused (receipt_at (receipts_of c q) j).reply ≡ false
+    → lacks_place (receipt_at (receipts_of c p) i).reply ≡ false → lacks_place (receipt_at (receipts_of c q) j).reply ≡ false
     → line_key c p i ≡ line_key c q j → is_success (receipt_at (receipts_of c p) i).reply ≡ false
 unmoved-same_key b c p q i j coherent known other within there apart one two same =
     elim (cases_Bool (is_success (receipt_at (receipts_of c p) i).reply)) as (λ _. is_success (receipt_at (receipts_of c p) i).reply ≡ false) [

@@ -17,13 +17,13 @@ use Rattle.at_log.proofs.Laws.Replies.{after_short-shared, after_short-single, p
 use Rattle.at_log.specs.Receipts.{is_success}
 use Rattle.at_journal.proofs.StillLaws.{owner_within}
 
--- whether the reply says that the call has no place
-abbrev pub is_refused : Reply → Bool
-is_refused Done = false
-is_refused Short = false
-is_refused NotOwner = true
-is_refused Full = true
-is_refused (Balance amount) = false
+-- whether a call that is answered so has no place
+abbrev pub lacks_place : Reply → Bool
+lacks_place Done = false
+lacks_place Short = false
+lacks_place NotOwner = true
+lacks_place Full = true
+lacks_place (Balance amount) = false
 
 -- a process has the same room in both states
 pub record SameRoom (s t : LedgerState) (p : ℕ) : Type 0 where
@@ -131,13 +131,13 @@ SameRoom-step s p q call apart = of_call (asks call)
     of_call (reads account is) = subst Goal (sym (ap (step s q) is)) (SameRoom-refl s p)
     of_call (pays source targets is) = subst Goal (sym (step-payout s q source targets call is)) (of_pay source targets (paid s q source targets))
 
--- a refused call is refused in each state with the same room, and leaves it
-pub step-refused : (s t : LedgerState) (p : ℕ) (call : Call) → SameRoom s t p → is_refused (step t p call).reply ≡ true
+-- a call without a place is answered the same in each state with the same room, and leaves it
+pub step-lacks_place : (s t : LedgerState) (p : ℕ) (call : Call) → SameRoom s t p → lacks_place (step t p call).reply ≡ true
     → step s p call ≡ record { ledger = s; reply = (step t p call).reply }
-step-refused s t p call same is = of_call (asks call)
+step-lacks_place s t p call same is = of_call (asks call)
   where
-    told : (x y : Step) → x ≡ y → (is_refused x.reply ≡ true) → is_refused y.reply ≡ true
-    told x y e so = ap (λ (z : Step). is_refused z.reply) (sym e) ∙ so
+    told : (x y : Step) → x ≡ y → (lacks_place x.reply ≡ true) → lacks_place y.reply ≡ true
+    told x y e so = ap (λ (z : Step). lacks_place z.reply) (sym e) ∙ so
 
     owned : (source : ℕ) (k : Bool) → is_owner t.book p source ≡ k → is_owner s.book p source ≡ k
     owned source k e = ap (λ b. is_owner b p source) (sym same.book) ∙ e
@@ -146,7 +146,7 @@ step-refused s t p call same is = of_call (asks call)
         → x ≡ record { ledger = s; reply = y.reply }
     finish reply x y here there = here ∙ (λ i. record { ledger = s; reply = (sym there i).reply })
 
-    of_pay : (source : ℕ) (targets : List TargetPair) → is_refused (pay t p source targets).reply ≡ true → Paid t p source targets
+    of_pay : (source : ℕ) (targets : List TargetPair) → lacks_place (pay t p source targets).reply ≡ true → Paid t p source targets
         → pay s p source targets ≡ record { ledger = s; reply = (pay t p source targets).reply }
     of_pay source targets so (not_owner other) =
         finish NotOwner (pay s p source targets) (pay t p source targets) (pay-not_owner s p source targets (owned source false other)) (pay-not_owner t p source targets other)

@@ -1,30 +1,21 @@
 -- The lines of a journal are linearizable: each line in turn is one before whose beginning no call ends, and passes those before it.
-use Rattle.std.proofs.Common.{◌≡◌, ℕ, ◌+◌, ◌-◌, ◌<◌, ◌≤◌, ◌⊎◌, ◌==◌, ◌&&◌, not, zero, suc, Bool, true, false, List, [], ◌∷◌, ◌++◌, length, get_or, refl, sym, ap, subst, ◌∙◌, arith, inl, inr, length-append}
-use Rattle.std.proofs.lemmas.Bool.{cases_Bool, eq-eqb, eqb-true}
+use Rattle.std.proofs.Common.{◌≡◌, ℕ, ◌-◌, ◌<◌, ◌≤◌, ◌==◌, ◌&&◌, not, zero, suc, Bool, true, false, List, [], ◌∷◌, ◌++◌, length, get_or, refl, ap, subst, arith, inl, inr, length-append}
+use Rattle.std.proofs.lemmas.Bool.{cases_Bool, eq-eqb, eqb-true, not-true}
 use Rattle.at_ledger.specs.Book.{BookTerms, IsBegun}
 use Rattle.at_ledger.specs.declared.call.Line.{Line}
-use Rattle.at_log.specs.ClosingTerms.{ClosingTerms, receipts_of}
+use Rattle.at_log.specs.ClosingTerms.{ClosingTerms}
 use Rattle.at_log.specs.Coherent.{Coherent}
 use Rattle.at_log.specs.JournalOrder.{journal_lines}
 use Rattle.at_journal.specs.Calls.{calls_in}
 use Rattle.at_journal.specs.Linearizable.{AreTimed, CallTimes, EndsBefore, IsLinearizable}
-use Rattle.at_journal.proofs.Choosing.{AreOrdered, First, StandInTime, begun_of, ended_of, key-le, pass-least, pass-refused}
-use Rattle.at_journal.proofs.Exchange.{MayPass}
+use Rattle.at_journal.proofs.Choosing.{AreOrdered, First, StandInTime, begun_of, ended_of, key-le, pass-least, pass-lacks_place}
 use Rattle.at_journal.proofs.JournalRuns.{Legal-journal_lines}
 use Rattle.at_journal.proofs.LinePairs.{AreReceiptLines-journal_lines, IsReceiptLine, MayPrecede, Pairwise-journal_lines, key_of_line}
-use Rattle.at_journal.proofs.PairLists.{Each, Each-get_or, Each-middle, Each-weaker, Each-without, Least, Pairwise, Pairwise-without, find_least}
+use Rattle.at_journal.proofs.Movers.{and_first, and_second}
+use Rattle.at_journal.proofs.PairLists.{Each, Each-get_or, Each-middle, Each-weaker, Each-without, Least, Pairwise-without, find_least}
 use Rattle.at_journal.proofs.Reordering.{IsPermutation-Reordered, Legal-Reordered, Reordered, Whole-Reordered}
-use Rattle.at_journal.proofs.StepCases.{is_refused}
+use Rattle.at_journal.proofs.StepCases.{lacks_place}
 use Rattle.at_journal.proofs.WholeLaws.{Whole-journal_lines}
-
-not-true : (t : Bool) → not t ≡ true → t ≡ false
-not-true true is = absurd (cc is)
-not-true false is = refl
-
-both-true : (s t : Bool) → (s && t) ≡ true → (s ≡ true) × (t ≡ true)
-both-true true true is = (refl, refl)
-both-true true false is = absurd (cc is)
-both-true false t is = absurd (cc is)
 
 -- what holds of each line holds of one of them
 Each-at : (P : Line → Type 0) (xs before : List Line) (y : Line) (after : List Line) → xs ≡ before ++ y ∷ after → Each P xs → P y
@@ -34,9 +25,9 @@ spans : (c : ClosingTerms) (times : CallTimes) (x : Line) → AreTimed c times �
 spans c times x timed is = timed.spans x.process (x.number - 1) is.process_in is.number_in
 
 module _ (b : BookTerms) (c : ClosingTerms) (times : CallTimes) (coherent : Coherent b c) (timed : AreTimed c times) where
-  -- the first to end, where it is refused
-  first-refused : (xs : List Line) → AreOrdered c xs → (y : Least (λ x. true) (ended_of times) xs) → is_refused y.at.reply ≡ true → First times xs
-  first-refused xs ordered y refused =
+  -- the first to end, where it has no place
+  first-lacks_place : (xs : List Line) → AreOrdered c xs → (y : Least (λ x. true) (ended_of times) xs) → lacks_place y.at.reply ≡ true → First times xs
+  first-lacks_place xs ordered y lacks =
       let own = spans c times y.at timed (Each-at (IsReceiptLine c) xs y.before y.at y.after y.is ordered.each) in
       let free : Each (λ x. EndsBefore times x y.at → ⊥) xs =
       Each-weaker (λ x. true ≡ true → ended_of times y.at ≤ ended_of times x) (λ x. EndsBefore times x y.at → ⊥) xs
@@ -46,27 +37,27 @@ module _ (b : BookTerms) (c : ClosingTerms) (times : CallTimes) (coherent : Cohe
         at = y.at;
         after = y.after;
         is = y.is;
-        pass = pass-refused b c times coherent timed y.before y.at y.after (subst (AreOrdered c) y.is ordered) refused
+        pass = pass-lacks_place b c times coherent timed y.before y.at y.after (subst (AreOrdered c) y.is ordered) lacks
             (subst (Each (λ x. EndsBefore times x y.at → ⊥)) y.is free);
         free = free;
       }
 
   -- and else, of the lines with places and the least key, the first to end
   has_least_key : ℕ → Line → Bool
-  has_least_key key x = not (is_refused x.reply) && (key_of_line c x == key)
+  has_least_key key x = not (lacks_place x.reply) && (key_of_line c x == key)
 
-  first-least : (xs : List Line) → AreOrdered c xs → (y : Least (λ x. true) (ended_of times) xs) → is_refused y.at.reply ≡ false
-      → (low : Least (λ x. not (is_refused x.reply)) (key_of_line c) xs) → Least (has_least_key (key_of_line c low.at)) (ended_of times) xs → First times xs
+  first-least : (xs : List Line) → AreOrdered c xs → (y : Least (λ x. true) (ended_of times) xs) → lacks_place y.at.reply ≡ false
+      → (low : Least (λ x. not (lacks_place x.reply)) (key_of_line c) xs) → Least (has_least_key (key_of_line c low.at)) (ended_of times) xs → First times xs
   unfolding has_least_key
   first-least xs ordered y told low w =
       let key : ℕ = key_of_line c low.at in
-      let parts = both-true (not (is_refused w.at.reply)) (key_of_line c w.at == key) w.passes in
-      let answered : is_refused w.at.reply ≡ false = not-true (is_refused w.at.reply) parts.0 in
-      let key_is : key_of_line c w.at ≡ key = eqb-true (key_of_line c w.at) key parts.1 in
+      let stands : Bool = not (lacks_place w.at.reply) in
+      let answered : lacks_place w.at.reply ≡ false = not-true (lacks_place w.at.reply) (and_first stands (key_of_line c w.at == key) w.passes) in
+      let key_is : key_of_line c w.at ≡ key = eqb-true (key_of_line c w.at) key (and_second stands (key_of_line c w.at == key) w.passes) in
       let of_w = Each-at (IsReceiptLine c) xs w.before w.at w.after w.is ordered.each in
       let of_y = Each-at (IsReceiptLine c) xs y.before y.at y.after y.is ordered.each in
       let above : key ≤ key_of_line c y.at =
-      Each-at (λ x. not (is_refused x.reply) ≡ true → key ≤ key_of_line c x) xs y.before y.at y.after y.is low.least (ap not told) in
+      Each-at (λ x. not (lacks_place x.reply) ≡ true → key ≤ key_of_line c x) xs y.before y.at y.after y.is low.least (ap not told) in
       let later : has_least_key key y.at ≡ true → ended_of times w.at ≤ ended_of times y.at =
       Each-at (λ x. has_least_key key x ≡ true → ended_of times w.at ≤ ended_of times x) xs y.before y.at y.after y.is w.least in
       let own = spans c times w.at timed of_w in
@@ -77,9 +68,9 @@ module _ (b : BookTerms) (c : ClosingTerms) (times : CallTimes) (coherent : Cohe
       let free : Each (λ x. EndsBefore times x w.at → ⊥) xs =
       Each-weaker (λ x. true ≡ true → ended_of times y.at ≤ ended_of times x) (λ x. EndsBefore times x w.at → ⊥) xs
       (λ x least earlier. none (omega (arith, least refl, earlier))) y.least in
-      let Low : Line → Type 0 = λ x. is_refused x.reply ≡ false → key_of_line c w.at ≤ key_of_line c x in
+      let Low : Line → Type 0 = λ x. lacks_place x.reply ≡ false → key_of_line c w.at ≤ key_of_line c x in
       let lows : Each Low xs =
-      Each-weaker (λ x. not (is_refused x.reply) ≡ true → key ≤ key_of_line c x) Low xs (λ x more so. omega (arith, key_is, more (ap not so))) low.least in
+      Each-weaker (λ x. not (lacks_place x.reply) ≡ true → key ≤ key_of_line c x) Low xs (λ x more so. omega (arith, key_is, more (ap not so))) low.least in
       record {
         before = w.before;
         at = w.at;
@@ -98,12 +89,12 @@ module _ (b : BookTerms) (c : ClosingTerms) (times : CallTimes) (coherent : Cohe
       elim (find_least (λ y. true) (ended_of times) all) as (λ _. First times all) [
         | inl none ↦ absurd (cc none.0)
         | inr y ↦
-            elim (cases_Bool (is_refused y.at.reply)) as (λ _. First times all) [
-              | inl refused ↦ first-refused all ordered y refused
+            elim (cases_Bool (lacks_place y.at.reply)) as (λ _. First times all) [
+              | inl lacks ↦ first-lacks_place all ordered y lacks
               | inr told ↦
-                  elim (find_least (λ z. not (is_refused z.reply)) (key_of_line c) all) as (λ _. First times all) [
+                  elim (find_least (λ z. not (lacks_place z.reply)) (key_of_line c) all) as (λ _. First times all) [
                     | inl none ↦
-                        absurd (cc (ap not told, Each-at (λ z. not (is_refused z.reply) ≡ false) all y.before y.at y.after y.is none))
+                        absurd (cc (ap not told, Each-at (λ z. not (lacks_place z.reply) ≡ false) all y.before y.at y.after y.is none))
                     | inr low ↦
                         elim (find_least (has_least_key (key_of_line c low.at)) (ended_of times) all) as (λ _. First times all) [
                           | inl none ↦

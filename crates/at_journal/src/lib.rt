@@ -17,6 +17,7 @@ ghost use Rattle.at_history.specs.Balances.{balance_after};
 ghost use Rattle.at_log.specs.Coherent.{Coherent};
 ghost use Rattle.at_log.specs.JournalOrder.{journal_lines, journal_order};
 ghost use Rattle.at_journal.specs.Calls.{calls_in};
+ghost use Rattle.at_journal.specs.Linearizable.{AreTimed, CallTimes, IsLinearizable};
 
 use crate::fronts::held_fronts;
 use crate::keyed::in_order;
@@ -42,6 +43,8 @@ pub fn journal(alloc: Global, book: &Book, closing: &Closing) -> Result<Vec<Line
     ensures balances { IfOk result (λ lines. (a : ℕ) → a < length book.now.accounts
         → balance_of (last_state book.now lines.items) a
         ≡ balance_after book.now (journal_order closing.now) a) }
+    ensures linearizable { IfOk result (λ lines. (times : CallTimes) → AreTimed closing.now times
+        → IsLinearizable book.now (calls_in closing.now) times lines.items) }
 {
     let fronts = held_fronts(alloc, closing, total_of(closing))?;
     let order = order_of(alloc, closing, fronts.as_slice())?;

@@ -8,9 +8,11 @@ use Rattle.at_log.specs.ClosingTerms.{receipts_of}
 use Rattle.at_log.specs.JournalOrder.{journal_lines, journal_order, line_of}
 use Rattle.at_log.specs.Receipts.{receipt_at}
 use Rattle.at_journal.specs.Calls.{calls_in}
+use Rattle.at_journal.specs.Linearizable.{AreTimed, CallTimes, IsLinearizable}
 use Rattle.at_journal.specs.Ordered.{StandByKey}
 use Rattle.at_journal.proofs.JournalRuns.{Legal-journal_lines, balances-journal_lines, length-journal_order}
 use Rattle.at_journal.proofs.LineOrder.{AreReceipts-order, all_keys, map-journal_lines}
+use Rattle.at_journal.proofs.TimedOrder.{IsLinearizable-journal_lines}
 use Rattle.at_journal.proofs.WholeLaws.{Whole-journal_lines}
 use Rattle.at_journal.proofs.journal.Goals as goal
 
@@ -62,6 +64,17 @@ returns-clause-balances c =
     (λ lines. (a : ℕ) → a < length book.accounts → balance_of (last_state book lines.items) a ≡ balance_after book (journal_order closing) a)
     (λ lines is a known.
     ap (λ ls. balance_of (last_state book ls) a) is ∙ balances-journal_lines book closing a c.requires.coherent c.round_positions.ensures.checked.begun known)
+    (returns-clause-lines c)
+
+pub returns-clause-linearizable : goal.returns-clause-linearizable
+returns-clause-linearizable c =
+    let book = c.args.book.now in
+    let closing = c.args.closing.now in
+    IfOk-weaker c.lines.result (λ lines. lines.items ≡ journal_lines closing)
+    (λ lines. (times : CallTimes) → AreTimed closing times → IsLinearizable book (calls_in closing) times lines.items)
+    (λ lines is times timed.
+    subst (IsLinearizable book (calls_in closing) times) (sym is)
+    (IsLinearizable-journal_lines book closing times c.requires.coherent c.round_positions.ensures.checked.begun timed))
     (returns-clause-lines c)
 
 pub line_keys-requires-clause-records : goal.line_keys-requires-clause-records
