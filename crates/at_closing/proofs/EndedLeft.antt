@@ -10,12 +10,15 @@ use Rattle.at_board.specs.Knowledge.Seats.{SeatTerms}
 use Rattle.at_board.specs.declared.knowledge.Knowledge.{Knowledge}
 use Rattle.at_log.specs.ClosingTerms.{ClosingTerms, log_published}
 use Rattle.at_log.specs.Coherent.{Coherent}
+use Rattle.at_log.specs.InTime.{KeepsTime}
 use Rattle.at_log.specs.Told.{Told}
 use Rattle.at_log.specs.declared.receipt.Receipt.{Receipt}
 use Rattle.at_closing.proofs.Coherence.{Coherent-IsLeft}
+use Rattle.at_closing.proofs.InTime.{KeepsTime-IsLeft}
 use Rattle.at_closing.proofs.Laws.Ended.{AreInOrder-ended, Told-ended}
 use Rattle.at_closing.specs.BetweenCalls.{StandsWith}
 use Rattle.at_closing.specs.InOrder.{AreInOrder}
+use Rattle.at_closing.specs.Left.{IsLeft}
 use Rattle.at_closing.specs.Standing.{AllStand}
 
 -- the seat of a process
@@ -71,17 +74,24 @@ module _ (e : EndTerms) (seats : List SeatTerms) (receipts : List (List Receipt)
       (AreInOrder-ended e.book ended.state (knows_at p) (seen-knows_at p known) (counted-knows_at p known) (rows-knows_at p known)
       (stands-knows_at p known).between)
 
-  -- so a closing of its records and these receipts is coherent
-  pub Coherent-IsEnd : (c : ClosingTerms) → length c.logs ≡ e.book.processes → length receipts ≡ e.book.processes → c.receipts ≡ receipts
-      → ((p : ℕ) → p < e.book.processes → log_published c p ≡ publications_of p ended.state.published) → Coherent e.book c
-  Coherent-IsEnd c logs counted same log =
-      Coherent-IsLeft e.book ended.state c (record {
-        sound = ended.sound;
-        history = ended.history;
-        free = ended.free;
-        logs = logs;
-        log = log;
-        receipts = ap (λ (rs : List (List Receipt)). length rs) same ∙ counted;
-        told = λ p known. subst (λ rs. Told e.book p ended.state.published (get_or rs p [])) (sym same) (told-IsEnd p known);
-        order = order-IsEnd;
-      })
+  module _ (c : ClosingTerms) (logs : length c.logs ≡ e.book.processes) (counted : length receipts ≡ e.book.processes) (same : c.receipts ≡ receipts)
+      (log : (p : ℕ) → p < e.book.processes → log_published c p ≡ publications_of p ended.state.published) where
+    -- so a closing of its records and these receipts is what the state leaves
+    IsLeft-IsEnd : IsLeft e.book ended.state c
+    IsLeft-IsEnd = record {
+      sound = ended.sound;
+      history = ended.history;
+      free = ended.free;
+      logs = logs;
+      log = log;
+      receipts = ap (λ (rs : List (List Receipt)). length rs) same ∙ counted;
+      told = λ p known. subst (λ rs. Told e.book p ended.state.published (get_or rs p [])) (sym same) (told-IsEnd p known);
+      order = order-IsEnd;
+    }
+
+    -- it is coherent, and its journal keeps time
+    pub Coherent-IsEnd : Coherent e.book c
+    Coherent-IsEnd = Coherent-IsLeft e.book ended.state c IsLeft-IsEnd
+
+    pub KeepsTime-IsEnd : KeepsTime ended.state.published c
+    KeepsTime-IsEnd = KeepsTime-IsLeft e.book ended.state c IsLeft-IsEnd

@@ -9,6 +9,7 @@ use Rattle.at_history.specs.Entries.{is_own}
 use Rattle.at_history.specs.Fronts.{prefix_of}
 use Rattle.at_history.specs.Histories.{IsShownEntry}
 use Rattle.at_history.specs.declared.publication.Publication.{Publication}
+use Rattle.at_log.proofs.Laws.Keys.{get_or-keys_from}
 use Rattle.at_log.proofs.Laws.Replies.{first_account-payout}
 use Rattle.at_log.specs.ClosingTerms.{ClosingTerms, receipts_of}
 use Rattle.at_log.specs.JournalOrder.{journal_order}
@@ -51,10 +52,10 @@ sorted_rising k (l ∷ ls) (suc i) zero d rises before within = absurd (omega (a
 sorted_rising k (l ∷ ls) (suc i) (suc j) d rises before within = sorted_rising l ls i j d rises.1 (omega (arith, before)) (omega (arith, within))
 
 module _ (b : BookTerms) (s : BoardState) (c : ClosingTerms) (left : IsLeft b s c) (p : ℕ) (known : p < b.processes) where
-  abbrev TheMark : Type 0
+  abbrev pub TheMark : Type 0
   TheMark = Mark b s c left p known
 
-  abbrev key_at_mark : List Publication → TheMark → ℕ
+  abbrev pub key_at_mark : List Publication → TheMark → ℕ
   key_at_mark list h = key_in b s c left p known list h
 
   -- a receipt without a place, or one that stands at a mark
@@ -75,7 +76,7 @@ module _ (b : BookTerms) (s : BoardState) (c : ClosingTerms) (left : IsLeft b s 
       )
 
   -- the round of a receipt
-  round_mark : (source : ℕ) (targets : List TargetPair) (earlier : List Receipt) (r : Receipt)
+  pub round_mark : (source : ℕ) (targets : List TargetPair) (earlier : List Receipt) (r : Receipt)
       → (so : IsAtRound b p s.published earlier source targets r) → IsRoundMark b s c left p known source so.round so.decision
   round_mark source targets earlier r so =
       let x : Publication = publication_at s.published so.position in
@@ -127,7 +128,7 @@ module _ (b : BookTerms) (s : BoardState) (c : ClosingTerms) (left : IsLeft b s 
       ]
 
   -- the keys before are those of no receipt, or of one receipt
-  abbrev AreLinked : ℕ → ℕ → Type 0
+  abbrev pub AreLinked : ℕ → ℕ → Type 0
   AreLinked previous other = (other ≡ 0) ⊎ ((h : TheMark) × (previous ≡ key_at_mark s.published h) × (other ≡ key_at_mark (journal_order c) h))
 
   next_mark : (previous other : ℕ) (h : TheMark) → AreLinked previous other → previous ≤ key_at_mark s.published h → other ≤ key_at_mark (journal_order c) h
@@ -163,3 +164,25 @@ module _ (b : BookTerms) (s : BoardState) (c : ClosingTerms) (left : IsLeft b s 
       sorted_rising 0 (keys_of p (journal_order c) (receipts_of c p)) i j d
       (rising-order (receipts_of c p) 0 0 (inl refl) (λ k inside. mark_placed k inside (told.placed k inside))
       (rising (keys_of p s.published (receipts_of c p)) told.keys)) before within
+
+  -- so the keys of each receipt in the two lists are those of none, or of one receipt
+  pub keys-linked : (i : ℕ) → i ≤ length (receipts_of c p)
+      → AreLinked (get_or (0 ∷ keys_of p s.published (receipts_of c p)) i 0) (get_or (0 ∷ keys_of p (journal_order c) (receipts_of c p)) i 0)
+  keys-linked zero within = inl refl
+  keys-linked (suc i) within =
+      let receipts = receipts_of c p in
+      let inside : i < length receipts = omega (arith, within) in
+      let r = the_receipt i in
+      let previous = get_or (0 ∷ keys_of p s.published receipts) i 0 in
+      let other = get_or (0 ∷ keys_of p (journal_order c) receipts) i 0 in
+      let key = get_or (keys_of p s.published receipts) i 0 in
+      let key_too = get_or (keys_of p (journal_order c) receipts) i 0 in
+      let here : key ≡ key_of p s.published previous r = get_or-keys_from p s.published 0 receipts i inside in
+      let there : key_too ≡ key_of p (journal_order c) other r = get_or-keys_from p (journal_order c) 0 receipts i inside in
+      elim (mark_placed i inside ((left.told p known).placed i inside)) as (λ _. AreLinked key key_too) [
+        | inl at ↦
+            let same : key ≡ previous = here ∙ ap (key_at p s.published previous r.call (is_success r.reply)) at in
+            let same_too : key_too ≡ other = there ∙ ap (key_at p (journal_order c) other r.call (is_success r.reply)) at in
+            subst (λ n. AreLinked n key_too) (sym same) (subst (AreLinked previous) (sym same_too) (keys-linked i (omega (arith, within))))
+        | inr found ↦ inr (found.0, here ∙ found.1 s.published previous, there ∙ found.1 (journal_order c) other)
+      ]

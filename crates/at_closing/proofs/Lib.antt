@@ -16,5 +16,7 @@ pub mod LeftKeys
 pub mod LeftTold
 -- that it is coherent
 pub mod Coherence
--- and so is the closing of a closed board
+-- that its journal's order keeps the time of its list
+pub mod InTime
+-- and so is the closing of a closed board, whose journal keeps time too
 pub mod EndedLeft

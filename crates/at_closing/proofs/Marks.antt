@@ -129,7 +129,7 @@ module _ (b : BookTerms) (s : BoardState) (c : ClosingTerms) (left : IsLeft b s 
           | inr above ↦ above
         ]
 
-    behind_place-order : d.place ≤ round_position a r (journal_order c)
+    pub behind_place-order : d.place ≤ round_position a r (journal_order c)
     behind_place-order =
         elim (cases_lt (round_position a r (journal_order c)) d.place) as (λ _. d.place ≤ round_position a r (journal_order c)) [
           | inl below ↦ absurd (omega (arith, behind_place, winner_place, round-state winner_view winner_front (omega (arith, below, winner_place))))
@@ -168,7 +168,7 @@ module _ (b : BookTerms) (s : BoardState) (c : ClosingTerms) (left : IsLeft b s 
       }
 
   -- its view counts the records before it
-  behind_view : (number : ℕ) → IsOwnMark number → let view = (publication_at s.published (own_position p number s.published)).view in
+  pub behind_view : (number : ℕ) → IsOwnMark number → let view = (publication_at s.published (own_position p number s.published)).view in
       (place view ≤ own_position p number s.published) × (place view ≤ own_position p number (journal_order c))
   behind_view number so =
       let at = own_position-at p number s.published so.within in

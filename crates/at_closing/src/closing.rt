@@ -8,7 +8,8 @@ ghost use Rattle.at_board.specs.Ends.Closing.{IsEnd, records_of};
 ghost use Rattle.at_board.specs.Knowledge.Seats.{SeatTerms};
 ghost use Rattle.at_log.specs.ClosingTerms.{log_published};
 ghost use Rattle.at_log.specs.Coherent.{Coherent};
-ghost use Rattle.at_closing.specs.Standing.{IsEndWith};
+ghost use Rattle.at_log.specs.InTime.{KeepsTime};
+ghost use Rattle.at_closing.specs.Standing.{AllStand, IsEndWith};
 
 use at_board::BoardEnd;
 use at_log::{Closing, Receipt, Record, ended_log};
@@ -34,6 +35,8 @@ pub fn closing_of(
     ensures logs { (seats : List SeatTerms) (ended : IsEnd end.now seats) (p : ℕ)
         → p < end.now.book.processes
         → log_published result p ≡ publications_of p ended.state.published }
+    ensures in_time { (seats : List SeatTerms) (ended : IsEnd end.now seats)
+        → AllStand end.now.book seats result.receipts → KeepsTime ended.state.published result }
 {
     let processes = rooms.len() as u32;
     for p in 0..processes {

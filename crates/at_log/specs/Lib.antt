@@ -5,6 +5,7 @@ pub mod ClosingTerms
 pub mod HeldFronts
 pub mod Coherent
 pub mod JournalOrder
+pub mod InTime
 pub mod Appending
 pub mod LastRecord
 pub mod Loading

@@ -14,6 +14,7 @@ use Rattle.at_closing.specs.BetweenCalls.{IsBetweenCalls}
 use Rattle.at_closing.specs.Standing.{AllStand, IsEndWith}
 use Rattle.at_log.proofs.Laws.EndedRecords.{length-records_of}
 use Rattle.at_log.specs.ClosingTerms.{log_published}
+use Rattle.at_log.specs.InTime.{KeepsTime}
 use Rattle.at_log.specs.Told.{Told}
 use Rattle.at_log.specs.declared.record.Record.{Record}
 use Rattle.at_log.specs.declared.receipt.Receipt.{Receipt}
@@ -88,8 +89,12 @@ module _ (ledger : BoardTerms) (passes : List PassTerms) (receipts : List (List 
     };
   }
 
+  -- and so they do by the book of the closed board
+  AllStand-board : (e : EndTerms) → e.book ≡ ledger.book → AllStand e.book seats receipts
+  AllStand-board e same = subst (λ b. AllStand b seats receipts) (sym same) AllStand-seats
+
   pub IsEndWith-seats : (e : EndTerms) → e.book ≡ ledger.book → IsEnd e seats → IsEndWith e receipts
-  IsEndWith-seats e same ended = (seats, ended, subst (λ b. AllStand b seats receipts) (sym same) AllStand-seats)
+  IsEndWith-seats e same ended = (seats, ended, AllStand-board e same)
 
   -- a closed board has as many records of a process as its pass says
   pub length-records_of-pass : (e : EndTerms) → e.book ≡ ledger.book → IsEnd e seats → (p : ℕ) (d : PassTerms) → p < e.book.processes
@@ -109,12 +114,14 @@ module _ (ledger : BoardTerms) (passes : List PassTerms) (receipts : List (List 
       let within : p < length passes = omega (arith, known, accounted.passes_count, ap (λ (b : BookTerms). b.processes) same) in
       omega (arith, length-records_of-pass e same ended p none known, room p d none within)
 
-  -- the logs are all that was published, and each pass had seen a prefix of it
+  -- the logs are all that was published, and each pass had seen a prefix of it. The journal keeps the time of it, since the receipts
+  -- stand with the seats
   pub HasAllLogs-seats : (e : EndTerms) (closed : ClosedTerms) → e.book ≡ ledger.book → closed.book ≡ ledger.book
       → (ended : IsEnd e seats)
       → ((p : ℕ) → p < e.book.processes → log_published closed.closing p ≡ publications_of p ended.state.published)
+      → closed.closing.receipts ≡ receipts → (AllStand e.book seats closed.closing.receipts → KeepsTime ended.state.published closed.closing)
       → HasAllLogs passes closed
-  HasAllLogs-seats e closed same book ended logs = record {
+  HasAllLogs-seats e closed same book ended logs receipts_are in_time = record {
     state = ended.state;
     sound = subst (λ b. Sound b ended.state) (same ∙ sym book) ended.sound;
     history = subst (λ b. IsHistory b ended.state.published) (same ∙ sym book) ended.history;
@@ -124,4 +131,5 @@ module _ (ledger : BoardTerms) (passes : List PassTerms) (receipts : List (List 
         subst (λ (s : SeatTerms). IsPrefix s.knows.seen ended.state.published)
         (ap (λ (ss : List SeatTerms). get_or ss p (seat_of d)) seats_are ∙ get_or-map seat_of passes p d (seat_of d) within)
         (ended.seen p (seat_of d) (omega (arith, within, length-seats, accounted.passes_count)));
+    in_time = in_time (subst (AllStand e.book seats) (sym receipts_are) (AllStand-board e same));
   }

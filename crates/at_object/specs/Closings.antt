@@ -7,6 +7,7 @@ use Rattle.at_history.specs.Sound.{Sound}
 use Rattle.at_ledger.specs.Book.{BookTerms}
 use Rattle.at_board.specs.Knowledge.Seats.{BoardTerms}
 use Rattle.at_log.specs.ClosingTerms.{ClosingTerms, log_published}
+use Rattle.at_log.specs.InTime.{KeepsTime}
 use Rattle.at_log.specs.declared.receipt.Receipt.{Receipt}
 use Rattle.at_object.specs.Passes.{IsPassOf, PassTerms, Stands}
 
@@ -30,7 +31,7 @@ pub record ClosedTerms : Type 0 where
   pub closing : ClosingTerms
 
 -- the logs are the publications of the board's last state, which is sound and in which no cell is held, cut by process. All that each
--- pass had seen is a prefix of that one list
+-- pass had seen is a prefix of that one list, and the journal's order keeps its time
 pub record HasAllLogs (passes : List PassTerms) (closed : ClosedTerms) : Type 0 where
   pub state : BoardState
   pub sound : Sound closed.book state
@@ -38,3 +39,4 @@ pub record HasAllLogs (passes : List PassTerms) (closed : ClosedTerms) : Type 0 
   pub free : (p : ℕ) → p < closed.book.processes → state.held p ≡ None
   pub logs : (p : ℕ) → p < closed.book.processes → log_published closed.closing p ≡ publications_of p state.published
   pub seen : All (λ pass. IsPrefix pass.knows.seen state.published) passes
+  pub in_time : KeepsTime state.published closed.closing

@@ -2,8 +2,9 @@ use Rattle.std.proofs.Common.{◌+◌, ◌<◌, [], Vec, Global, List, length, g
 use Rattle.std.proofs.lemmas.List.{get_or-set_other, length-map, length-set, map-set}
 use Rattle.at_log.specs.ClosingTerms.{published_by}
 use Rattle.at_log.specs.declared.record.Record.{Record}
-use Rattle.at_closing.proofs.EndedLeft.{Coherent-IsEnd}
+use Rattle.at_closing.proofs.EndedLeft.{Coherent-IsEnd, KeepsTime-IsEnd}
 use Rattle.at_closing.proofs.FilledLogs.{AreLogs, AreLogs-more}
+use Rattle.at_closing.specs.Standing.{AllStand}
 use Rattle.at_closing.proofs.closing.closing_of.Goals as goal
 
 pub loop-p-preserved : goal.loop-p-preserved
@@ -25,12 +26,22 @@ pub returns-clause-logs : goal.returns-clause-logs
 returns-clause-logs c seats ended p known =
     ap (λ logs. map (published_by p) (get_or logs p [])) c.new.ensures.logs ∙ c.loop-p.invariant.logs p (omega arith) seats ended
 
+pub returns-clause-count : goal.returns-clause-count
+returns-clause-count c =
+    ap (λ (ls : List (List Record)). length ls) c.new.ensures.logs
+    ∙ (length-map c.loop-p.rooms.items (λ v. v.items) ∙ (c.loop-p.invariant.count ∙ c.requires.rooms))
+
 pub returns-clause-coherent : goal.returns-clause-coherent
 returns-clause-coherent c =
     let seats = c.requires.ended.0 in
     let ended = c.requires.ended.1 in
     Coherent-IsEnd c.args.end.now seats (map (λ v. v.items) c.args.receipts.items) ended c.requires.ended.2 c.new.result
-    (ap (λ (ls : List (List Record)). length ls) c.new.ensures.logs
-    ∙ (length-map c.loop-p.rooms.items (λ v. v.items) ∙ (c.loop-p.invariant.count ∙ c.requires.rooms)))
-    (length-map c.args.receipts.items (λ v. v.items) ∙ c.requires.receipts) c.new.ensures.receipts
-    (λ p known. ap (λ logs. map (published_by p) (get_or logs p [])) c.new.ensures.logs ∙ c.loop-p.invariant.logs p (omega arith) seats ended)
+    (returns-clause-count c) (length-map c.args.receipts.items (λ v. v.items) ∙ c.requires.receipts) c.new.ensures.receipts
+    (returns-clause-logs c seats ended)
+
+pub returns-clause-in_time : goal.returns-clause-in_time
+returns-clause-in_time c seats ended stand =
+    KeepsTime-IsEnd c.args.end.now seats (map (λ v. v.items) c.args.receipts.items) ended
+    (subst (AllStand c.args.end.now.book seats) c.new.ensures.receipts stand) c.new.result
+    (returns-clause-count c) (length-map c.args.receipts.items (λ v. v.items) ∙ c.requires.receipts) c.new.ensures.receipts
+    (returns-clause-logs c seats ended)

@@ -46,3 +46,4 @@ returns-clause-logs c =
     HasAllLogs-seats board passes receipts seats accounted c.seats_of.ensures.seats c.seats_of.ensures.at_rest
     c.close-end.result (record { book = c.in-Ok.memory.book; closing = c.closing_of.result }) c.close-end.ensures.book
     (c.in-Ok.ensures.book ∙ (c.book.ensures ∙ sym (ap (λ (b : BoardTerms). b.book) c.self.view_is))) c.close-end.ensures.end (c.closing_of.ensures.logs seats c.close-end.ensures.end)
+    c.closing_of.ensures.receipts (c.closing_of.ensures.in_time seats c.close-end.ensures.end)
