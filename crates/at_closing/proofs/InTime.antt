@@ -1,4 +1,4 @@
--- The journal's order of what a ledger leaves keeps the time of its list: a call's look, a held front, parts both in one way.
+-- The journal's order of what a ledger leaves keeps the time of its list: a call's look, at a held front, divides both alike.
 use Rattle.std.proofs.Common.{◌≡◌, ℕ, ◌+◌, ◌*◌, ◌≤◌, ◌<◌, false, cond, List, length, get_or, sym, ap, subst, ◌∙◌, arith, inl, inr, suc, take}
 use Rattle.std.proofs.lemmas.Bool.{cases_Bool}
 use Rattle.std.specs.Prelude.{Some}
@@ -32,30 +32,30 @@ module _ (b : BookTerms) (s : BoardState) (c : ClosingTerms) (left : IsLeft b s 
   the_receipt p i = receipt_at (receipts_of c p) i
 
   -- all that stands at this place of the list or before it stands so in the journal's order
-  abbrev Parts : ℕ → Type 0
-  Parts at = (p : ℕ) (known : p < b.processes) (h : TheMark b s c left p known) → key_at_mark b s c left p known s.published h ≤ 2 * at
+  abbrev Divides : ℕ → Type 0
+  Divides at = (p : ℕ) (known : p < b.processes) (h : TheMark b s c left p known) → key_at_mark b s c left p known s.published h ≤ 2 * at
       → key_at_mark b s c left p known (journal_order c) h ≤ 2 * at
 
-  -- a held front parts the two lists so
-  Parts-front : (view : List ℕ) → IsHeldFront b s c left view → Parts (place view)
-  Parts-front view front p known h before = key_in-order b s c left p known h (Marks.still view front) before
+  -- a held front divides the two lists so
+  Divides-front : (view : List ℕ) → IsHeldFront b s c left view → Divides (place view)
+  Divides-front view front p known h before = key_in-order b s c left p known h (Marks.still view front) before
 
   -- and so does their beginning, where nothing has moved
-  Parts-zero : Parts 0
-  Parts-zero p known (Marks.still view front) before = before
-  Parts-zero p known (Marks.own number so) before = absurd (omega (arith, before))
-  Parts-zero p known (Marks.round a r d so) before = absurd (omega (arith, before))
+  Divides-zero : Divides 0
+  Divides-zero p known (Marks.still view front) before = before
+  Divides-zero p known (Marks.own number so) before = absurd (omega (arith, before))
+  Divides-zero p known (Marks.round a r d so) before = absurd (omega (arith, before))
 
   module _ (q j : ℕ) (known : q < b.processes) (within : j < length (receipts_of c q)) where
-    -- the look of a receipt that stands here parts the two lists, and in the journal's order the receipt isn't before it
+    -- the look of a receipt that stands here divides the two lists, and in the journal's order the receipt stands behind it
     abbrev IsBehindLook : At → Type 0
     IsBehindLook at =
-        Parts (look_at q s.published at)
+        Divides (look_at q s.published at)
         × (2 * look_at q s.published at ≤ key_at q (journal_order c) (previous_key c q j) (the_receipt q j).call (is_success (the_receipt q j).reply) at)
 
     behind_front : (account amount : ℕ) → IsAtFront b s.published account amount (the_receipt q j) → IsBehindLook (the_receipt q j).at
     behind_front account amount so =
-        subst IsBehindLook (sym so.at) (Parts-front so.view (IsHeldFront-receipt b s c left q j so.view known within so.at), omega arith)
+        subst IsBehindLook (sym so.at) (Divides-front so.view (IsHeldFront-receipt b s c left q j so.view known within so.at), omega arith)
 
     -- an own record's look is its view
     view_is : (number : ℕ) → number < count_of q s.published
@@ -75,7 +75,7 @@ module _ (b : BookTerms) (s : BoardState) (c : ClosingTerms) (left : IsLeft b s 
         let front = IsHeldFront-view b s c left m (own_position-at q so.number s.published so.within).within in
         let mark : IsOwnMark b s c left q known so.number = record { within = so.within; own = ap is_own so.entry } in
         subst IsBehindLook (sym so.at)
-        (Parts-front view (subst (IsHeldFront b s c left) is front), omega (arith, ap place is, (behind_view b s c left q known so.number mark).1))
+        (Divides-front view (subst (IsHeldFront b s c left) is front), omega (arith, ap place is, (behind_view b s c left q known so.number mark).1))
 
     -- a round's look is the view from which its decision was proposed
     behind_round : (source : ℕ) (targets : List TargetPair) → payout_of (the_receipt q j).call ≡ Some (source, targets)
@@ -89,7 +89,7 @@ module _ (b : BookTerms) (s : BoardState) (c : ClosingTerms) (left : IsLeft b s 
         let key_is : key ≡ 2 * round_position source so.round (journal_order c) + 1 =
         ap (λ a. 2 * round_position a so.round (journal_order c) + 1) (first_account-payout source targets r.call call) in
         subst IsBehindLook (sym so.at) (
-          subst Parts place_is (Parts-front (winner_view b s c left q known source so.round d mark) (winner_front b s c left q known source so.round d mark)),
+          subst Divides place_is (Divides-front (winner_view b s c left q known source so.round d mark) (winner_front b s c left q known source so.round d mark)),
           elim (cases_Bool (is_success r.reply)) as (λ _. 2 * d.place ≤ cond (is_success r.reply) key (2 * d.place)) [
             | inl moved ↦
                 omega (arith, ap (λ t. cond t key (2 * d.place)) moved, key_is, behind_place-order b s c left q known source so.round d mark)
@@ -98,7 +98,7 @@ module _ (b : BookTerms) (s : BoardState) (c : ClosingTerms) (left : IsLeft b s 
         )
 
     behind_none : (the_receipt q j).at ≡ At.Previous → IsBehindLook (the_receipt q j).at
-    behind_none at = subst IsBehindLook (sym at) (Parts-zero, omega arith)
+    behind_none at = subst IsBehindLook (sym at) (Divides-zero, omega arith)
 
     behind_look : IsPlaced b q s.published (take j (receipts_of c q)) (the_receipt q j) → IsBehindLook (the_receipt q j).at
     behind_look (read account amount call reply at) = behind_front account amount at
@@ -126,13 +126,13 @@ module _ (b : BookTerms) (s : BoardState) (c : ClosingTerms) (left : IsLeft b s 
         (key_at-even m q (journal_order c) (previous_key c q j) r.call (is_success r.reply) r.at (sym (line_key-receipt c q j within) ∙ even))
         ((left.told q known).placed j within)
 
-  -- a receipt up to a place that parts the two lists stands up to it in the journal's order
-  up_to : (at p i : ℕ) → Parts at → p < b.processes → i < length (receipts_of c p)
+  -- a receipt up to a place that divides the two lists stands up to it in the journal's order
+  up_to : (at p i : ℕ) → Divides at → p < b.processes → i < length (receipts_of c p)
       → get_or (keys_of p s.published (receipts_of c p)) i 0 ≤ 2 * at → line_key c p i ≤ 2 * at
-  up_to at p i parts known within before =
+  up_to at p i divides known within before =
       elim (keys-linked b s c left p known (suc i) (omega (arith, within))) as (λ _. line_key c p i ≤ 2 * at) [
         | inl none ↦ omega (arith, none)
-        | inr found ↦ omega (arith, found.2, parts p known found.0 (omega (arith, before, found.1)))
+        | inr found ↦ omega (arith, found.2, divides p known found.0 (omega (arith, before, found.1)))
       ]
 
   -- what stood before another call looked isn't behind it

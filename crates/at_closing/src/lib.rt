@@ -2,7 +2,7 @@
 //!
 //! The receipts of a process stand with its seat where they account for all that the process has in what the seat has seen, and the
 //! process is between calls. The closing of a closed board and of receipts that stand with its seats is coherent, so its journal is
-//! one legal run.
+//! one legal run, whose order keeps the time of the board's list.
 #![tactic(auto)]
 
 mod closing;
