@@ -165,7 +165,7 @@ module _ (b : BookTerms) (s : BoardState) (c : ClosingTerms) (left : IsLeft b s 
       (rising-order (receipts_of c p) 0 0 (inl refl) (λ k inside. mark_placed k inside (told.placed k inside))
       (rising (keys_of p s.published (receipts_of c p)) told.keys)) before within
 
-  -- so the keys of each receipt in the two lists are those of none, or of one receipt
+  -- those before each receipt, and behind all of them, are so in the two lists
   pub keys-linked : (i : ℕ) → i ≤ length (receipts_of c p)
       → AreLinked (get_or (0 ∷ keys_of p s.published (receipts_of c p)) i 0) (get_or (0 ∷ keys_of p (journal_order c) (receipts_of c p)) i 0)
   keys-linked zero within = inl refl
