@@ -6,7 +6,9 @@ use Rattle.at_ledger.specs.Book.{BookTerms, account_of}
 use Rattle.at_ledger.specs.Call.{IsCallOn, TargetPair, first_account}
 use Rattle.at_ledger.specs.declared.call.Call.{Call}
 use Rattle.at_ledger.specs.declared.call.Reply.{Reply}
+use Rattle.at_history.proofs.Laws.Prefixes.{IsPrefix-refl}
 use Rattle.at_history.specs.Moves.{AreRuns}
+use Rattle.at_history.specs.Publications.{IsPrefix}
 use Rattle.at_board.specs.Counting.{raised}
 use Rattle.at_board.specs.Knowledge.Seats.{BoardTerms, IsKept, IsOf, SeatTerms}
 use Rattle.at_board.specs.Words.Addresses.{record_width}
@@ -100,6 +102,9 @@ module _ (board : BoardTerms) (t : CallingTerms) (so : IsCallingSo t) (seat : Se
 
     pub undecided-refused : (a : ℕ) → decides_on seat.knows a ≡ decides_on t.start.knows a
     undecided-refused a = ap (λ (s : SeatTerms). decides_on s.knows a) (same ∙ unmoved.0)
+
+    pub begins-refused : IsPrefix t.start.knows.seen seat.knows.seen
+    begins-refused = subst (λ (s : SeatTerms). IsPrefix t.start.knows.seen s.knows.seen) (sym (same ∙ unmoved.0)) (IsPrefix-refl t.start.knows.seen)
 
     pub was-refused : t.rest ≡ t.was
     was-refused = unmoved.1
@@ -339,11 +344,12 @@ pub TakesCallTurn-stages : (b : BookTerms) (t : CallingTerms) (before after mark
     → (old next : CallStage) → t.stage ≡ old → (answer : Option Receipt) → steps_made next ≡ steps_made old + steps_of old
     → MakesCallStep b old before after now.totals → call_turns_left b next < call_turns_left b old
     → IsCallWithin b (pass_before t) t.call after.knows now.totals.upto (steps_made next) (exchanges_made next)
-    → (IsSome answer ↔ (call_turns_left b next ≡ 0)) → AreRuns b after.knows.seen → exchanges_made next ≡ exchanges_made old + exchanges_of old
+    → (IsSome answer ↔ (call_turns_left b next ≡ 0)) → IsPrefix t.start.knows.seen after.knows.seen → AreRuns b after.knows.seen
+    → exchanges_made next ≡ exchanges_made old + exchanges_of old
     → IfSome answer (Leaves b t after now (steps_made next) (exchanges_made next)) → IfSome answer (λ r. now.calls ≡ with_one_call t.was.calls)
     → after.steps ≡ raised t.start.steps (steps_made next) → after.exchanges ≡ raised t.start.exchanges (exchanges_made next)
     → TakesCallTurn b t (calling_next t next mark rest) before after now answer
-TakesCallTurn-stages b t before after mark mark_is now rest rest_is old next is answer turns step left so_far ends runs exchanges leaves calls made exchanged =
+TakesCallTurn-stages b t before after mark mark_is now rest rest_is old next is answer turns step left so_far ends begins runs exchanges leaves calls made exchanged =
     let all : PassTerms = pass_of after now in
     record {
       call_is = refl;
@@ -365,6 +371,7 @@ TakesCallTurn-stages b t before after mark mark_is now rest rest_is old next is 
           (λ r l. stands-CallMade b (pass_before t) all t.call r l.made) answer leaves;
       kept = if_some (Leaves b t after now (steps_made next) (exchanges_made next)) (λ r. IsOfOnePass after now) (λ r l. l.kept) answer leaves;
       calls = calls;
+      begins = begins;
       runs = runs;
       within = if_some (Leaves b t after now (steps_made next) (exchanges_made next))
           (StaysWithin b (pass_before t) all t.call)

@@ -1,6 +1,6 @@
 -- What a look, and a record after it, let the receipt of a payment be.
 use Rattle.std.proofs.Common.{◌≡◌, ℕ, ◌+◌, ◌<◌, ◌≤◌, ◌*◌, ◌-◌, List, [], ◌∷◌, ◌++◌, get_or, length, set, refl, sym, ap, subst, ◌∙◌, arith}
-use Rattle.std.proofs.lemmas.List.{get_or-set_same, length-append}
+use Rattle.std.proofs.lemmas.List.{append_assoc, get_or-set_same, length-append}
 use Rattle.std.proofs.lemmas.List.Sums.{sum_by-set}
 use Rattle.std.specs.List.{sum}
 use Rattle.at_ledger.specs.Book.{BookTerms}
@@ -10,6 +10,7 @@ use Rattle.at_history.proofs.Laws.Fronts.{length-IsFront, place-IsFront-le}
 use Rattle.at_history.proofs.Laws.Histories.{ArePublishedBy-IsHistory}
 use Rattle.at_history.specs.Balances.{balance_after}
 use Rattle.at_history.specs.Fronts.{place, prefix_of}
+use Rattle.at_history.specs.Publications.{IsPrefix}
 use Rattle.at_history.specs.Rounds.{owns_of}
 use Rattle.at_history.specs.declared.publication.Entry.{Entry}
 use Rattle.at_history.specs.declared.publication.Publication.{Publication}
@@ -64,6 +65,9 @@ pub HasSameAsking-trans : (u v w : Knowledge) → HasSameAsking u v → HasSameA
 HasSameAsking-trans u v w before after = λ a. after a ∙ before a
 
 -- publishing adds to what is seen
+pub IsPrefix-Publishes : (b : BookTerms) (v w : Knowledge) (x : Publication) → Publishes b v w x → IsPrefix v.seen w.seen
+IsPrefix-Publishes b v w x told = (told.between ++ x ∷ [], told.seen ∙ append_assoc v.seen told.between (x ∷ []))
+
 pub length-Publishes-lt : (b : BookTerms) (v w : Knowledge) (x : Publication) → Publishes b v w x → length v.seen < length w.seen
 length-Publishes-lt b v w x told =
     omega (
@@ -115,6 +119,7 @@ IsPayingAloneSo-append s x now front turns so book looked enough within = record
     enough = enough;
     few = within;
     seen = sum-HasLooked-le s.start.book s.start x s.was now front looked;
+    begins = looked.loads.more;
   };
 }
 

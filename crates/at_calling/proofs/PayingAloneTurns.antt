@@ -2,6 +2,8 @@
 use Rattle.std.proofs.Common.{◌≡◌, ℕ, ◌+◌, ◌-◌, ◌<◌, ◌≤◌, ◌↔◌, IfSome, IsSome, Option, length, refl, sym, ap, subst, ◌∙◌, arith}
 use Rattle.std.specs.List.{sum}
 use Rattle.at_ledger.specs.Book.{BookTerms}
+use Rattle.at_history.proofs.Laws.Prefixes.{IsPrefix-length, IsPrefix-trans}
+use Rattle.at_history.specs.Publications.{IsPrefix}
 use Rattle.at_board.specs.Knowledge.Parts.{own_part}
 use Rattle.at_board.specs.Knowledge.Seats.{SeatTerms}
 use Rattle.at_board.specs.Words.Addresses.{record_width}
@@ -70,6 +72,7 @@ module _ (b : BookTerms) (t : PayingAloneTerms) (so : IsPayingAloneSo t) (book :
       ends = ends;
       so_far = subst (IsPayWithin b.processes (newly_seen t.start after.knows t.was.upto)) (sym same) within;
       counting = subst (IsWithinOneMore (single_steps b.processes) (counted_so_far t.start after.knows t.was.upto now.upto)) (sym same) counting;
+      begins = loads_on.more;
       asks = HasSameAsking-HasLoaded t.start.book t.start after.knows (omega (arith, so.kept.one_part)) loads_on;
       pays = pays;
       counted = counted;
@@ -85,12 +88,12 @@ module _ (b : BookTerms) (t : PayingAloneTerms) (so : IsPayingAloneSo t) (book :
     stored : next.stored ≡ a.stored + 1
     stored = ap (λ (x : AppendingTerms). x.stored) after_is
 
-    within_append : SeesOthersStill t.mark after.knows → length t.mark.seen ≤ length after.knows.seen
+    within_append : SeesOthersStill t.mark after.knows → IsPrefix t.mark.seen after.knows.seen
         → IsPayWithin b.processes (newly_seen t.start after.knows t.was.upto) (t.looked + next.stored)
     within_append others more =
         let looked : IsWithin b.processes t.was (sum a.rec.view) t.looked =
         subst (λ (k : BookTerms). IsWithin k.processes t.was (sum a.rec.view) t.looked) book appends.few in
-        omega (arith, looked, stored, few, others, more, appends.unpublished, appends.seen)
+        omega (arith, looked, stored, few, others, IsPrefix-length t.mark.seen after.knows.seen more, appends.unpublished, appends.seen)
 
     -- nothing is published, and the totals stay
     pub counting-append : now ≡ t.totals → (own_part after.knows).published ≡ (own_part t.mark).published
@@ -108,7 +111,7 @@ module _ (b : BookTerms) (t : PayingAloneTerms) (so : IsPayingAloneSo t) (book :
           appends.unpublished,
         )
 
-    pub TakesPayTurn-append : (answer : Option (Reply × At)) → SeesOthersStill t.mark after.knows → length t.mark.seen ≤ length after.knows.seen
+    pub TakesPayTurn-append : (answer : Option (Reply × At)) → SeesOthersStill t.mark after.knows → IsPrefix t.mark.seen after.knows.seen
         → IsWithinOneMore (single_steps b.processes) (counted_so_far t.start after.knows t.was.upto now.upto) (t.looked + next.stored)
         → (IsSome answer ↔ (a.stored ≡ record_width b)) → HasSameAsking t.mark after.knows
         → IfSome answer (AnswersAlone b t.start after.knows t.from t.targets) → IfSome answer (λ r. StaysCounted now b after.knows.seen)
@@ -130,6 +133,7 @@ module _ (b : BookTerms) (t : PayingAloneTerms) (so : IsPayingAloneSo t) (book :
       );
       so_far = within_append others more;
       counting = counting;
+      begins = IsPrefix-trans t.start.seen t.mark.seen after.knows.seen appends.begins more;
       asks = λ account. asks account ∙ so.asks account;
       pays = pays;
       counted = counted;

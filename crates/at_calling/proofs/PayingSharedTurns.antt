@@ -3,6 +3,7 @@ use Rattle.std.proofs.Common.{◌≡◌, ℕ, ◌+◌, ◌-◌, ◌<◌, ◌≤�
 use Rattle.at_ledger.specs.Account.{slots_of}
 use Rattle.at_ledger.specs.Book.{BookTerms, account_of}
 use Rattle.at_history.specs.Fronts.{places_max}
+use Rattle.at_history.specs.Publications.{IsPrefix}
 use Rattle.at_board.specs.Knowledge.Seats.{SeatTerms}
 use Rattle.at_board.specs.declared.knowledge.Knowledge.{Knowledge}
 use Rattle.at_fold.specs.HasCounted.{HasCounted}
@@ -37,7 +38,8 @@ unless_settled-some most Ended some = absurd (omega (arith, some))
 module _ (b : BookTerms) (t : PayingSharedTerms) (before after : SeatTerms) (now : TotalSums) (mark : Knowledge) (mark_is : mark ≡ after.knows)
     (totals : TotalSums) (totals_are : totals ≡ now) (some : 0 < share_turns_left b t) (step : MakesShareStep b t.stage before after now)
     (within : t.turns + 1 ≤ share_turns_most b t.account (newly_seen t.start after.knows t.was.upto))
-    (counting : IsWithinOneMore (share_steps b t.account) (counted_so_far t.start after.knows t.was.upto now.upto) (t.turns + 1)) where
+    (counting : IsWithinOneMore (share_steps b t.account) (counted_so_far t.start after.knows t.was.upto now.upto) (t.turns + 1))
+    (begins : IsPrefix t.start.seen after.knows.seen) where
   abbrev most : ℕ
   most = share_turns_most b t.account places_max
 
@@ -72,6 +74,7 @@ module _ (b : BookTerms) (t : PayingSharedTerms) (before after : SeatTerms) (now
     left = less stage;
     so_far = within;
     counting = counting;
+    begins = begins;
     ends = (
       λ answered. let wrong : false ≡ true = answered in absurd (cc wrong),
       λ ended. absurd (omega (arith, ended, few, goes (most + 1 - (t.turns + 1)))),
@@ -105,6 +108,7 @@ module _ (b : BookTerms) (t : PayingSharedTerms) (before after : SeatTerms) (now
     left = less Ended;
     so_far = within;
     counting = counting;
+    begins = begins;
     ends = (λ answered. refl, λ ended. refl);
     pays = pays;
     settles = settles;

@@ -280,7 +280,7 @@ module _ (t : StartingTerms) (so : IsStartingSo t) where
 
   -- the rows are loaded
   module _ (c : CollectingRowsTerms) (is : IsCollectingThen t c) (w : Knowledge) where
-    more-rows : IsPrefix c.mark.seen w.seen → IsPrefix is.looked.seen w.seen
+    pub more-rows : IsPrefix c.mark.seen w.seen → IsPrefix is.looked.seen w.seen
     more-rows more = IsPrefix-trans is.looked.seen c.mark.seen w.seen (subst (λ (k : Knowledge). IsPrefix is.looked.seen k.seen) (sym is.mark_is) is.to_ask.more) more
 
     -- nothing is published and decided meanwhile

@@ -2,6 +2,7 @@
 use Rattle.std.proofs.Common.{◌≡◌, ◌≢◌, ℕ, ◌+◌, ◌-◌, ◌<◌, ◌≤◌, ◌↔◌, IfSome, IsSome, Option, None, length, false, true, refl, sym, ap, subst, ◌∙◌, arith}
 use Rattle.std.specs.List.{sum}
 use Rattle.at_ledger.specs.Book.{BookTerms}
+use Rattle.at_history.proofs.Laws.Prefixes.{IsPrefix-trans}
 use Rattle.at_history.specs.Publications.{IsPrefix}
 use Rattle.at_board.specs.Knowledge.Seats.{SeatTerms}
 use Rattle.at_board.specs.declared.knowledge.Asking.{Asking}
@@ -17,7 +18,7 @@ use Rattle.at_machines.specs.LoadingRow.{NextRowLoad}
 use Rattle.at_machines.specs.LoadingRow.NextRowLoad.{announced_word, request_word, nothing}
 use Rattle.at_machines.specs.Looking.{IsWithin, IsWithinOneMore, LookingTerms, MakesLookLoad}
 use Rattle.at_calling.proofs.PayingAloneLaws.{HasSameAsking-HasLoaded}
-use Rattle.at_calling.proofs.StartingLaws.{HasSameCounts-rows, HasSlot-IsStartingSo, IsStartWithin-HasLookedToAsk, IsStartWithin-IsCollectingThen, StaysCounted-HasLookedToAsk, StaysCounted-IsCollectingThen, counting-HasLookedToAsk, counting-IsCollectingThen, start_after, start_after_look}
+use Rattle.at_calling.proofs.StartingLaws.{HasSameCounts-rows, HasSlot-IsStartingSo, IsStartWithin-HasLookedToAsk, IsStartWithin-IsCollectingThen, StaysCounted-HasLookedToAsk, StaysCounted-IsCollectingThen, counting-HasLookedToAsk, counting-IsCollectingThen, more-rows, start_after, start_after_look}
 use Rattle.at_calling.specs.KeptStarting.{IsAskingThen, IsCollectingThen, IsLookingToAsk, IsStartStageSo, IsStartingSo, TakesStartTurn}
 use Rattle.at_single.proofs.Laws.Looks.{published-HasLoaded}
 use Rattle.at_snapshot.specs.Collected.{HasLoaded}
@@ -93,6 +94,7 @@ module _ (b : BookTerms) (t : StartingTerms) (so : IsStartingSo t) (book : t.sta
       so_far = within stage same;
       counting = subst (IsWithinOneMore (start_steps b t) (counted_so_far t.start after.knows t.was.upto now.upto)) (sym same) counting;
       ends = (λ has. let wrong : false ≡ true = has in absurd (cc wrong), λ none. absurd (omega (arith, some, none)));
+      begins = loads_on.more;
       undecided = ap (λ (q : Asking). q.decides) (HasSameAsking-HasLoaded b t.start after.knows (omega (arith, so.kept.one_part)) loads_on t.account);
       starts = tt;
       leaves = tt;
@@ -128,6 +130,7 @@ module _ (b : BookTerms) (t : StartingTerms) (so : IsStartingSo t) (book : t.sta
           (counting-HasLookedToAsk t so a.start a.account a.targets a.since asks.to_ask after.knows same_counts more stage
           (omega (arith, same, asks.left, (HasSlot-IsStartingSo t so).within)));
       ends = (λ has. let wrong : false ≡ true = has in absurd (cc wrong), λ none. absurd (omega (arith, some, none)));
+      begins = IsPrefix-trans t.start.seen a.start.seen after.knows.seen asks.to_ask.looked_at.loads.more more;
       undecided = subst (λ n. decides_on after.knows n ≡ decides_on t.start n) asks.to_ask.account_is same_counts.decides;
       starts = tt;
       leaves = tt;
@@ -179,6 +182,8 @@ module _ (b : BookTerms) (t : StartingTerms) (so : IsStartingSo t) (book : t.sta
         λ some. ap (unless_ended left_at_most) (ends.0 some),
         λ none. ends.1 (unless_ended-none left_at_most next.next (omega (arith, few_on)) none),
       );
+      begins = IsPrefix-trans t.start.seen collects.looked.seen after.knows.seen collects.to_ask.looked_at.loads.more
+          (more-rows t so c collects after.knows more);
       undecided = subst (λ n. decides_on after.knows n ≡ decides_on t.start n) collects.to_ask.account_is
           (HasSameCounts-rows t so c collects after.knows same_counts).decides;
       starts = starts;

@@ -8,8 +8,9 @@ use Rattle.at_base.specs.declared.decision.Decision.{Decision}
 use Rattle.at_ledger.specs.Book.{BookTerms}
 use Rattle.at_ledger.specs.declared.call.Reply.{Reply}
 use Rattle.at_history.proofs.Laws.Fronts.{length-IsFront}
-use Rattle.at_history.proofs.Laws.Prefixes.{IsPrefix-length}
+use Rattle.at_history.proofs.Laws.Prefixes.{IsPrefix-length, IsPrefix-refl, IsPrefix-trans}
 use Rattle.at_history.specs.Fronts.{prefix_of}
+use Rattle.at_history.specs.Publications.{IsPrefix}
 use Rattle.at_history.specs.Rounds.{rounds}
 use Rattle.at_board.specs.Knowledge.Agreement.{AgreesWithSeen}
 use Rattle.at_board.specs.Knowledge.Parts.{asking_on, no_part, own_part, part_asking, seen_as}
@@ -63,7 +64,7 @@ exchanges_in-lt n nothing less = refl
 -- and any is, it published nothing
 record IsStepOf (v w : Knowledge) (a exchanges left : ℕ) : Type 0 where
   decides : decides_on w a ≡ decides_on v a + exchanges
-  more : length v.seen ≤ length w.seen
+  more : IsPrefix v.seen w.seen
   others : SeesOthersStill v w
   unpublished : 0 < left → (own_part w).published ≡ (own_part v).published
 
@@ -71,7 +72,7 @@ IsStepOf-IsAfter : (v w : Knowledge) (a exchanges left : ℕ) (words : List Load
     → (0 < left → (own_part w).published ≡ (own_part v).published) → IsStepOf v w a exchanges left
 IsStepOf-IsAfter v w a exchanges left words after others unpublished = record {
   decides = ap (λ (t : Asking). t.decides) after.asking;
-  more = IsPrefix-length v.seen w.seen after.more;
+  more = after.more;
   others = others;
   unpublished = unpublished;
 }
@@ -83,7 +84,7 @@ IsStepOf-StoresWord v w word n a left part told = record {
     ap (λ (t : Knowledge). decides_on t a) told,
     ap (λ (q : Part). (asking_on q a).decides) (get_or-set_same v.parts 0 (with_word (own_part v) word n) no_part part),
   );
-  more = omega (arith, ap (λ (t : Knowledge). length t.seen) told);
+  more = subst (IsPrefix v.seen) (sym (ap (λ (t : Knowledge). t.seen) told)) (IsPrefix-refl v.seen);
   others = omega (
     arith,
     ap (λ (t : Knowledge). length t.seen) told,
@@ -105,7 +106,7 @@ IsStepOf-LoadsRequestWord b v w a slot number word n left has told =
         ap (λ (t : Knowledge). decides_on t a) told.same,
         ap (λ (t : Asking). t.decides) (asking_on-with_asking u a now (record { part = has.part; inside = has.inside })),
       );
-      more = omega (arith, ap (λ (t : Knowledge). length t.seen) told.same);
+      more = subst (IsPrefix v.seen) (sym (ap (λ (t : Knowledge). t.seen) told.same)) (IsPrefix-refl v.seen);
       others = omega (
         arith,
         ap (λ (t : Knowledge). length t.seen) told.same,
@@ -162,6 +163,9 @@ module _ (b : BookTerms) (t : TurningTerms) (d e : DecidingTerms) (w : Knowledge
       (subst (λ (v : Knowledge). HasAccount v t.helping.account) (sym so.mark_is) has))
       (omega (arith, some, so.left_is, ap (λ n. left_of_round n d.next) processes_are)) step))
 
+  longer : length t.mark.seen ≤ length w.seen
+  longer = IsPrefix-length t.mark.seen w.seen is_step.more
+
   -- after it the exchange was made
   exchanges_in-step : exchanges_in e.next ≡ 0
   exchanges_in-step = exchanges_in-lt processes e.next (omega (arith, less, left_now, so.left_is, left_of_round-le processes d.next))
@@ -177,7 +181,7 @@ module _ (b : BookTerms) (t : TurningTerms) (d e : DecidingTerms) (w : Knowledge
         so.few,
         so.seen,
         so.others,
-        is_step.more,
+        longer,
         is_step.others,
         ap (λ (k : BookTerms). snapshot_steps k.processes) book,
         ap (λ (c : DecidingTerms). round_steps c.start.book.processes) after,
@@ -226,7 +230,10 @@ module _ (b : BookTerms) (t : TurningTerms) (d e : DecidingTerms) (w : Knowledge
       )
 
   pub seen-step : length t.start.seen ≤ length w.seen
-  seen-step = omega (arith, begun-step, so.seen, is_step.more)
+  seen-step = omega (arith, begun-step, so.seen, longer)
+
+  pub begins-step : IsPrefix t.start.seen w.seen
+  begins-step = IsPrefix-trans t.start.seen t.mark.seen w.seen so.begins is_step.more
 
   pub others-step : SeesOthersStill t.start w
   others-step = omega (arith, begun-step, so.others, is_step.others)
@@ -243,7 +250,8 @@ module _ (b : BookTerms) (t : TurningTerms) (d e : DecidingTerms) (w : Knowledge
     looked_at = subst (λ (c : DecidingTerms). HasLooked t.start.book t.start c.start t.was totals c.front) (sym after)
         (subst (λ (s : TotalSums). HasLooked t.start.book t.start d.start t.was s d.front) (sym same) so.looked_at);
     few = subst (λ (c : DecidingTerms). IsWithin t.start.book.processes t.was (sum c.front) t.looked) (sym after) so.few;
-    seen = omega (arith, so.seen, is_step.more, ap (λ (c : DecidingTerms). sum c.front) after);
+    seen = omega (arith, so.seen, longer, ap (λ (c : DecidingTerms). sum c.front) after);
+    begins = begins-step;
     others = omega (arith, so.others, is_step.others, ap (λ (c : DecidingTerms). sum c.front) after);
     unpublished = unpublished-step goes_on;
     left_is = left_now ∙ ap (λ (c : DecidingTerms). left_of_round c.start.book.processes e.next) (sym after);

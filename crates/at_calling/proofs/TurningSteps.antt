@@ -20,7 +20,7 @@ use Rattle.at_single.proofs.Laws.Looks.{first-HasLoaded, published-HasLoaded}
 use Rattle.at_snapshot.specs.Collected.{HasLoaded}
 use Rattle.at_snapshot.specs.Snapshots.{snapshot_steps}
 use Rattle.at_calling.proofs.PayingAloneLaws.{HasSameAsking-HasLoaded}
-use Rattle.at_calling.proofs.TurningLaws.{IsHelpWithin-step, decides_made-step, left_of_round-le, others-step, seen-step}
+use Rattle.at_calling.proofs.TurningLaws.{IsHelpWithin-step, begins-step, decides_made-step, left_of_round-le, others-step, seen-step}
 use Rattle.at_calling.specs.KeptTurning.{IsDecidingThen, IsLookingStill, IsTurnStageSo, IsTurningSo, TakesHelpStep}
 use Rattle.at_calling.specs.PayingAlone.{HasSameAsking}
 use Rattle.at_calling.specs.Reading.{CountsOthersStill, LeavesTotals, counted_so_far, newly_seen}
@@ -108,6 +108,7 @@ module _ (b : BookTerms) (t : TurningTerms) (so : IsTurningSo t) (book : t.start
       so_far = subst (IsHelpWithin b.processes (decides_made a t.start w) (newly_seen t.start w t.was.upto)) (sym same) within;
       decides_few = omega (arith, decides_on-look);
       once = omega (arith, decides_on-look);
+      begins = loads-look.more;
       seen = IsPrefix-length t.start.seen w.seen loads-look.more;
       others = omega (arith, IsPrefix-length t.start.seen w.seen loads-look.more, published);
       counting = subst (IsWithinOneMore (help_steps b.processes (decides_made a t.start w)) (counted_so_far t.start w t.was.upto now.upto)) (sym same) counting;
@@ -160,6 +161,7 @@ module _ (b : BookTerms) (t : TurningTerms) (so : IsTurningSo t) (book : t.start
       so_far = IsHelpWithin-step b t d e w book decides-decide has some after_is less step;
       decides_few = omega (arith, decided);
       once = omega (arith, decided);
+      begins = begins-step b t d e w book decides-decide has some after_is less step;
       seen = seen-step b t d e w book decides-decide has some after_is less step;
       others = others-step b t d e w book decides-decide has some after_is less step;
       counting = counting;

@@ -3,6 +3,7 @@ use Rattle.std.specs.Prelude.{◌≡◌, ◌+◌, ◌++◌, ◌<◌, ◌↔◌, 
 use Rattle.at_ledger.specs.Book.{BookTerms}
 use Rattle.at_ledger.specs.Call.{IsCallOn}
 use Rattle.at_history.specs.Moves.{AreRuns}
+use Rattle.at_history.specs.Publications.{IsPrefix}
 use Rattle.at_board.specs.Counting.{raised}
 use Rattle.at_board.specs.Knowledge.Seats.{IsKept, SeatTerms}
 use Rattle.at_board.specs.Words.Addresses.{record_width}
@@ -81,6 +82,7 @@ pub record TakesCallTurn (b : BookTerms) (t u : CallingTerms) (before after : Se
   pub stands : IfSome answer (λ r. (earlier : List Receipt) → Stands (pass_before t) earlier → Stands (pass_of after now) (earlier ++ r ∷ []))
   pub kept : IfSome answer (λ r. IsOfOnePass after now)
   pub calls : IfSome answer (λ r. now.calls ≡ with_one_call t.was.calls)
+  pub begins : IsPrefix t.start.knows.seen after.knows.seen
   pub runs : AreRuns b after.knows.seen
   pub within : IfSome answer (StaysWithin b (pass_before t) (pass_of after now) t.call)
   pub refused : IfSome answer (λ r. IsRefused r → steps_made u.stage ≡ 0)

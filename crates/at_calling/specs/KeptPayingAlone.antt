@@ -4,6 +4,7 @@ use Rattle.at_ledger.specs.Book.{BookTerms}
 use Rattle.at_ledger.specs.Call.{amount_of}
 use Rattle.at_history.specs.Balances.{balance_after}
 use Rattle.at_history.specs.Fronts.{prefix_of}
+use Rattle.at_history.specs.Publications.{IsPrefix}
 use Rattle.at_history.specs.Rounds.{owns_of}
 use Rattle.at_history.specs.Sound.{AreTargets}
 use Rattle.at_history.specs.declared.publication.Entry.{Entry}
@@ -55,6 +56,7 @@ pub record IsAppendingThen (t : PayingAloneTerms) (a : AppendingTerms) : Type 0 
   pub enough : amount_of t.targets ≤ balance_after t.start.book (prefix_of a.rec.view a.start.seen) t.from
   pub few : IsWithin t.start.book.processes t.was (sum a.rec.view) t.looked
   pub seen : sum a.rec.view ≤ length t.mark.seen
+  pub begins : IsPrefix t.start.seen t.mark.seen
 
 abbrev pub IsPayStageSo : PayingAloneTerms → PayStage → Type 0
 IsPayStageSo t (Look l) = IsLookingFirst t l
@@ -87,6 +89,7 @@ pub record TakesPayTurn (b : BookTerms) (t u : PayingAloneTerms) (before after :
   pub ends : IsSome answer ↔ (pay_turns_left (record_width b) u.stage ≡ 0)
   pub so_far : IsPayWithin b.processes (newly_seen t.start after.knows t.was.upto) (turns_made u)
   pub counting : IsWithinOneMore (single_steps b.processes) (counted_so_far t.start after.knows t.was.upto now.upto) (turns_made u)
+  pub begins : IsPrefix t.start.seen after.knows.seen
   pub asks : HasSameAsking t.start after.knows
   pub pays : IfSome answer (AnswersAlone b t.start after.knows t.from t.targets)
   pub counted : IfSome answer (λ r. StaysCounted now b after.knows.seen)

@@ -115,6 +115,7 @@ pub record TakesShareTurn (b : BookTerms) (t u : PayingSharedTerms) (before afte
   pub left : share_turns_left b u < share_turns_left b t
   pub so_far : IsShareWithin b u (newly_seen t.start after.knows t.was.upto)
   pub counting : IsWithinOneMore (share_steps b t.account) (counted_so_far t.start after.knows t.was.upto now.upto) u.turns
+  pub begins : IsPrefix t.start.seen after.knows.seen
   pub decided : share_exchanges_made u ≡ decides_made t.account t.start after.knows
   pub exchanges_few : share_exchanges_made u ≤ slots_of (account_of b t.account)
   pub ends : IsSome answer ↔ (share_turns_left b u ≡ 0)

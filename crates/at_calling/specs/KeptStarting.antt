@@ -107,6 +107,7 @@ pub record TakesStartTurn (b : BookTerms) (t u : StartingTerms) (before after : 
   pub so_far : IsStartWithin b u (newly_seen t.start after.knows t.was.upto)
   pub counting : IsWithinOneMore (start_steps b t) (counted_so_far t.start after.knows t.was.upto now.upto) (start_turns_made u)
   pub ends : IsSome answer ↔ (start_turns_left b u ≡ 0)
+  pub begins : IsPrefix t.start.seen after.knows.seen
   pub undecided : decides_on after.knows t.account ≡ decides_on t.start t.account
   pub starts : IfSome answer (IsStartOf b t.start after.knows t.account t.targets)
   pub leaves : IfSome answer (λ h. LeavesTotals b t.start after.knows t.was now (asking_steps_of b t) (start_turns_made u))

@@ -1,6 +1,7 @@
 -- What the type of a turn of helping in the making keeps of its fields, which no caller sees.
 use Rattle.std.specs.Prelude.{◌≡◌, ◌+◌, ◌*◌, ◌<◌, ◌≤◌, ◌↔◌, IfSome, IsSome, Option, length, sum}
 use Rattle.at_ledger.specs.Book.{BookTerms}
+use Rattle.at_history.specs.Publications.{IsPrefix}
 use Rattle.at_board.specs.Knowledge.Parts.{own_part}
 use Rattle.at_board.specs.Knowledge.Seats.{IsKept, SeatTerms}
 use Rattle.at_fold.specs.HasCounted.{HasCounted}
@@ -47,6 +48,7 @@ pub record IsDecidingThen (t : TurningTerms) (d : DecidingTerms) : Type 0 where
   pub looked_at : HasLooked t.start.book t.start d.start t.was t.totals d.front
   pub few : IsWithin t.start.book.processes t.was (sum d.front) t.looked
   pub seen : sum d.front ≤ length t.mark.seen
+  pub begins : IsPrefix t.start.seen t.mark.seen
   pub others : sum d.front + (own_part t.mark).published ≤ length t.mark.seen + (own_part t.start).published
   pub unpublished : (own_part t.mark).published ≡ (own_part t.start).published
   pub left_is : d.left ≡ left_of_round d.start.book.processes d.next
@@ -79,6 +81,7 @@ pub record TakesHelpStep (b : BookTerms) (t u : TurningTerms) (before after : Se
   pub so_far : IsHelpWithin b.processes (decides_made t.helping.account t.start after.knows) (newly_seen t.start after.knows t.was.upto) (help_turns_made u)
   pub decides_few : decides_on t.start t.helping.account ≤ decides_on after.knows t.helping.account
   pub once : decides_made t.helping.account t.start after.knows ≤ 1
+  pub begins : IsPrefix t.start.seen after.knows.seen
   pub seen : length t.start.seen ≤ length after.knows.seen
   pub others : SeesOthersStill t.start after.knows
   pub counting : IsWithinOneMore (help_steps b.processes (decides_made t.helping.account t.start after.knows))

@@ -4,6 +4,7 @@ ghost use Rattle.std.specs.Prelude.{◌≡◌, ℕ, ◌+◌, ◌++◌, ◌<◌, 
 ghost use Rattle.at_board.specs.Counting.{raised};
 ghost use Rattle.at_board.specs.Knowledge.Seats.{IsOf};
 ghost use Rattle.at_history.specs.Moves.{AreRuns};
+ghost use Rattle.at_history.specs.Publications.{IsPrefix};
 ghost use Rattle.at_ledger.specs.Call.{IsCallOn};
 ghost use Rattle.at_log.specs.Placed.{IsPlaced};
 ghost use Rattle.at_log.specs.declared.receipt.At.{At};
@@ -116,6 +117,7 @@ impl Calling {
             → Stands (pass_of seat.new rest.new) (earlier ++ r ∷ [])) }
         ensures kept { IfSome result (λ r. IsOfOnePass seat.new rest.new) }
         ensures calls { IfSome result (λ r. rest.new.calls ≡ with_one_call self.old.was.calls) }
+        ensures begins { IsPrefix self.old.start.knows.seen seat.new.knows.seen }
         ensures runs { AreRuns board.now.book seat.new.knows.seen }
         ensures within { IfSome result (StaysWithin board.now.book (pass_before self.old)
             (pass_of seat.new rest.new) self.old.call) }

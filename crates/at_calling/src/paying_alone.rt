@@ -5,6 +5,7 @@ ghost use Rattle.at_board.specs.Counting.{raised};
 ghost use Rattle.at_board.specs.Knowledge.Seats.{IsOf};
 ghost use Rattle.at_board.specs.Words.Addresses.{record_width};
 ghost use Rattle.at_fold.specs.HasCounted.{HasCounted, StaysCounted};
+ghost use Rattle.at_history.specs.Publications.{IsPrefix};
 ghost use Rattle.at_history.specs.Rounds.{owns_of};
 ghost use Rattle.at_ledger.specs.Call.{AreTargetsOn};
 ghost use Rattle.at_machines.specs.Appending.{AppendingTerms};
@@ -124,6 +125,7 @@ impl PayingAlone {
         ensures counting { IsWithinOneMore (single_steps board.now.book.processes)
             (counted_so_far self.old.start seat.new.knows self.old.was.upto totals.new.upto)
             (turns_made self.new) }
+        ensures begins { IsPrefix self.old.start.seen seat.new.knows.seen }
         ensures asks { HasSameAsking self.old.start seat.new.knows }
         ensures answer { IfSome result (AnswersAlone board.now.book self.old.start seat.new.knows
             self.old.from self.old.targets) }

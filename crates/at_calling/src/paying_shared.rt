@@ -6,6 +6,7 @@ ghost use Rattle.at_board.specs.Knowledge.Parts.{own_part};
 ghost use Rattle.at_board.specs.Knowledge.Seats.{IsOf};
 ghost use Rattle.at_board.specs.Steps.StoreRequestWord.{MayStoreRequest};
 ghost use Rattle.at_fold.specs.HasCounted.{HasCounted};
+ghost use Rattle.at_history.specs.Publications.{IsPrefix};
 ghost use Rattle.at_ledger.specs.Account.{slots_of};
 ghost use Rattle.at_ledger.specs.Book.{account_of};
 ghost use Rattle.at_ledger.specs.Call.{AreTargetsOn};
@@ -129,6 +130,7 @@ impl PayingShared {
         ensures counting { IsWithinOneMore (share_steps board.now.book self.old.account)
             (counted_so_far self.old.start seat.new.knows self.old.was.upto totals.new.upto)
             self.new.turns }
+        ensures begins { IsPrefix self.old.start.seen seat.new.knows.seen }
         ensures ends { IsSome result ↔ (share_turns_left board.now.book self.new ≡ 0) }
         ensures answer { IfSome result (AnswersInRound board.now.book self.old.start
             seat.new.knows self.old.account self.old.targets) }

@@ -7,6 +7,7 @@ ghost use Rattle.at_board.specs.Knowledge.Seats.{IsOf};
 ghost use Rattle.at_board.specs.Steps.StoreRequestWord.{MayStoreRequest};
 ghost use Rattle.at_fold.specs.HasCounted.{HasCounted, StaysCounted};
 ghost use Rattle.at_history.specs.Fronts.{place};
+ghost use Rattle.at_history.specs.Publications.{IsPrefix};
 ghost use Rattle.at_ledger.specs.Call.{AreTargetsOn};
 ghost use Rattle.at_machines.specs.Asking.{AskingTerms, starting_to_ask};
 ghost use Rattle.at_machines.specs.CollectingRows.{CollectingRowsTerms};
@@ -124,6 +125,7 @@ impl Starting {
             (counted_so_far self.old.start seat.new.knows self.old.was.upto totals.new.upto)
             (start_turns_made self.new) }
         ensures ends { IsSome result ↔ (start_turns_left board.now.book self.new ≡ 0) }
+        ensures begins { IsPrefix self.old.start.seen seat.new.knows.seen }
         ensures undecided { decides_on seat.new.knows self.old.account
             ≡ decides_on self.old.start self.old.account }
         ensures answer { IfSome result (IsStartOf board.now.book self.old.start seat.new.knows

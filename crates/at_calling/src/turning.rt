@@ -7,6 +7,7 @@ ghost use Rattle.at_board.specs.Knowledge.Seats.{IsOf};
 ghost use Rattle.at_machines.specs.Deciding.{DecidingTerms};
 ghost use Rattle.at_machines.specs.Looking.{IsWithinOneMore, LookingTerms};
 ghost use Rattle.at_fold.specs.HasCounted.{HasCounted};
+ghost use Rattle.at_history.specs.Publications.{IsPrefix};
 ghost use Rattle.at_shared.specs.Helpings.{IsHelping, decides_made, decides_on};
 ghost use Rattle.at_shared.specs.Settling.{round_steps};
 ghost use Rattle.at_shared.specs.declared.helping.HelpTurn.{HelpTurn};
@@ -112,6 +113,7 @@ impl Turning {
         ensures decides_few { decides_on self.old.start self.old.helping.account
             ≤ decides_on seat.new.knows self.old.helping.account }
         ensures once { decides_made self.old.helping.account self.old.start seat.new.knows ≤ 1 }
+        ensures begins { IsPrefix self.old.start.seen seat.new.knows.seen }
         ensures seen { length self.old.start.seen ≤ length seat.new.knows.seen }
         ensures others { SeesOthersStill self.old.start seat.new.knows }
         ensures counting { IsWithinOneMore (help_steps board.now.book.processes

@@ -2,8 +2,10 @@ use Rattle.std.proofs.Common.{◌≡◌, ℕ, ◌<◌, ◌≤◌, ◌↔◌, IfS
 use Rattle.std.specs.List.{sum}
 use Rattle.at_ledger.specs.Book.{BookTerms}
 use Rattle.at_history.specs.Moves.{AreRuns}
+use Rattle.at_history.specs.Publications.{IsPrefix}
 use Rattle.at_board.specs.Counting.{raised}
 use Rattle.at_board.specs.Knowledge.Seats.{SeatTerms}
+use Rattle.at_board.specs.declared.knowledge.Knowledge.{Knowledge}
 use Rattle.at_fold.specs.Sums.{TotalSums}
 use Rattle.at_ledger.specs.Call.{payout_of}
 use Rattle.at_log.specs.declared.receipt.Receipt.{Receipt}
@@ -41,6 +43,13 @@ few c =
     let records : ℕ = newly_seen p.start c.turn-paid.new.seat.knows p.was.upto in
     omega (arith, told.so_far, ap (λ (a : ℕ). share_turns_most c.args.board.now.book a records) told.account)
 
+-- what was seen at the start is seen still
+begins : (c : After-known) → IsPrefix c.args.self.now.start.knows.seen c.turn-paid.new.seat.knows.seen
+begins c =
+    subst (λ (v : Knowledge). IsPrefix v.seen c.turn-paid.new.seat.knows.seen)
+    (still-shared c.args.board.now c.args.self.now (so (goal.at.After-known c).After-self) c.args.seat.now c.requires.mark c.requires.board c.turn-paid.new.seat
+    c.turn-paid.ensures.board c.in-PayShared.paying (stage_is c) (left c)).start_is c.turn-paid.ensures.begins
+
 -- the seat has counted all steps and exchanges of the call
 steps : (c : After-known) → c.turn-paid.new.seat.steps ≡ raised c.args.self.now.start.steps (c.turn-paid.new.self.turns)
 steps c =
@@ -73,7 +82,7 @@ turned c mark mark_is now totals_are rest rest_is answer ends leaves calls =
     (subst (λ (s : TotalSums). MakesCallStep b (PayShared p) c.args.seat.now after s) (sym totals_are) told.step) told.left
     (few-shared c.args.board.now t (so first) c.args.seat.now c.requires.mark c.requires.board after told.board p (stage_is c) (left c)
     now.totals c.turn-paid.new.self.turns (share_exchanges_made c.turn-paid.new.self) (few c)
-    (omega (arith, told.counting, ap (λ (s : TotalSums). sum s.upto) totals_are)) told.decided told.exchanges_few) ends (runs c) told.decides leaves calls (steps c) (exchanges c))
+    (omega (arith, told.counting, ap (λ (s : TotalSums). sum s.upto) totals_are)) told.decided told.exchanges_few) ends (begins c) (runs c) told.decides leaves calls (steps c) (exchanges c))
 
 pub returns-in_err-answer-clause-turned : goal.returns-in_err-answer-clause-turned
 returns-in_err-answer-clause-turned c =

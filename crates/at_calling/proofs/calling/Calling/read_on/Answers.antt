@@ -2,8 +2,10 @@ use Rattle.std.proofs.Common.{◌≡◌, ◌<◌, ◌↔◌, IfSome, IsSome, Opt
 use Rattle.std.specs.List.{sum}
 use Rattle.at_ledger.specs.Book.{BookTerms}
 use Rattle.at_history.specs.Moves.{AreRuns}
+use Rattle.at_history.specs.Publications.{IsPrefix}
 use Rattle.at_board.specs.Counting.{raised}
 use Rattle.at_board.specs.Knowledge.Seats.{SeatTerms}
+use Rattle.at_board.specs.declared.knowledge.Knowledge.{Knowledge}
 use Rattle.at_fold.specs.Sums.{TotalSums}
 use Rattle.at_log.specs.declared.receipt.Receipt.{Receipt}
 use Rattle.at_object.specs.declared.parts.Rest.{Rest}
@@ -29,6 +31,13 @@ left c = subst (λ (k : CallStage). 0 < call_turns_left c.args.board.now.book k)
 
 runs : (c : After-known) → AreRuns c.args.board.now.book c.turn-read.new.seat.knows.seen
 runs c = subst (λ (b : BookTerms). AreRuns b c.turn-read.new.seat.knows.seen) c.turn-read.ensures.board.book c.known.ensures.seat.history.runs
+
+-- what was seen at the start is seen still
+begins : (c : After-known) → IsPrefix c.args.self.now.start.knows.seen c.turn-read.new.seat.knows.seen
+begins c =
+    subst (λ (v : Knowledge). IsPrefix v.seen c.turn-read.new.seat.knows.seen)
+    (still-read c.args.board.now c.args.self.now (so (goal.at.After-known c).After-self) c.args.seat.now c.requires.mark c.requires.board c.turn-read.new.seat
+    c.turn-read.ensures.board c.in-Read.reading (stage_is c) (left c)).start_is c.turn-read.ensures.loads.more
 
 -- the seat has counted all steps and exchanges of the call
 steps : (c : After-known) → c.turn-read.new.seat.steps ≡ raised c.args.self.now.start.steps (c.turn-read.new.self.looking.turns)
@@ -62,7 +71,7 @@ turned c mark mark_is now totals_are rest rest_is answer ends leaves calls =
     (subst (λ (s : TotalSums). MakesCallStep b (Read p) c.args.seat.now after s) (sym totals_are) told.load) told.left
     (few-read c.args.board.now t (so first) c.args.seat.now c.requires.mark c.requires.board after told.board p (stage_is c) (left c)
     now.totals c.turn-read.new.self.looking.turns told.so_far (omega (arith, told.counting, ap (λ (s : TotalSums). sum s.upto) totals_are)) told.loads)
-    ends (runs c) refl leaves calls (steps c) (exchanges c))
+    ends (begins c) (runs c) refl leaves calls (steps c) (exchanges c))
 
 pub returns-in_err-receipt-clause-turned : goal.returns-in_err-receipt-clause-turned
 returns-in_err-receipt-clause-turned c =

@@ -8,7 +8,7 @@ use Rattle.at_log.specs.declared.receipt.At.TheVariants.{Previous}
 use Rattle.at_log.specs.declared.receipt.Receipt.{Receipt}
 use Rattle.at_object.specs.CallCounts.{with_one_call}
 use Rattle.at_object.specs.declared.parts.Rest.{Rest}
-use Rattle.at_calling.proofs.CallingTurns.{IsCallWithin-none, Leaves, Leaves-refused, TakesCallTurn-stages, calling_next, undecided-refused, was-refused}
+use Rattle.at_calling.proofs.CallingTurns.{IsCallWithin-none, Leaves, Leaves-refused, TakesCallTurn-stages, begins-refused, calling_next, undecided-refused, was-refused}
 use Rattle.at_calling.specs.Calling.{CallingTerms, exchanges_made, pass_before, steps_made}
 use Rattle.at_calling.specs.KeptCalling.{IsCallingSo, TakesCallTurn, calling_of}
 use Rattle.at_calling.specs.declared.call_stage.CallStage.{CallStage}
@@ -43,6 +43,7 @@ returns c =
     (TakesCallTurn-stages b t seat seat t.mark (sym c.requires.mark) now c.of.result.value c.of.ensures (Refuse c.args.reply) Refused c.requires.stage (Some r)
     refl refl (omega arith) (IsCallWithin-none b (pass_before t) t.call seat.knows now.totals.upto 0
     (undecided-refused c.args.board.now t so seat c.requires.mark c.requires.board c.args.reply c.requires.stage) (omega arith) (omega arith)) (λ some. refl, λ none. refl)
+    (begins-refused c.args.board.now t so seat c.requires.mark c.requires.board c.args.reply c.requires.stage)
     (subst (λ (k : BookTerms). AreRuns k seat.knows.seen) c.requires.board.book c.known.ensures.seat.history.runs) refl leaves
     (ap (λ (q : Rest). q.calls) now_is ∙ ap (λ (q : Rest). with_one_call q.calls) was)
     (omega (arith, so.steps, ap (λ (s : SeatTerms). s.steps) c.requires.mark, ap steps_made c.requires.stage))

@@ -3,6 +3,8 @@ use Rattle.std.specs.Prelude.{slice_index, sum}
 use Rattle.at_ledger.specs.Book.{BookTerms}
 use Rattle.at_ledger.specs.declared.call.Reply.{Reply}
 use Rattle.at_ledger.specs.declared.call.Reply.TheVariants.{Done}
+use Rattle.at_history.proofs.Laws.Prefixes.{IsPrefix-refl}
+use Rattle.at_history.specs.Publications.{IsPrefix}
 use Rattle.at_history.specs.Rounds.{owns_of}
 use Rattle.at_history.specs.declared.publication.Entry.{Entry}
 use Rattle.at_history.specs.declared.publication.Publication.{Publication}
@@ -22,7 +24,7 @@ use Rattle.at_object.specs.Payments.{single_steps}
 use Rattle.at_single.proofs.Laws.Paid.{IsPaid}
 use Rattle.at_single.specs.Looks.{HasLooked}
 use Rattle.at_single.specs.Standing.{IsOnlyOwner}
-use Rattle.at_calling.proofs.PayingAloneLaws.{HasCounted-IsPaid, HasSameAsking-Publishes, HasSameAsking-StoresWord, LeavesTotals-IsPaid, AnswersAlone-done, length-Publishes-lt, paying_next, published-IsPaid, published-with_part}
+use Rattle.at_calling.proofs.PayingAloneLaws.{HasCounted-IsPaid, HasSameAsking-Publishes, HasSameAsking-StoresWord, IsPrefix-Publishes, LeavesTotals-IsPaid, AnswersAlone-done, length-Publishes-lt, paying_next, published-IsPaid, published-with_part}
 use Rattle.at_calling.proofs.PayingAloneTurns.{TakesPayTurn-append, counting-append}
 use Rattle.at_calling.specs.KeptPayingAlone.{IsAppendingThen, IsPayStageSo, TakesPayTurn}
 use Rattle.at_calling.specs.PayingAlone.{AnswersAlone, HasSameAsking, MakesPayStep, PayingAloneTerms, append_steps, pay_turns_left}
@@ -67,7 +69,7 @@ turned : (c : After-turn-is_published) (now : TotalSums) (mark : SeatTerms) → 
     → totals ≡ now → (answer : Option (Reply × At))
     → MakesPayStep c.args.board.now.book (Append c.in-Append.appending) c.args.seat.now c.turn-is_published.new.seat now
     → SeesOthersStill (the_view c.self.inside).mark c.turn-is_published.new.seat.knows
-    → length (the_view c.self.inside).mark.seen ≤ length c.turn-is_published.new.seat.knows.seen
+    → IsPrefix (the_view c.self.inside).mark.seen c.turn-is_published.new.seat.knows.seen
     → IsWithinOneMore (single_steps c.args.board.now.book.processes)
     (counted_so_far (the_view c.self.inside).start c.turn-is_published.new.seat.knows (the_view c.self.inside).was.upto now.upto)
     (c.self.inside.looked + c.turn-is_published.new.self.stored)
@@ -109,7 +111,7 @@ returns-then-not-is_published-clause-turned c =
     ∙ published-with_part t.mark (with_word (own_part t.mark) a.stored (slice_index (record_words (publication_of a)) a.stored)) refl in
     turned at c.args.totals.now c.of.result.value c.of.ensures t.totals same_totals None step
     (omega (arith, ap (λ (v : Knowledge). length v.seen) stored, unpublished))
-    (omega (arith, ap (λ (v : Knowledge). length v.seen) stored))
+    (subst (IsPrefix t.mark.seen) (sym (ap (λ (v : Knowledge). v.seen) stored)) (IsPrefix-refl t.mark.seen))
     (counting-append b t c.self.invariant (book (goal.at.After-turn-is_published at).After-self) c.args.seat.now c.turn-is_published.new.seat
     c.args.totals.now w refl t.totals same_totals a c.turn-is_published.new.self c.in-Append.is told.after (few at) step (sym same_totals) unpublished)
     (λ some. let wrong : false ≡ true = some in absurd (cc wrong), λ all. absurd (other all))
@@ -191,7 +193,7 @@ returns-clause-turned c =
     turned at now c.of.result.value c.of.ensures c.of-2.result.value c.of-2.ensures (Some r)
     (λ inside. absurd (omega (arith, inside, all)), λ full. told.published done)
     (omega (arith, more, one, (appends at).unpublished))
-    (omega (arith, more))
+    (IsPrefix-Publishes b t.mark x (publication_of a) publishes)
     (omega (arith, leaves.few))
     (λ some. all, λ full. refl)
     (HasSameAsking-Publishes b t.mark x (publication_of a) (parts at) publishes) pays

@@ -2,6 +2,8 @@ use Rattle.std.proofs.Common.{None, Some, ◌≡◌, ℕ, ◌+◌, ◌-◌, ◌*
 use Rattle.at_ledger.specs.Account.{slots_of}
 use Rattle.at_ledger.specs.Book.{BookTerms, account_of}
 use Rattle.at_history.specs.Fronts.{places_max}
+use Rattle.at_history.proofs.Laws.Prefixes.{IsPrefix-trans}
+use Rattle.at_history.specs.Publications.{IsPrefix}
 use Rattle.at_shared.specs.PaymentTurns.{SettlesInTurns}
 use Rattle.at_history.specs.Histories.{IsHistory}
 use Rattle.at_board.specs.Knowledge.Seats.{SeatTerms}
@@ -137,6 +139,12 @@ within_all : (c : After-known)
     → c.self.inside.turns + 1 ≤ share_turns_most c.args.board.now.book c.self.inside.account places_max
 within_all c = omega (arith, within (goal.at.After-known c).After-turn-helped, c.known.ensures.seat.history.few)
 
+-- what was seen at the start is seen still
+begins : (c : After-turn-helped) → IsPrefix c.self.inside.start.value.knows.seen c.turn-helped.new.seat.knows.seen
+begins c =
+    IsPrefix-trans c.self.inside.start.value.knows.seen c.in-Help.turning.start.seen c.turn-helped.new.seat.knows.seen (helps c).helped.begins
+    c.turn-helped.ensures.begins
+
 -- the exchanges so far are those that were decided
 made : (c : After-turn-helped)
     → decides_made c.self.inside.account c.self.inside.start.value.knows c.turn-helped.new.seat.knows
@@ -269,7 +277,7 @@ goes_on c mark mark_is totals totals_are u =
     let stage : ShareStage = Help c.in-Help.helping u in
     subst (λ (x : PayingSharedTerms). TakesShareTurn b x (share_next t stage mark.knows totals) before after now None) c.self.view_is
     (TakesShareTurn-on b t before after now mark.knows (ap (λ (m : SeatTerms). m.knows) mark_is) totals totals_are (some at) (step at) (within at)
-    (counting at) stage (λ n. refl) (within_all c) (ap (λ (m : SeatTerms). decides_made t.account t.start m.knows) mark_is ∙ made at)
+    (counting at) (begins at) stage (λ n. refl) (within_all c) (ap (λ (m : SeatTerms). decides_made t.account t.start m.knows) mark_is ∙ made at)
     (ap (λ (m : SeatTerms). decides_made t.account t.start m.knows) mark_is)
     (omega (arith, few_exchanges at, ap (λ (m : SeatTerms). decides_made t.account t.start m.knows) mark_is)))
 
@@ -318,7 +326,7 @@ returns-in-Settled-clause-turned c =
     subst (λ (k : ShareStage). TakesShareTurn b c.args.self.now (share_next t k mark totals) before after now (Some r)) (sym c.become_next.ensures)
     (subst (λ (x : PayingSharedTerms). TakesShareTurn b x (share_next t Ended mark totals) before after now (Some r)) c.self.view_is
     (TakesShareTurn-settled b t before after now mark (ap (λ (m : SeatTerms). m.knows) c.of.ensures) totals c.of-2.ensures (some at) (step at) (within at)
-    (counting at) r
+    (counting at) (begins at) r
     (subst (λ (k : BookTerms). AnswersInRound k v w t.account t.targets r) (sym same) pays)
     (subst (λ (k : BookTerms). SettlesInTurns k v w t.account t.targets) (sym same) settles)
     (subst (λ (k : BookTerms). DecidesFew k v w t.account) (sym same) few) told.counted

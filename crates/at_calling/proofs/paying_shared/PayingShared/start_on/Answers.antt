@@ -3,6 +3,7 @@ use Rattle.at_ledger.specs.Account.{slots_of}
 use Rattle.at_ledger.specs.Book.{BookTerms, account_of}
 use Rattle.at_ledger.specs.Call.{TargetPair}
 use Rattle.at_history.proofs.Laws.Prefixes.{IsPrefix-refl}
+use Rattle.at_history.specs.Publications.{IsPrefix}
 use Rattle.at_snapshot.specs.Snapshots.{snapshot_steps}
 use Rattle.at_board.specs.declared.words.TheConstants.{RECORD_WORDS}
 use Rattle.at_history.specs.Histories.{IsHistory}
@@ -174,7 +175,8 @@ turned c mark mark_is totals totals_are stage goes decides =
     subst (λ (x : PayingSharedTerms). TakesShareTurn b x (share_next t stage mark.knows totals) before after now None) c.self.view_is
     (TakesShareTurn-on b t before after now mark.knows (ap (λ (m : SeatTerms). m.knows) mark_is) totals totals_are
     (subst (λ (x : PayingSharedTerms). 0 < share_turns_left b x) (sym c.self.view_is) c.requires.left)
-    (subst (λ (k : ShareStage). MakesShareStep b k before after now) (sym c.in-Start.is) c.turn-started.ensures.step) few (counting at) stage goes
+    (subst (λ (k : ShareStage). MakesShareStep b k before after now) (sym c.in-Start.is) c.turn-started.ensures.step) few (counting at)
+    (subst (λ (v : Knowledge). IsPrefix v.seen after.knows.seen) (starts at).start_is c.turn-started.ensures.begins) stage goes
     (omega (arith, few, c.known.ensures.seat.history.few))
     (omega (arith, decides, ap (unless_starting (decides_made t.account t.start t.mark)) c.in-Start.is, ap share_exchanges_at c.in-Start.is))
     (omega (arith, decides, none_decided at)) (omega (arith, decides)))

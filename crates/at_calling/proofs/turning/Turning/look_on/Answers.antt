@@ -15,18 +15,18 @@ use Rattle.at_shared.proofs.Laws.Turned.{IsHelpingAt-turn}
 use Rattle.at_shared.specs.HelpingTerms.{HelpingTerms}
 use Rattle.at_shared.specs.Helpings.{IsHelping, decides_made}
 use Rattle.at_shared.specs.Settling.{round_steps}
-use Rattle.at_calling.proofs.PayingAloneLaws.{HasSameAsking-HasLoaded}
+use Rattle.at_calling.proofs.PayingAloneLaws.{HasSameAsking-HasLoaded, sum-HasLooked-le}
 use Rattle.at_calling.proofs.ReadingLaws.{LeavesTotals-HasLooked}
 use Rattle.at_calling.proofs.TurningSteps.{LeavesSeat-HasLoaded, TakesHelpStep-look}
 use Rattle.at_calling.specs.PayingAlone.{HasSameAsking}
 use Rattle.at_calling.specs.declared.turn_stage.TurnStage.{TurnStage}
 use Rattle.at_shared.specs.declared.helping.HelpTurn.{HelpTurn}
 use Rattle.at_shared.specs.declared.helping.HelpTurn.TheVariants.{Settled, More}
-use Rattle.at_single.proofs.Laws.Looks.{CountsAccount-HasLooked, CountsFront-HasLooked, HasCounted-HasLooked}
+use Rattle.at_single.proofs.Laws.Looks.{CountsAccount-HasLooked, CountsFront-HasLooked, HasCounted-HasLooked, published-HasLoaded}
 use Rattle.at_single.specs.Looks.{HasLooked}
 use Rattle.at_calling.proofs.TurningLaws.{IsHelpOf-found}
-use Rattle.at_machines.specs.Deciding.{DecidingTerms}
-use Rattle.at_calling.specs.KeptTurning.{IsLookingStill, IsTurnStageSo, TakesHelpStep}
+use Rattle.at_machines.specs.Deciding.{DecidingTerms, starting_deciding}
+use Rattle.at_calling.specs.KeptTurning.{IsLookingStill, IsTurnStageSo, IsTurningSo, TakesHelpStep}
 use Rattle.at_machines.specs.Looking.{IsWithin}
 use Rattle.at_calling.specs.Reading.{LeavesTotals}
 use Rattle.at_calling.specs.Turning.{IsHelpOf, LeavesSeat, TurningTerms, WaitsOn, help_turns_in, help_turns_left}
@@ -220,6 +220,58 @@ start-deciding-requires-clause-unsettled c =
     subst (λ f. is_settled h.account h.own.slot h.own.number (prefix_of f seen) ≡ false) (looked at).upto
     (c.in_default-settled.ensures.front c.args.board.now.book seen (counts_slot at)
     (waits (goal.at.start-deciding-requires-clause-unsettled c).After-self).room (counts_front at))
+
+-- a round at the front of the look comes next
+pub invariant_of-self-2 : goal.invariant_of-self-2
+invariant_of-self-2 c =
+    let started = (goal.at.invariant_of-self-2 c).After-start-deciding in
+    let known = (goal.at.After-start-deciding started).After-known in
+    let at = (goal.at.After-known known).After-turn-looked in
+    let start = (goal.at.After-turn-looked at).After-self in
+    let b : BookTerms = c.args.board.now.book in
+    let t : TurningTerms = the_view c.self.inside in
+    let w : Knowledge = c.turn-looked.new.seat.knows in
+    let now : TotalSums = c.turn-looked.new.totals in
+    let front : List ℕ = c.in_ok-front.front in
+    let turns : ℕ = c.turn-looked.new.self.turns in
+    let kept = c.self.invariant in
+    let done : HasLooked t.start.book t.start w t.was now front =
+    subst (λ (k : BookTerms). HasLooked k t.start w t.was now front) (sym (book start)) (looked known) in
+    let within : IsWithin t.start.book.processes t.was (sum front) turns =
+    subst (λ (k : BookTerms). IsWithin k.processes t.was (sum front) turns) (sym (book start))
+    (subst (λ (s : TotalSums). IsWithin b.processes s (sum front) turns) (looks at).was_is c.in_ok-front.ensures.within) in
+    let published = published-HasLoaded t.start.book t.start w (omega (arith, kept.kept.one_part)) done.loads in
+    let same : HasSameAsking t.start w = HasSameAsking-HasLoaded t.start.book t.start w (omega (arith, kept.kept.one_part)) done.loads in
+    let most = sum-HasLooked-le t.start.book t.start w t.was now front done in
+    let next : TurnStage = Decide (starting_deciding w now t.helping front) in
+    let here : IsTurningSo (record t { stage = next; looked = turns; mark = w; totals = now }) = record {
+      kept = kept.kept;
+      book = c.turn-looked.ensures.board.book ∙ sym (book start);
+      helping = kept.helping;
+      stage_so = λ left. record {
+        helping_is = refl;
+        mark_is = refl;
+        totals_are = refl;
+        looked_at = done;
+        few = within;
+        seen = most;
+        begins = done.loads.more;
+        others = omega (arith, most, published);
+        unpublished = published;
+        left_is = refl;
+        once = omega (arith, ap (λ (k : Asking). k.decides) (same t.helping.account));
+      };
+    } in
+    let stage : c.become_next-2.new.stage ≡ next =
+    c.become_next-2.ensures
+    ∙ (ap (λ (d : DecidingTerms). Decide d) c.start-deciding.ensures
+    ∙ ap (λ (h : HelpingTerms). Decide (starting_deciding w now h front)) (sym (helping start))) in
+    subst (λ (k : TurnStage). IsTurningSo
+    (record t { stage = k; looked = c.turns-self-inside.result; mark = c.of.result.value.knows; totals = c.of-2.result.value })) (sym stage)
+    (subst (λ (n : ℕ). IsTurningSo (record t { stage = next; looked = n; mark = c.of.result.value.knows; totals = c.of-2.result.value }))
+    (sym c.turns-self-inside.ensures)
+    (subst (λ (s : SeatTerms). IsTurningSo (record t { stage = next; looked = turns; mark = s.knows; totals = c.of-2.result.value })) (sym c.of.ensures)
+    (subst (λ (s : TotalSums). IsTurningSo (record t { stage = next; looked = turns; mark = w; totals = s })) (sym c.of-2.ensures) here)))
 
 pub returns-clause-stepped : goal.returns-clause-stepped
 returns-clause-stepped c =
