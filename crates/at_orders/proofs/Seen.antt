@@ -84,6 +84,14 @@ next-call g s p file i call calls at within is =
     let here : slice_get file i ≡ Some call = slice_get-get_or file i call within ∙ ap Some (sym is) in
     subst (λ (n : ℕ). slice_get (get_or g.files p []) n ≡ Some call) at (subst (λ (xs : List Call). slice_get xs i ≡ Some call) calls here)
 
+-- and no other is, where none stands there
+pub next-none : (g : GroundTerms) (s : Stage) (p : ℕ) (file : List Call) (i : ℕ) (call : Call) → file ≡ get_or g.files p [] → i ≡ get_or s.made.items p 0 → length file ≤ i
+    → IsNextCall g s p call → ⊥
+next-none g s p file i call calls at past next =
+    let within = slice_get_within (get_or g.files p []) (get_or s.made.items p 0) call next in
+    let size = ap (length {A = Call}) calls in
+    omega arith
+
 -- the account that the next call of a process names first has a place
 pub call-placed : (g : GroundTerms) (s : Stage) (p : ℕ) (call : Call) → IsGround g → p < g.book.processes → IsNextCall g s p call → HasFirstPlace g.places call
 call-placed g s p call ground known next =

@@ -23,42 +23,27 @@ fn range_alone(book: &Book, alones: &[Alone], process: u32, account: u32) -> Ran
     alones[process as usize].ranges[account as usize]
 }
 
-/// How far all files but that of the process can bring the account below its opening.
-fn falls(book: &Book, alones: &[Alone], process: u32, account: u32) -> u128
+/// How far all files but that of the process can bring the account below its opening, and how far above it.
+fn falls_and_rises(book: &Book, alones: &[Alone], process: u32, account: u32) -> (u128, u128)
     requires account_in { account < length book.now.accounts }
     requires processes { length alones.now ≡ book.now.processes }
     requires accounts { AreRangesOn book.now alones.now }
-    ensures { result ≡ falls_of book.now account (ranges_of alones.now account) process
+    ensures falls { result.0 ≡ falls_of book.now account (ranges_of alones.now account) process
+        (length alones.now) }
+    ensures rises { result.1 ≡ rises_of book.now account (ranges_of alones.now account) process
         (length alones.now) }
 {
     let opening = book.opening(account);
-    let mut sum = 0u128;
+    let mut falls = 0u128;
+    let mut rises = 0u128;
     for other in 0..book.processes() {
         if other != process {
-            let least = range_alone(book, alones, other, account).least;
-            sum += u128::from(opening.saturating_sub(least));
+            let range = range_alone(book, alones, other, account);
+            falls += u128::from(opening.saturating_sub(range.least));
+            rises += u128::from(range.greatest.saturating_sub(opening));
         }
     }
-    sum
-}
-
-/// How far all files but that of the process can bring the account above its opening.
-fn rises(book: &Book, alones: &[Alone], process: u32, account: u32) -> u128
-    requires account_in { account < length book.now.accounts }
-    requires processes { length alones.now ≡ book.now.processes }
-    requires accounts { AreRangesOn book.now alones.now }
-    ensures { result ≡ rises_of book.now account (ranges_of alones.now account) process
-        (length alones.now) }
-{
-    let opening = book.opening(account);
-    let mut sum = 0u128;
-    for other in 0..book.processes() {
-        if other != process {
-            let greatest = range_alone(book, alones, other, account).greatest;
-            sum += u128::from(greatest.saturating_sub(opening));
-        }
-    }
-    sum
+    (falls, rises)
 }
 
 /// What a read of the process can tell of the account, where its file alone has this balance there.
@@ -75,8 +60,9 @@ fn range_of(book: &Book, alones: &[Alone], process: u32, account: u32, balance: 
     ensures greatest { result.greatest ≡ balance + rises_of book.now account
         (ranges_of alones.now account) process (length alones.now) }
 {
-    let lowest = u128::from(balance) - falls(book, alones, process, account);
-    let highest = u128::from(balance) + rises(book, alones, process, account);
+    let (falls, rises) = falls_and_rises(book, alones, process, account);
+    let lowest = u128::from(balance) - falls;
+    let highest = u128::from(balance) + rises;
     Range {
         least: lowest as u64,
         greatest: highest as u64,

@@ -5,7 +5,7 @@ ghost use Rattle.at_ledger.specs.Files.{IsPlayable, contents_of};
 ghost use Rattle.at_orders.specs.declared.stage.Stage.{Stage};
 ghost use Rattle.at_orders.specs.Orders.{AreAnswers};
 ghost use Rattle.at_orders.specs.Stages.{GroundTerms, HasMoreStages, StageTerms};
-ghost use Rattle.at_orders.specs.Walk.{AreLevel, Grows, HasAllNext, HasMoreNext, HasNext, HasStage, IsNextLevel, IsSeen, IsWalkedTo, StandsFor};
+ghost use Rattle.at_orders.specs.Walk.{AreLevel, Grows, HasAllNext, HasMoreNext, HasNext, HasStage, IsNextLevel, IsSeen, IsWalked, IsWalkedTo, StandsFor};
 
 use crate::error::OrdersError;
 use crate::ground::Ground;
@@ -15,6 +15,7 @@ use crate::stage::Stage;
 use at_ledger::{Book, Call, NoMemory};
 use indexmap::IndexSet;
 use std::alloc::{AllocError, Global};
+use std::mem::replace;
 
 /// The most stages that are walked.
 pub const STAGES_MAX: usize = 1_048_576;
@@ -120,6 +121,30 @@ fn begin(alloc: Global, ground: &Ground) -> Result<IndexSet<Stage>, NoMemory>
     Ok(seen)
 }
 
+/// Hears the replies that the calls get at the stages of the level, and goes on to the next level, after so many stages before.
+fn walk_level(
+    alloc: Global,
+    ground: &Ground,
+    looked: usize,
+    level: &mut IndexSet<Stage>,
+    answers: &mut Vec<Vec<Replies>>,
+) -> Result<(), OrdersError>
+    requires walked { IsWalked ground.now level.old.keys (contents_of answers.old.items) looked }
+    requires few { looked + length level.old.keys ≤ STAGES_MAX }
+    ensures walked { OnOk result (IsWalked ground.now level.new.keys
+        (contents_of answers.new.items) (looked + length level.old.keys)) }
+    ensures few { OnOk result
+        (looked + length level.old.keys + length level.new.keys ≤ STAGES_MAX) }
+    ensures many { result ≡ Err OrdersError.TooManyOrders
+        → HasMoreStages ground.now.book ground.now.files STAGES_MAX }
+{
+    hear_all(ground, level.as_slice(), answers);
+    let left = STAGES_MAX - looked - level.len();
+    let next = next_level(alloc, ground, level.as_slice(), left)?;
+    drop(replace(level, next));
+    Ok(())
+}
+
 /// The replies of each call of each file in all orders. Two levels at most are held.
 fn walk_on(alloc: Global, ground: &Ground) -> Result<Vec<Vec<Replies>>, OrdersError>
     ensures answers { IfOk result (λ answers. AreAnswers ground.now.book ground.now.files
@@ -132,9 +157,9 @@ fn walk_on(alloc: Global, ground: &Ground) -> Result<Vec<Vec<Replies>>, OrdersEr
     let mut level = begin(alloc, ground)?;
     let mut looked = 0;
     while level.len() > 0 {
-        hear_all(ground, level.as_slice(), &mut answers);
-        looked += level.len();
-        level = next_level(alloc, ground, level.as_slice(), STAGES_MAX - looked)?;
+        let stages = level.len();
+        walk_level(alloc, ground, looked, &mut level, &mut answers)?;
+        looked += stages;
     }
     Ok(answers)
 }

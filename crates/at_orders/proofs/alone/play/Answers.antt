@@ -81,3 +81,8 @@ loop-call-preserved c =
       subst (λ (rs : List Range). IsAloneTo b p calls (i + 1) c.push.new.self.items rs) (sym items)
           (subst (λ (xs : List Reply). IsAloneTo b p calls (i + 1) xs c.widen_named.new.ranges) (sym said) played),
     )
+
+pub returns : goal.returns
+returns c =
+    let all : c.loop-call.call-index ≡ length c.args.file.now = let past = c.loop-call-test.false in omega arith in
+    subst (λ (n : ℕ). IsAloneTo c.args.book.now c.args.process c.args.file.now n c.loop-call.replies.items c.loop-call.ranges.items) all c.loop-call.invariant.1

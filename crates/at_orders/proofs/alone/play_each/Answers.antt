@@ -1,3 +1,4 @@
+use Rattle.std.proofs.lemmas.Grind.{common_steps}
 use Rattle.std.proofs.Common.{◌≡◌, ◌+◌, ◌<◌, [], List, length, get_or, All, sym, subst, ◌∙◌, arith}
 use Rattle.at_ledger.specs.Files.{contents_of}
 use Rattle.at_ledger.proofs.FileLists.{get_or-contents_of, length-contents_of}
@@ -38,3 +39,15 @@ loop-process-preserved c =
     ∙ sym c.as_slice-file.ensures.value in
     let alone : IsAlone b p (get_or files p []) c.in_ok-play.field-0 = subst (λ (calls : List Call). IsAlone b p calls c.in_ok-play.field-0) (sym file) c.in_ok-play.ensures in
     subst (λ (alones : List Alone). AreAlone b files alones (p + 1)) (sym c.in_ok-push.ensures.items) (alone-pushed b files c.loop-process.alones.items p c.in_ok-play.field-0 c.loop-process.invariant alone)
+
+pub loop-process-init : goal.loop-process-init
+loop-process-init c = grind (arith, common_steps)
+
+pub play-requires-clause-process_in : goal.play-requires-clause-process_in
+play-requires-clause-process_in c = grind (arith, common_steps)
+
+pub bounds-files-process : goal.bounds-files-process
+bounds-files-process c = grind (arith, common_steps)
+
+pub returns : goal.returns
+returns c = grind (arith, common_steps)

@@ -1,3 +1,4 @@
+use Rattle.std.proofs.lemmas.Grind.{common_steps}
 use Rattle.std.proofs.Common.{⊎_elim, ◌<◌, length, get_or, sym, ◌∙◌, arith}
 use Rattle.at_orders.proofs.Playing.{names-none, names-pays, source-in, widened-both, widened-more, widened-source}
 use Rattle.at_orders.proofs.alone.widen_named.Goals as goal
@@ -19,3 +20,18 @@ returns-in-Some-clause-named c a names = ⊎_elim
 
 pub returns-in_default-clause-named : goal.returns-in_default-clause-named
 returns-in_default-clause-named c a names = absurd (names-none c.args.call.now a (sym c.payout.ensures ∙ c.in_default.is) names)
+
+pub widen-requires-clause-account_in : goal.widen-requires-clause-account_in
+widen-requires-clause-account_in c = grind (arith, common_steps)
+
+pub widen_all-requires-clause-accounts : goal.widen_all-requires-clause-accounts
+widen_all-requires-clause-accounts c = grind (arith, common_steps)
+
+pub returns-in-Some-clause-len : goal.returns-in-Some-clause-len
+returns-in-Some-clause-len c = grind (arith, common_steps)
+
+pub returns-in_default-clause-others : goal.returns-in_default-clause-others
+returns-in_default-clause-others c = grind (arith, common_steps)
+
+pub widen-requires-clause-accounts : goal.widen-requires-clause-accounts
+widen-requires-clause-accounts c = grind (arith, common_steps)

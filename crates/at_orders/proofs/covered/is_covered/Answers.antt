@@ -1,3 +1,4 @@
+use Rattle.std.proofs.lemmas.Grind.{common_steps}
 use Rattle.std.proofs.Common.{◌≡◌, ℕ, ◌+◌, ◌<◌, [], List, length, get_or, All, sym, ap, subst, ◌∙◌, arith}
 use Rattle.std.specs.Vec.{with_items}
 use Rattle.std.proofs.lemmas.List.{get_or-map, length-map, with_items_is}
@@ -100,3 +101,18 @@ returns-clause-covered c is a a_in =
     let over = c.loop-process-test.false in
     let count : c.loop-process.process ≡ length files = omega arith in
     rw (← count) (omega arith)
+
+pub returns-then-not-take_all-clause-covered : goal.returns-then-not-take_all-clause-covered
+returns-then-not-take_all-clause-covered c = grind (arith, common_steps)
+
+pub take_all-requires-clause-accounts : goal.take_all-requires-clause-accounts
+take_all-requires-clause-accounts c = grind (arith, common_steps)
+
+pub bounds-files-process : goal.bounds-files-process
+bounds-files-process c = grind (arith, common_steps)
+
+pub offset_bounds-files-process : goal.offset_bounds-files-process
+offset_bounds-files-process c = grind (arith, common_steps)
+
+pub overflow_cast-process : goal.overflow_cast-process
+overflow_cast-process c = grind (arith, common_steps)

@@ -1,4 +1,5 @@
-use Rattle.std.proofs.Common.{◌+◌, List, sym, subst}
+use Rattle.std.proofs.lemmas.Grind.{common_steps}
+use Rattle.std.proofs.Common.{◌+◌, List, sym, subst, arith}
 use Rattle.at_ledger.specs.Files.{contents_of}
 use Rattle.at_ledger.proofs.FileLists.{contents_of-pushed}
 use Rattle.at_orders.specs.Alone.{AreFilesAnswers}
@@ -12,3 +13,27 @@ loop-process-preserved c =
     subst (λ (answers : List (List Replies)). AreFilesAnswers b (contents_of c.args.files.now) answers (c.loop-process.process + 1))
     (sym (contents_of-pushed c.push.new.self.items c.loop-process.answers.items c.in_ok-replies_of.field-0 c.in_ok-push.ensures.items))
     (files-answers-more b (contents_of c.args.files.now) (contents_of c.loop-process.answers.items) c.loop-process.process c.in_ok-replies_of.field-0.items c.loop-process.invariant c.in_ok-replies_of.ensures)
+
+pub replies_of-requires-clause-alones : goal.replies_of-requires-clause-alones
+replies_of-requires-clause-alones c = grind (arith, common_steps)
+
+pub loop-process-init : goal.loop-process-init
+loop-process-init c = grind (arith, common_steps)
+
+pub returns : goal.returns
+returns c = grind (arith, common_steps)
+
+pub replies_of-requires-clause-covered : goal.replies_of-requires-clause-covered
+replies_of-requires-clause-covered c = grind (arith, common_steps)
+
+pub replies_of-requires-clause-processes : goal.replies_of-requires-clause-processes
+replies_of-requires-clause-processes c = grind (arith, common_steps)
+
+pub replies_of-requires-clause-process_in : goal.replies_of-requires-clause-process_in
+replies_of-requires-clause-process_in c = grind (arith, common_steps)
+
+pub play_each-requires-clause-covered : goal.play_each-requires-clause-covered
+play_each-requires-clause-covered c = grind (arith, common_steps)
+
+pub replies_of-requires-clause-files : goal.replies_of-requires-clause-files
+replies_of-requires-clause-files c = grind (arith, common_steps)

@@ -1,3 +1,4 @@
+use Rattle.std.proofs.lemmas.Grind.{common_steps}
 use Rattle.std.proofs.Common.{◌≡◌, List, length, sym, ap, subst, ◌∙◌, arith}
 use Rattle.at_ledger.specs.Files.{contents_of}
 use Rattle.at_ledger.proofs.FileLists.{length-contents_of}
@@ -70,3 +71,21 @@ returns-in_default c =
     let with : c.with.result ≡ replies_with no_replies c.index.result.now =
     c.with.ensures ∙ ap (λ (n : Replies). replies_with n c.index.result.now) c.none.ensures in
     subst (AreJust (Comes b files c.args.process c.args.i)) (sym with) just
+
+pub range_of-requires-clause-account_in : goal.range_of-requires-clause-account_in
+range_of-requires-clause-account_in c = grind (arith, common_steps)
+
+pub range_of-requires-clause-accounts : goal.range_of-requires-clause-accounts
+range_of-requires-clause-accounts c = grind (arith, common_steps)
+
+pub index-call-requires : goal.index-call-requires
+index-call-requires c = grind (arith, common_steps)
+
+pub range_of-requires-clause-processes : goal.range_of-requires-clause-processes
+range_of-requires-clause-processes c = grind (arith, common_steps)
+
+pub index-requires : goal.index-requires
+index-requires c = grind (arith, common_steps)
+
+pub bounds-alones-process : goal.bounds-alones-process
+bounds-alones-process c = grind (arith, common_steps)

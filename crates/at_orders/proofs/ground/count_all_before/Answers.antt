@@ -1,3 +1,4 @@
+use Rattle.std.proofs.lemmas.Grind.{common_steps}
 use Rattle.std.proofs.Common.{ℕ, ◌+◌, List, [], take, sym, subst, ◌∙◌, arith}
 use Rattle.at_ledger.specs.Files.{IsPlayable, contents_of}
 use Rattle.at_ledger.proofs.FileLists.{contents_of-pushed, get_or-contents_of, length-contents_of}
@@ -24,3 +25,12 @@ loop-file-preserved c =
     let counted = subst (λ (calls : List Call). AreCountedBefore calls row) (c.as_slice.ensures.value ∙ sym file) c.in_ok-count_before.ensures in
     subst (AreAllCountedBefore (take (i + 1) files)) (sym (contents_of-pushed c.push.new.self.items c.loop-file.before.items c.in_ok-count_before.field-0 c.in_ok-push.ensures.items))
     (all-counted-more files (contents_of c.loop-file.before.items) i row (omega arith) c.loop-file.invariant counted)
+
+pub returns : goal.returns
+returns c = grind (arith, common_steps)
+
+pub bounds-files-file-index : goal.bounds-files-file-index
+bounds-files-file-index c = grind (arith, common_steps)
+
+pub loop-file-init : goal.loop-file-init
+loop-file-init c = grind (arith, common_steps)

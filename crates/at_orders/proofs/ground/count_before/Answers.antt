@@ -1,6 +1,6 @@
 use Rattle.std.proofs.Common.{◌≡◌, ℕ, ◌+◌, ◌<◌, ◌∷◌, [], List, get_or, length, take, sym, ap, subst, ◌∙◌, arith}
 use Rattle.std.proofs.lemmas.List.{length-append, length-set}
-use Rattle.std.proofs.lemmas.Grind.{get_or_default_zero}
+use Rattle.std.proofs.lemmas.Grind.{get_or_default_zero, common_steps}
 use Rattle.std.proofs.lemmas.Option.{slice_get_within}
 use Rattle.std.specs.Prelude.{is_some}
 use Rattle.at_ledger.specs.Call.{IsCallOn}
@@ -65,3 +65,24 @@ returns c =
       calls = c.loop-call.invariant.calls ∙ all;
       each = λ i call is. c.loop-call.invariant.before i call (let within = slice_get_within c.args.file.now i call is in omega arith) is;
     }
+
+pub loop-call-init : goal.loop-call-init
+loop-call-init c = grind (arith, common_steps)
+
+pub overflow_cast-account : goal.overflow_cast-account
+overflow_cast-account c = grind (arith, common_steps)
+
+pub offset_bounds-file-call-index : goal.offset_bounds-file-call-index
+offset_bounds-file-call-index c = grind (arith, common_steps)
+
+pub index-requires : goal.index-requires
+index-requires c =
+    let known = first-known c.args.accounts c.call-item.result c.first_account-account.result c.first_account-account.ensures (subst (IsCallOn c.args.accounts) (sym c.call-item.is) (c.requires.known c.loop-call.call-index c.call-item.result c.loop-call-test.true)) in
+    let accounts = c.loop-call.invariant.accounts in
+    omega arith
+
+pub index_mut-requires : goal.index_mut-requires
+index_mut-requires c =
+    let known = first-known c.args.accounts c.call-item.result c.first_account-account.result c.first_account-account.ensures (subst (IsCallOn c.args.accounts) (sym c.call-item.is) (c.requires.known c.loop-call.call-index c.call-item.result c.loop-call-test.true)) in
+    let accounts = c.loop-call.invariant.accounts in
+    omega arith

@@ -1,3 +1,4 @@
+use Rattle.std.proofs.lemmas.Grind.{common_steps}
 use Rattle.std.proofs.Common.{◌≡◌, ℕ, ◌+◌, ◌≤◌, ◌++◌, set, take, Some, [], ◌∷◌, List, length, get_or, sym, ap, subst, ◌∙◌, arith}
 use Rattle.std.specs.Prelude.{slice_get}
 use Rattle.at_ledger.specs.declared.call.Call.{Call}
@@ -57,3 +58,42 @@ pub returns-clause-heard : goal.returns-clause-heard
 returns-clause-heard c past before =
     let whole : take c.loop-stage.stage-index c.args.stages.now ≡ c.args.stages.now = take_all c.loop-stage.stage-index c.args.stages.now (omega arith) in
     subst (λ (xs : List Stage). AreHeard c.args.ground.now (get_or c.args.ground.now.files c.args.process []) (past ++ xs) c.args.process c.loop-stage.replies) whole (c.loop-stage.invariant past before)
+
+pub reply-requires-clause-standing : goal.reply-requires-clause-standing
+reply-requires-clause-standing c = grind (arith, common_steps)
+
+pub bounds-replies-i : goal.bounds-replies-i
+bounds-replies-i c = grind (arith, common_steps)
+
+pub reply-requires-clause-call_in : goal.reply-requires-clause-call_in
+reply-requires-clause-call_in c = grind (arith, common_steps)
+
+pub loop-stage-init : goal.loop-stage-init
+loop-stage-init c = grind (arith, common_steps)
+
+pub made-made-requires : goal.made-made-requires
+made-made-requires c = grind (arith, common_steps)
+
+pub bounds-file-i : goal.bounds-file-i
+bounds-file-i c = grind (arith, common_steps)
+
+pub offset_bounds-replies-i-then-i-file : goal.offset_bounds-replies-i-then-i-file
+offset_bounds-replies-i-then-i-file c = grind (arith, common_steps)
+
+pub reply-requires-clause-process_in : goal.reply-requires-clause-process_in
+reply-requires-clause-process_in c = grind (arith, common_steps)
+
+pub offset_bounds-file-i : goal.offset_bounds-file-i
+offset_bounds-file-i c = grind (arith, common_steps)
+
+pub offset_bounds-replies-i : goal.offset_bounds-replies-i
+offset_bounds-replies-i c = grind (arith, common_steps)
+
+pub overflow_cast-i : goal.overflow_cast-i
+overflow_cast-i c = grind (arith, common_steps)
+
+pub offset_bounds-stages-stage-index : goal.offset_bounds-stages-stage-index
+offset_bounds-stages-stage-index c = grind (arith, common_steps)
+
+pub returns-clause-len : goal.returns-clause-len
+returns-clause-len c = grind (arith, common_steps)

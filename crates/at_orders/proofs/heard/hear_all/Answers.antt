@@ -1,3 +1,4 @@
+use Rattle.std.proofs.lemmas.Grind.{common_steps}
 use Rattle.std.proofs.Common.{◌≡◌, ℕ, ◌+◌, ◌<◌, [], List, length, get_or, set, sym, ap, subst, ◌∙◌, arith}
 use Rattle.std.proofs.lemmas.List.{map-set, with_items_is}
 use Rattle.std.specs.Vec.{with_items}
@@ -53,3 +54,12 @@ returns c = record {
       let same = ap (λ (b : BookTerms). b.processes) c.book.ensures.book in
       part-all c.args.ground.now past c.args.stages.now (contents_of c.loop-process.answers.items) c.loop-process.process (omega arith) (c.loop-process.invariant past all);
 }
+
+pub loop-process-init : goal.loop-process-init
+loop-process-init c = grind (arith, common_steps)
+
+pub index_mut-requires : goal.index_mut-requires
+index_mut-requires c = grind (arith, common_steps)
+
+pub hear-requires-clause-process_in : goal.hear-requires-clause-process_in
+hear-requires-clause-process_in c = grind (arith, common_steps)

@@ -1,3 +1,4 @@
+use Rattle.std.proofs.lemmas.Grind.{common_steps}
 use Rattle.std.proofs.Common.{◌≡◌, ℕ, ◌+◌, ◌<◌, [], List, length, get_or, replicate, sym, subst, ap, ◌∙◌, arith}
 use Rattle.std.proofs.lemmas.List.{get_or-replicate, length-replicate}
 use Rattle.at_ledger.specs.Files.{contents_of}
@@ -25,3 +26,12 @@ loop-process-preserved c =
     subst (λ (answers : List (List Replies)). AreAllHeard g [] answers (p + 1))
     (sym (contents_of-pushed c.push.new.self.items c.loop-process.answers.items c.in_ok-vec.field-0 c.in_ok-push.ensures.items))
     (all-heard-more g [] (contents_of c.loop-process.answers.items) p replies c.loop-process.invariant heard)
+
+pub loop-process-init : goal.loop-process-init
+loop-process-init c = grind (arith, common_steps)
+
+pub returns : goal.returns
+returns c = grind (arith, common_steps)
+
+pub file-file-requires : goal.file-file-requires
+file-file-requires c = grind (arith, common_steps)

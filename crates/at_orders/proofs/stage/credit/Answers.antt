@@ -1,3 +1,4 @@
+use Rattle.std.proofs.lemmas.Grind.{common_steps}
 use Rattle.std.proofs.Common.{◌≡◌, ℕ, ◌+◌, ◌<◌, Some, None, List, length, get_or, set, sym, ap, subst, ◌∙◌, arith}
 use Rattle.at_ledger.specs.Call.{TargetPair}
 use Rattle.at_orders.proofs.Crediting.{IsCreditedTo, credited-all, credited-fits, credited-kept, credited-other}
@@ -44,3 +45,12 @@ pub returns-clause-credited : goal.returns-clause-credited
 returns-clause-credited c all are =
     credited-all c.args.ground.now c.loop-i.balances all c.args.targets.now c.loop-i.i
     (let past = c.loop-i-test.false in let count = c.len-i-end.ensures.count in omega arith) (c.loop-i.invariant.credited all are)
+
+pub find-requires : goal.find-requires
+find-requires c = grind (arith, common_steps)
+
+pub amount-requires : goal.amount-requires
+amount-requires c = grind (arith, common_steps)
+
+pub to-requires : goal.to-requires
+to-requires c = grind (arith, common_steps)

@@ -1,3 +1,4 @@
+use Rattle.std.proofs.lemmas.Grind.{common_steps}
 use Rattle.std.proofs.Common.{ℕ, ◌-◌, List, get_or, set, subst, arith}
 use Rattle.at_orders.specs.Walk.{AreKept}
 use Rattle.at_orders.proofs.Keeping.{kept-set}
@@ -16,3 +17,6 @@ returns-clause-debited c all are =
     let here = are.each c.args.account c.place.result c.place.ensures.place in
     subst (λ (n : ℕ). AreKept g (set kept c.place.result (n - c.args.amount)) (set all c.args.account (get_or all c.args.account 0 - c.args.amount))) here
     (kept-set g kept all c.args.account c.place.result (get_or all c.args.account 0 - c.args.amount) c.book-known.ensures.known.places c.requires.kept c.place.ensures.place are)
+
+pub bounds-balances-place-2 : goal.bounds-balances-place-2
+bounds-balances-place-2 c = grind (arith, common_steps)

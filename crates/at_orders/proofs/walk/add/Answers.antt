@@ -1,4 +1,5 @@
-use Rattle.std.proofs.Common.{Contains, List, sym, subst}
+use Rattle.std.proofs.lemmas.Grind.{common_steps}
+use Rattle.std.proofs.Common.{Contains, List, sym, subst, arith}
 use Rattle.at_orders.specs.Walk.{Grows, HasStage}
 use Rattle.at_orders.specs.declared.stage.Stage.{Stage}
 use Rattle.at_orders.proofs.Seen.{has_same_numbers, inserts, same-numbers}
@@ -15,3 +16,15 @@ returns-clause-only c s there =
 pub returns-clause-has : goal.returns-clause-has
 returns-clause-has c g t stands =
     subst (λ (ks : List Stage). HasStage g ks t) (sym c.in-Ok.ensures.keys) ((inserts has_same_numbers same-numbers c.args.seen.now.keys c.args.stage).has g t stands)
+
+pub returns-in_default-clause-grows : goal.returns-in_default-clause-grows
+returns-in_default-clause-grows c = grind (arith, common_steps)
+
+pub returns-in_default-clause-only : goal.returns-in_default-clause-only
+returns-in_default-clause-only c = grind (arith, common_steps)
+
+pub returns-in_default-clause-len : goal.returns-in_default-clause-len
+returns-in_default-clause-len c = grind (arith, common_steps)
+
+pub returns-clause-len : goal.returns-clause-len
+returns-clause-len c = grind (arith, common_steps)

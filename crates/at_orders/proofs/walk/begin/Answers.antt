@@ -1,3 +1,4 @@
+use Rattle.std.proofs.lemmas.Grind.{common_steps}
 use Rattle.std.proofs.Common.{◌≡◌, ◌≤◌, ◌⊎◌, Contains, length, ap, [], List, subst, arith}
 use Rattle.at_orders.specs.Stages.{first_stage}
 use Rattle.at_orders.specs.declared.stage.Stage.{Stage}
@@ -12,3 +13,6 @@ returns-clause-walked c =
     let few : length c.add.new.seen.keys ≤ 1 = let len = c.in_ok-add.ensures.len in let empty = ap (length {A = Stage}) c.new-seen.ensures.empty in omega arith in
     walked-first c.args.ground.now c.add.new.seen.keys s c.book-known.ensures.known.processes
     c.in_ok-first.ensures.stage c.in_ok-first.ensures.standing only few (c.in_ok-add.ensures.has c.args.ground.now (first_stage c.args.ground.now.book) c.in_ok-first.ensures.stage)
+
+pub returns-clause-one : goal.returns-clause-one
+returns-clause-one c = grind (arith, common_steps)

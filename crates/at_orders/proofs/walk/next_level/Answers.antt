@@ -1,3 +1,4 @@
+use Rattle.std.proofs.lemmas.Grind.{common_steps}
 use Rattle.std.proofs.Common.{◌≡◌, ℕ, ◌+◌, ◌++◌, [], ◌∷◌, All, List, sum, take, sym, ap, subst, ◌∙◌, arith}
 use Rattle.std.proofs.lemmas.List.{take_all, take_more}
 use Rattle.at_orders.specs.declared.stage.Stage.{Stage}
@@ -55,3 +56,18 @@ returns-clause-next c made level =
       apart = c.loop-stage.invariant.apart;
       looked = subst (All (HasAllNext c.args.ground.now c.loop-stage.next.keys)) whole c.loop-stage.invariant.looked;
     }
+
+pub loop-stage-init : goal.loop-stage-init
+loop-stage-init c = grind (arith, common_steps)
+
+pub returns-clause-many : goal.returns-clause-many
+returns-clause-many c = grind (arith, common_steps)
+
+pub returns-in_err-look-clause-many : goal.returns-in_err-look-clause-many
+returns-in_err-look-clause-many c = grind (arith, common_steps)
+
+pub offset_bounds-level-stage-index : goal.offset_bounds-level-stage-index
+offset_bounds-level-stage-index c = grind (arith, common_steps)
+
+pub returns-clause-few : goal.returns-clause-few
+returns-clause-few c = grind (arith, common_steps)

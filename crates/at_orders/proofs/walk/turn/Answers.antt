@@ -1,10 +1,12 @@
-use Rattle.std.proofs.Common.{◌≡◌, ◌+◌, ◌<◌, [], length, get_or, sum, subst, arith}
+use Rattle.std.proofs.lemmas.Grind.{common_steps}
+use Rattle.std.proofs.Common.{◌≡◌, ◌+◌, ◌<◌, [], length, get_or, sum, sym, subst, arith}
+use Rattle.std.proofs.lemmas.Bool.{ltb-false}
 use Rattle.std.proofs.lemmas.Result.{on_ok_weaker}
 use Rattle.at_orders.specs.Stages.{GroundTerms, StageTerms, stage_after}
 use Rattle.at_ledger.specs.declared.call.Call.{Call}
 use Rattle.at_orders.specs.Walk.{HasNext, HasStage, IsNextCall, StandsFor}
 use Rattle.at_orders.specs.declared.stage.Stage.{Stage}
-use Rattle.at_orders.proofs.Seen.{call-known, call-placed, level-with, next-call, next-seen, sum-after}
+use Rattle.at_orders.proofs.Seen.{call-known, call-placed, level-with, next-call, next-none, next-seen, sum-after}
 use Rattle.at_orders.proofs.walk.turn.Goals as goal
 
 pub after-requires-clause-next : goal.after-requires-clause-next
@@ -53,3 +55,28 @@ next-from c has t call stands next =
 
 pub returns-clause-next : goal.returns-clause-next
 returns-clause-next c = on_ok_weaker c.add.result (next-from c) c.add.ensures.has
+
+pub returns-in_err-after-clause-grows : goal.returns-in_err-after-clause-grows
+returns-in_err-after-clause-grows c = grind (arith, common_steps)
+
+pub returns-in_default-clause-grows : goal.returns-in_default-clause-grows
+returns-in_default-clause-grows c = grind (arith, common_steps)
+
+pub returns-in_default-clause-level : goal.returns-in_default-clause-level
+returns-in_default-clause-level c = grind (arith, common_steps)
+
+pub returns-clause-grows : goal.returns-clause-grows
+returns-clause-grows c = grind (arith, common_steps)
+
+pub after-requires-clause-standing : goal.after-requires-clause-standing
+after-requires-clause-standing c = grind (arith, common_steps)
+
+pub after-requires-clause-process_in : goal.after-requires-clause-process_in
+after-requires-clause-process_in c = grind (arith, common_steps)
+
+pub made-requires : goal.made-requires
+made-requires c = grind (arith, common_steps)
+
+pub returns-in_default-clause-next : goal.returns-in_default-clause-next
+returns-in_default-clause-next c t call stands next =
+    absurd (next-none c.args.ground.now c.args.stage.now c.args.process c.file.result.now c.made.result call c.file.ensures.calls c.made.ensures (ltb-false c.made.result (length c.file.result.now) (sym c.in_default.ensures.lookup.0)) next)

@@ -1,3 +1,4 @@
+use Rattle.std.proofs.lemmas.Grind.{common_steps}
 use Rattle.std.proofs.Common.{◌≡◌, ℕ, Option, List, length, take, All, sym, subst, arith}
 use Rattle.std.proofs.lemmas.List.{take_all}
 use Rattle.at_orders.specs.Walk.{ArePlaces, HasFirstPlace, HasPlace}
@@ -26,3 +27,9 @@ pub returns-clause-named : goal.returns-clause-named
 returns-clause-named c =
     let whole : take c.loop-call.call-index c.args.file.now ≡ c.args.file.now = take_all c.loop-call.call-index c.args.file.now (let past = c.loop-call-test.false in omega arith) in
     subst (All (HasFirstPlace c.loop-call.self.of.items)) whole c.loop-call.invariant.named
+
+pub loop-call-init : goal.loop-call-init
+loop-call-init c = grind (arith, common_steps)
+
+pub add-requires-clause-places : goal.add-requires-clause-places
+add-requires-clause-places c = grind (arith, common_steps)

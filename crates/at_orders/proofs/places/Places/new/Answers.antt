@@ -1,3 +1,4 @@
+use Rattle.std.proofs.lemmas.Grind.{common_steps}
 use Rattle.std.proofs.Common.{◌≡◌, ℕ, [], Option, List, length, get_or, take, All, sym, subst, ◌∙◌, arith}
 use Rattle.std.proofs.lemmas.List.{take_all}
 use Rattle.at_ledger.specs.Files.{contents_of}
@@ -39,3 +40,18 @@ returns-clause-named c =
     let size = length-contents_of c.args.files.now in
     let whole : take c.loop-file.file-index files ≡ files = take_all c.loop-file.file-index files (let past = c.loop-file-test.false in omega arith) in
     subst (All (All (HasFirstPlace c.loop-file.places.of.items))) whole c.loop-file.invariant.named
+
+pub loop-file-init : goal.loop-file-init
+loop-file-init c = grind (arith, common_steps)
+
+pub add_file-requires-clause-places : goal.add_file-requires-clause-places
+add_file-requires-clause-places c = grind (arith, common_steps)
+
+pub returns-clause-places : goal.returns-clause-places
+returns-clause-places c = grind (arith, common_steps)
+
+pub bounds-files-file-index : goal.bounds-files-file-index
+bounds-files-file-index c = grind (arith, common_steps)
+
+pub offset_bounds-files-file-index : goal.offset_bounds-files-file-index
+offset_bounds-files-file-index c = grind (arith, common_steps)

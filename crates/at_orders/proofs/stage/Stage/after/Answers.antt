@@ -1,5 +1,5 @@
 use Rattle.std.proofs.Common.{◌≡◌, ℕ, ◌+◌, List, [], get_or, length, set, ap, refl, ◌∙◌, arith}
-use Rattle.std.proofs.lemmas.Grind.{get_or_default_zero}
+use Rattle.std.proofs.lemmas.Grind.{get_or_default_zero, common_steps}
 use Rattle.std.proofs.lemmas.Option.{slice_get_within}
 use Rattle.std.specs.Prelude.{Vec}
 use Rattle.std.specs.Global.{Global}
@@ -35,3 +35,21 @@ returns-clause-stage c =
     stage_after-made c.args.ground.now c.args.self.now c.in_ok-stage.stage c.make.new.self
     (record { made = with_item c.make.new.self.made c.args.process (c.index_mut.result.now + 1); balances = c.make.new.self.balances; sent = c.make.new.self.sent })
     c.args.process c.args.call.now copy.0 copy.1 copy.2 still c.make.ensures.ledger counts refl refl
+
+pub make-requires-clause-standing : goal.make-requires-clause-standing
+make-requires-clause-standing c = grind (arith, common_steps)
+
+pub returns-clause-standing : goal.returns-clause-standing
+returns-clause-standing c = grind (arith, common_steps)
+
+pub index_mut-requires : goal.index_mut-requires
+index_mut-requires c = grind (arith, common_steps)
+
+pub make-requires-clause-next : goal.make-requires-clause-next
+make-requires-clause-next c = grind (arith, common_steps)
+
+pub make-requires-clause-call_in : goal.make-requires-clause-call_in
+make-requires-clause-call_in c = grind (arith, common_steps)
+
+pub make-requires-clause-process_in : goal.make-requires-clause-process_in
+make-requires-clause-process_in c = grind (arith, common_steps)

@@ -1,3 +1,4 @@
+use Rattle.std.proofs.lemmas.Grind.{common_steps}
 use Rattle.std.proofs.Common.{◌≡◌, ℕ, length, map, replicate, take, ap, ◌∙◌, arith}
 use Rattle.std.proofs.lemmas.List.{take_all}
 use Rattle.at_ledger.specs.Book.{BookTerms, account_of}
@@ -28,3 +29,21 @@ returns-clause-standing c =
     (c.in_ok-vec.ensures.items_if_clones_equal (λ y is. is) ∙ ap (λ (n : ℕ). replicate n 0) processes)
     (c.loop-account.invariant ∙ ap (map (λ a. (account_of g.book a).opening)) all)
     (c.in_ok-vec-2.ensures.items_if_clones_equal (λ y is. is) ∙ ap (λ (n : ℕ). replicate n 0) processes)
+
+pub opening-requires : goal.opening-requires
+opening-requires c = grind (arith, common_steps)
+
+pub bounds-account-items-account-index : goal.bounds-account-items-account-index
+bounds-account-items-account-index c = grind (arith, common_steps)
+
+pub offset_bounds-account-items-account-index : goal.offset_bounds-account-items-account-index
+offset_bounds-account-items-account-index c = grind (arith, common_steps)
+
+pub loop-account-init : goal.loop-account-init
+loop-account-init c = grind (arith, common_steps)
+
+pub overflow_cast-processes : goal.overflow_cast-processes
+overflow_cast-processes c = grind (arith, common_steps)
+
+pub loop-account-preserved : goal.loop-account-preserved
+loop-account-preserved c = grind (arith, common_steps)

@@ -1,3 +1,5 @@
+use Rattle.std.proofs.lemmas.Option.{slice_get_within}
+use Rattle.std.proofs.lemmas.Grind.{common_steps}
 use Rattle.std.proofs.Common.{◌≡◌, ℕ, Some, true, leb, length, get_or, take, [], sym, ap, subst, ◌∙◌, arith}
 use Rattle.std.specs.Prelude.{slice_get}
 use Rattle.std.proofs.lemmas.Bool.{le-leb}
@@ -27,3 +29,18 @@ returns-in_default c l has =
     let room : c.request_room.result ≡ g.book.request_room = c.request_room.ensures ∙ ap (λ (b : BookTerms). b.request_room) book in
     ap (λ (r : ℕ). leb r c.payments_before-used.result) room
     ∙ is_full-counted g c.args.self.now l p a i c.payments_before-used.result has c.requires.process_in c.requires.source_in c.requires.owner shared at count
+
+pub owner_count-requires : goal.owner_count-requires
+owner_count-requires c = grind (arith, common_steps)
+
+pub returns-in-0 : goal.returns-in-0
+returns-in-0 c = grind (arith, common_steps)
+
+pub payments_before-used-requires-clause-call_in : goal.payments_before-used-requires-clause-call_in
+payments_before-used-requires-clause-call_in c =
+    let g = c.args.ground.now in
+    let p : ℕ = c.args.process in
+    let next = c.requires.next.1 in
+    let at : c.index-in_default.result.now ≡ get_or c.args.self.now.made.items p 0 =
+    (let known = c.requires.process_in in let counts = c.requires.standing.counts in c.index-in_default.ensures ∙ get_or_default c.args.self.now.made.items p _ 0 (omega arith)) in
+    slice_get_within (get_or g.files p []) c.index-in_default.result.now next.call (subst (λ (n : ℕ). slice_get (get_or g.files p []) n ≡ Some next.call) (sym at) next.next)

@@ -1,3 +1,4 @@
+use Rattle.std.proofs.lemmas.Grind.{common_steps}
 use Rattle.std.proofs.Common.{◌<◌, length, sym, ◌∙◌, arith}
 use Rattle.at_orders.proofs.Requests.{made-read, made-step}
 use Rattle.at_orders.proofs.stage.Stage.make.Goals as goal
@@ -13,3 +14,12 @@ pub returns-in-Some-clause-ledger : goal.returns-in-Some-clause-ledger
 returns-in-Some-clause-ledger c l has =
     made-step c.args.ground.now c.args.self.now c.pay.new.self c.args.process c.in-Some.from c.in-Some.targets c.args.call.now l (sym c.payout.ensures ∙ c.in-Some.is)
     (c.pay.ensures.ledger l has)
+
+pub pay-requires-clause-targets_in : goal.pay-requires-clause-targets_in
+pay-requires-clause-targets_in c = grind (arith, common_steps)
+
+pub pay-requires-clause-next : goal.pay-requires-clause-next
+pay-requires-clause-next c = grind (arith, common_steps)
+
+pub pay-requires-clause-source_in : goal.pay-requires-clause-source_in
+pay-requires-clause-source_in c = grind (arith, common_steps)

@@ -1,3 +1,4 @@
+use Rattle.std.proofs.lemmas.Grind.{common_steps}
 use Rattle.std.proofs.Common.{◌≡◌, ℕ, ◌-◌, List, length, get_or, set, refl, sym, ap, subst, ◌∙◌, arith}
 use Rattle.std.proofs.lemmas.List.{with_items_is}
 use Rattle.std.specs.Global.{Global}
@@ -74,3 +75,12 @@ returns-clause-standing c =
     ∙ (c.debit.ensures.len ∙ (ap (length {A = ℕ}) c.deref_mut.ensures.value ∙ c.requires.standing.balances)))) in
     standing-moved c.args.ground.now c.args.self.now (left c) c.args.source c.args.targets.now c.debit.new.balances (debited c) (added c) refl refl
     c.requires.standing c.requires.source_in c.requires.targets_in (covered-all c.args.ground.now c.args.self.now c.args.source c.args.targets.now c.requires.standing c.requires.covered) sized
+
+pub credit-requires-clause-targets_in : goal.credit-requires-clause-targets_in
+credit-requires-clause-targets_in c = grind (arith, common_steps)
+
+pub credit-requires-clause-kept : goal.credit-requires-clause-kept
+credit-requires-clause-kept c = grind (arith, common_steps)
+
+pub debit-requires-clause-kept : goal.debit-requires-clause-kept
+debit-requires-clause-kept c = grind (arith, common_steps)

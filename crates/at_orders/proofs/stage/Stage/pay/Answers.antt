@@ -1,3 +1,4 @@
+use Rattle.std.proofs.lemmas.Grind.{common_steps}
 use Rattle.std.proofs.Common.{◌<◌, length, refl, sym, ◌∙◌, arith}
 use Rattle.at_orders.proofs.Requests.{made-payment}
 use Rattle.at_orders.proofs.stage.Stage.pay.Goals as goal
@@ -24,3 +25,9 @@ returns-in_default c =
       made = refl;
       standing = c.requires.standing;
     }
+
+pub succeed-requires-clause-targets_in : goal.succeed-requires-clause-targets_in
+succeed-requires-clause-targets_in c = grind (arith, common_steps)
+
+pub succeed-requires-clause-source_in : goal.succeed-requires-clause-source_in
+succeed-requires-clause-source_in c = grind (arith, common_steps)

@@ -1,3 +1,4 @@
+use Rattle.std.proofs.lemmas.Grind.{common_steps}
 use Rattle.std.proofs.Common.{◌≡◌, ℕ, cond, false, get_or, sym, ap, subst, ◌∙◌, arith}
 use Rattle.at_ledger.specs.Account.{is_shared, slots_of}
 use Rattle.at_ledger.specs.Book.{BookTerms, account_of}
@@ -33,3 +34,15 @@ returns-then-slot_count-eq0-clause-ledger c l has =
     let paid : LedgerState = moved l c.args.from c.args.targets.now in
     let own : LedgerState = with_sent paid c.args.process in
     subst (HasNumbers g c.count_sent.new.self) (sym (ap (λ t. cond t paid own) single)) (c.count_sent.ensures.counted paid (c.move_amounts.ensures.moved l has))
+
+pub slot_count-requires : goal.slot_count-requires
+slot_count-requires c = grind (arith, common_steps)
+
+pub move_amounts-requires-clause-covered : goal.move_amounts-requires-clause-covered
+move_amounts-requires-clause-covered c = grind (arith, common_steps)
+
+pub move_amounts-requires-clause-targets_in : goal.move_amounts-requires-clause-targets_in
+move_amounts-requires-clause-targets_in c = grind (arith, common_steps)
+
+pub count_sent-requires-clause-process_in : goal.count_sent-requires-clause-process_in
+count_sent-requires-clause-process_in c = grind (arith, common_steps)

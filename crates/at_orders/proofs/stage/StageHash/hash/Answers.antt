@@ -1,4 +1,5 @@
-use Rattle.std.proofs.Common.{◌≡◌, ℕ, List, take, sym, ap, ◌∙◌}
+use Rattle.std.proofs.lemmas.Grind.{common_steps}
+use Rattle.std.proofs.Common.{◌≡◌, ℕ, List, take, sym, ap, ◌∙◌, arith}
 use Rattle.std.specs.List.{fold}
 use Rattle.std.specs.Hash as fed
 use Rattle.std.proofs.lemmas.List.{take_min}
@@ -14,3 +15,6 @@ returns g c =
     c.hash-2.ensures ∙ (ap (fold g.H.Hasher.write c.hash.new.state) here
     ∙ (ap (λ s. fold g.H.Hasher.write s (fed.slice fed.u64 (take 256 xs))) c.hash.ensures
     ∙ sym (fold-append g.H.Hasher.write c.args.state.now (fed.slice fed.u32 c.args.self.now.made.items) (fed.slice fed.u64 (take 256 xs)))))
+
+pub slice_bounds-hash-end : goal.slice_bounds-hash-end
+slice_bounds-hash-end g c = grind (arith, common_steps)

@@ -1,0 +1,12 @@
+use Rattle.std.proofs.Common.{arith}
+use Rattle.std.proofs.lemmas.Grind.{common_steps}
+use Rattle.at_orders.proofs.stage.Stage.reply.Goals as goal
+
+pub reply_to_pay-requires-clause-next : goal.reply_to_pay-requires-clause-next
+reply_to_pay-requires-clause-next c = grind (arith, common_steps)
+
+pub reply_to_pay-requires-clause-source_in : goal.reply_to_pay-requires-clause-source_in
+reply_to_pay-requires-clause-source_in c = grind (arith, common_steps)
+
+pub returns-in-None : goal.returns-in-None
+returns-in-None c = grind (arith, common_steps)
