@@ -1,3 +1,4 @@
+use Rattle.std.proofs.lemmas.Grind.{common_steps}
 use Rattle.std.proofs.Common.{◌≡◌, ◌*◌, ◌-◌, [], List, All, length, sym, subst, ◌∙◌, arith}
 use Rattle.at_ledger.specs.Files.{IsPlayable, contents_of}
 use Rattle.at_ledger.proofs.FileLists.{get_or-contents_of, length-contents_of}
@@ -34,3 +35,15 @@ loop-process-preserved c =
           room_after c.args.book.now c.loop-process.process c.as_slice.result.now c.loop-process.counts c.add_all.new.counts (16384 * (16 - c.loop-process.process)) _ (omega (arith, playable.few))
           c.loop-process.invariant.room c.add_all.ensures;
     }
+
+pub loop-process-init : goal.loop-process-init
+loop-process-init c = grind (arith, common_steps)
+
+pub add_all-requires-clause-accounts : goal.add_all-requires-clause-accounts
+add_all-requires-clause-accounts c = grind (arith, common_steps)
+
+pub offset_bounds-files-process : goal.offset_bounds-files-process
+offset_bounds-files-process c = grind (arith, common_steps)
+
+pub overflow_cast-process : goal.overflow_cast-process
+overflow_cast-process c = grind (arith, common_steps)

@@ -1,3 +1,4 @@
+use Rattle.std.proofs.lemmas.Grind.{common_steps}
 use Rattle.std.proofs.Common.{◌≡◌, ℕ, ◌∙◌, List, take, get_or, ap, sym, refl, arith}
 use Rattle.at_ledger.specs.Book.{account_of}
 use Rattle.at_kinds.specs.GroupKeys.{group_terms}
@@ -29,3 +30,15 @@ loop-account-preserved c =
 
 pub returns-clause-ordered : goal.returns-clause-ordered
 returns-clause-ordered c = sorted-map _ group_cmp group_terms c.loop-account.groups.keys c.len-ordered.ensures.ordered (λ x y. refl)
+
+pub returns-clause-known : goal.returns-clause-known
+returns-clause-known c = grind (arith, common_steps)
+
+pub returns-clause-groups : goal.returns-clause-groups
+returns-clause-groups c = grind (arith, common_steps)
+
+pub owners_of-requires : goal.owners_of-requires
+owners_of-requires c = grind (arith, common_steps)
+
+pub loop-account-init : goal.loop-account-init
+loop-account-init c = grind (arith, common_steps)

@@ -1,3 +1,4 @@
+use Rattle.std.proofs.lemmas.Grind.{common_steps}
 use Rattle.std.proofs.Common.{◌≡◌, ℕ, ◌<◌, ◌≤◌, ◌^◌, ◌∙◌, cond, ap, sym, length, arith, bytes_eq, List}
 use Rattle.std.specs.Prelude.{slice_index}
 use Rattle.at_ledger.specs.Book.{account_of}
@@ -34,3 +35,24 @@ loop-account-preserved c = λ owners.
           let other : length (account_of b a).owners < 2 = omega (arith, c.owner_count.ensures.count, w.if-owner_count-ge2.false) in
           ap (λ (totals : Totals). total_in totals owners) w.totals-is ∙ omega (arith, before, more, part_of-other b counts owners.items a other)
     ]
+
+pub bounds-counts-account : goal.bounds-counts-account
+bounds-counts-account c = grind (arith, common_steps)
+
+pub returns : goal.returns
+returns c = grind (arith, common_steps)
+
+pub loop-account-init : goal.loop-account-init
+loop-account-init c = grind (arith, common_steps)
+
+pub offset_bounds-counts-account : goal.offset_bounds-counts-account
+offset_bounds-counts-account c = grind (arith, common_steps)
+
+pub overflow_cast-account : goal.overflow_cast-account
+overflow_cast-account c = grind (arith, common_steps)
+
+pub owners_of-requires : goal.owners_of-requires
+owners_of-requires c = grind (arith, common_steps)
+
+pub owner_count-requires : goal.owner_count-requires
+owner_count-requires c = grind (arith, common_steps)

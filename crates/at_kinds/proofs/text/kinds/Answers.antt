@@ -1,4 +1,5 @@
-use Rattle.std.proofs.Common.{ℕ, ◌∙◌, ◌++◌, List, ap, sym, subst}
+use Rattle.std.proofs.lemmas.Grind.{common_steps}
+use Rattle.std.proofs.Common.{ℕ, ◌∙◌, ◌++◌, List, ap, sym, subst, arith}
 use Rattle.std.specs.List.Sorted.{IsStrictlySortedBy}
 use Rattle.at_ledger.specs.Files.{contents_of}
 use Rattle.at_ledger.proofs.FileLists.{length-contents_of}
@@ -29,3 +30,18 @@ returns-clause-groups c =
     let files : List (List Call) = contents_of c.args.files.now in
     let all = subst (λ (n : ℕ). AreCounts b files n c.in_ok-counts.counts) (sym (length-contents_of c.args.files.now ∙ c.requires.processes)) c.in_ok-counts.ensures in
     groups_of-AreGroups b files (subst (λ (gs : List GroupTerms). IsStrictlySortedBy group_cmp gs) (c.in_ok-groups.ensures.groups files all) c.in_ok-groups.ensures.ordered)
+
+pub push_groups-requires : goal.push_groups-requires
+push_groups-requires c = grind (arith, common_steps)
+
+pub push_accounts-requires-clause-counted : goal.push_accounts-requires-clause-counted
+push_accounts-requires-clause-counted c = grind (arith, common_steps)
+
+pub push_accounts-requires-clause-processes : goal.push_accounts-requires-clause-processes
+push_accounts-requires-clause-processes c = grind (arith, common_steps)
+
+pub push_accounts-requires-clause-accounts : goal.push_accounts-requires-clause-accounts
+push_accounts-requires-clause-accounts c = grind (arith, common_steps)
+
+pub groups-requires : goal.groups-requires
+groups-requires c = grind (arith, common_steps)

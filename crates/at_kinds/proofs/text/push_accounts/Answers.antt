@@ -1,3 +1,4 @@
+use Rattle.std.proofs.lemmas.Grind.{common_steps}
 use Rattle.std.proofs.Common.{◌≡◌, ℕ, ◌<◌, ◌∙◌, ◌++◌, ◌∷◌, ap, decimal, length, arith}
 use Rattle.std.proofs.lemmas.List.{get_or_read}
 use Rattle.at_files.specs.Names.{account_name}
@@ -20,3 +21,15 @@ loop-account-preserved c = λ files counts.
     let line : c.push_account.new.out.items ≡ c.loop-account.out.items ++ line_text (account_words b names files a) =
     c.in_ok-push_account.ensures ∙ ap (λ (n : ℕ). c.loop-account.out.items ++ line_text (account_name names a ∷ use_word t ∷ decimal n ∷ owner_words names t.owners)) same in
     line ∙ rw (c.loop-account.invariant files counts) (lines_text-map_more (account_words b names files) c.args.out.now.items a)
+
+pub push_account-requires-clause-processes : goal.push_account-requires-clause-processes
+push_account-requires-clause-processes c = grind (arith, common_steps)
+
+pub push_account-requires-clause-accounts : goal.push_account-requires-clause-accounts
+push_account-requires-clause-accounts c = grind (arith, common_steps)
+
+pub push_account-requires-clause-account_in : goal.push_account-requires-clause-account_in
+push_account-requires-clause-account_in c = grind (arith, common_steps)
+
+pub loop-account-init : goal.loop-account-init
+loop-account-init c = grind (arith, common_steps)

@@ -1,4 +1,5 @@
-use Rattle.std.proofs.Common.{decimal}
+use Rattle.std.proofs.lemmas.Grind.{common_steps}
+use Rattle.std.proofs.Common.{decimal, arith}
 use Rattle.at_report.proofs.NodeTexts.{line_text-words}
 use Rattle.at_kinds.specs.KindsText.{owner_words}
 use Rattle.at_kinds.proofs.text.push_group.Goals as goal
@@ -8,3 +9,6 @@ returns c =
     let g = c.args.group.now in
     rw (c.in_ok-push.ensures.items, c.in_ok-push_names.ensures, c.as_slice.ensures.value, c.in_ok-push_number.ensures.ok)
     (line_text-words c.args.out.now.items (decimal g.payments.0) (owner_words c.args.names.now g.owners.items))
+
+pub push_names-requires : goal.push_names-requires
+push_names-requires c = grind (arith, common_steps)

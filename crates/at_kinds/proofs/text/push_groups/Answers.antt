@@ -1,4 +1,5 @@
-use Rattle.std.proofs.Common.{ℕ, ◌<◌, ◌∙◌, ◌++◌, All, List, ap, append_assoc, length, map, sym}
+use Rattle.std.proofs.lemmas.Grind.{common_steps}
+use Rattle.std.proofs.Common.{ℕ, ◌<◌, ◌∙◌, ◌++◌, All, List, ap, append_assoc, length, map, sym, arith}
 use Rattle.at_report.specs.Lines.{line_text, lines_text}
 use Rattle.at_kinds.specs.GroupKeys.{group_terms}
 use Rattle.at_kinds.specs.KindsText.{group_words}
@@ -25,3 +26,12 @@ loop-group-preserved c =
           ∙ ap (λ (keys : List Group). out ++ lines_text (map words (map group_terms keys))) (sym c.in-Some.ensures.removal)
           ∙ c.loop-group.invariant.text;
     }
+
+pub returns : goal.returns
+returns c = grind (arith, common_steps)
+
+pub loop-group-smaller : goal.loop-group-smaller
+loop-group-smaller c = grind (arith, common_steps)
+
+pub loop-group-init : goal.loop-group-init
+loop-group-init c = grind (arith, common_steps)
