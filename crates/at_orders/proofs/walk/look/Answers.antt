@@ -29,4 +29,4 @@ returns-clause-level c = grind (arith, common_steps)
 
 pub returns-clause-looked : goal.returns-clause-looked
 returns-clause-looked c p below =
-    c.loop-process.invariant.looked p (let past = c.loop-process-test.false in let end = c.processes-process-end.ensures in let book = ap (λ (b : BookTerms). b.processes) c.book.ensures.book in omega arith)
+    c.loop-process.invariant.looked p (let past = c.loop-process-test.false in let book = ap (λ (b : BookTerms). b.processes) c.book.ensures.book in omega arith)
