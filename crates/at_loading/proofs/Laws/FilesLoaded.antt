@@ -127,6 +127,11 @@ MayReach-file given tells files name words b file loaded_is enough reached =
       reached = λ told. rw file_is (record { read = b; loaded_is = loaded_is told; enough = enough; before = reached.1.2 told });
     }
 
+-- nothing stands before the book's file
+pub MayReach-book : {T : Type 0} (given : NamedBook → Giving T) (tells : Bool) (files : Files) (name : Word) (words : List Word) (file : ℕ) → file ≡ 0
+    → MayReachOf given tells files name words file
+MayReach-book given tells files name words file is = rw is (record { named = omega arith; reached = λ told. tt })
+
 -- a process's file that is refused after the book was read
 pub loaded-refused : {T : Type 0} (given : NamedBook → Giving T) (files : Files) (name : Word) (words : List Word) (b : NamedBook) (refusal : Status)
     → book_loaded files name ≡ Ok b → length words ≡ b.book.processes

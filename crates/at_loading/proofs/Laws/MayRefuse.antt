@@ -1,7 +1,9 @@
 -- When a refusal of a part is one of the whole.
-use Rattle.std.proofs.Common.{◌≡◌, ◌≢◌, ◌+◌, ◌-◌, ◌^◌, ◌<◌, arith, refl, ℕ, Bool, true, Result, Ok, Err, ◌⊎◌, inl, inr}
+use Rattle.std.proofs.Common.{◌≡◌, ◌≢◌, ◌+◌, ◌-◌, ◌^◌, ◌<◌, ◌≤◌, arith, refl, ℕ, Bool, true, Result, Ok, Err, ◌⊎◌, inl, inr}
 use Rattle.at_report.specs.declared.status.Status.{Status}
 use Rattle.at_report.specs.declared.status.Status.TheVariants.{Done, Usage, BadBook, BadPayments, ReadFault, WriteFault, NoMemory, TooLong, BadSchedule, BadOrder, BadMessages, NotLegal, TooManyOrders}
+use Rattle.at_report.specs.declared.status.UsageFault.{UsageFault}
+use Rattle.at_files.specs.declared.book_fault.BadBook as of_files
 use Rattle.at_report.specs.declared.status.UsageFault.TheVariants as usage
 use Rattle.at_loading.specs.Faults.{HasFileNumbers, HasFurtherNumbers, IsBrought, IsFaultless, IsUnfetched, IsUnread, Kind, MayRefuseOf, RefusesFile}
 use Rattle.at_loading.specs.Faults.Kind.{payments, scheduled, messages}
@@ -10,6 +12,32 @@ use Rattle.at_io.specs.Faults.{Rose}
 -- the refusal of an answer
 pub refusal_of : {A : Type 0} (answer same : Result A Status) (refusal other : Status) → answer ≡ same → answer ≡ Err refusal → same ≡ Err other → refusal ≡ other
 refusal_of answer same refusal other is one two = cc
+
+-- what was made is no refusal, and a refusal of the number of files no read fault
+pub made-refused : {A : Type 0} (made : A) (refusal : Status) → Ok made ≡ Err refusal → ⊥
+made-refused made refusal is = cc
+
+pub usage-read_fault : {A : Type 0} (fault : UsageFault) (file : ℕ) (same : Result A Status) → same ≡ Err (Usage fault) → same ≡ Err (ReadFault file) → ⊥
+usage-read_fault fault file same one two = cc
+
+pub book-read_fault : {A : Type 0} (bad : of_files.BadBook) (file : ℕ) (same : Result A Status) → same ≡ Err (BadBook bad) → same ≡ Err (ReadFault file) → ⊥
+book-read_fault bad file same one two = cc
+
+pub memory-read_fault : {A : Type 0} (file : ℕ) (same : Result A Status) → same ≡ Err NoMemory → same ≡ Err (ReadFault file) → ⊥
+memory-read_fault file same one two = cc
+
+pub long-read_fault : {A : Type 0} (number file : ℕ) (same : Result A Status) → same ≡ Err (TooLong number) → same ≡ Err (ReadFault file) → ⊥
+long-read_fault number file same one two = cc
+
+pub read_fault-file : {A : Type 0} (number file : ℕ) (same : Result A Status) → same ≡ Err (ReadFault number) → same ≡ Err (ReadFault file) → file ≡ number
+read_fault-file number file same one two = cc
+
+-- counts that never fall
+pub later-kept : (first second : ℕ) → second ≡ first → first ≤ second
+later-kept first second kept = omega arith
+
+pub later-then : (first second third : ℕ) → first ≤ second → second ≤ third → first ≤ third
+later-then first second third one two = omega arith
 
 IsBrought-whole : {A B : Type 0} (tells : Bool) (part : Result A Status) (whole : Result B Status) (before now : ℕ) (refusal : Status)
     → (tells ≡ true → part ≡ Err refusal → whole ≡ Err refusal) → IsBrought tells part before now refusal → IsBrought tells whole before now refusal
@@ -135,3 +163,24 @@ MayRefuse-loaded messages tells expected l before now out_before out_now (BadMes
     absurd (IsBrought-loaded tells expected l before now (BadMessages process line why) told is (refuses (λ e. cc) (λ e. cc)))
 MayRefuse-loaded kind tells expected l before now out_before out_now (NotLegal line) told is shelf out writes refuses = absurd (refuses (λ e. cc) (λ e. cc))
 MayRefuse-loaded kind tells expected l before now out_before out_now TooManyOrders told is shelf out writes refuses = absurd (refuses (λ e. cc) (λ e. cc))
+
+-- the numbers of a refusal of a process's file
+pub HasFileNumbers-file : {A : Type 0} (kind : Kind) (given : Result A Status) (process files : ℕ) (refusal : Status) → process < files → RefusesFile kind given process refusal → HasFileNumbers files refusal
+HasFileNumbers-file kind given process files NoMemory below h = tt
+HasFileNumbers-file payments given process files (BadPayments p bad) below h = rw h.0 below
+HasFileNumbers-file scheduled given process files (BadPayments p bad) below h = rw h.0 below
+HasFileNumbers-file messages given process files (BadMessages p line why) below h = rw h.0 below
+HasFileNumbers-file payments given process files (BadMessages p line why) below h = absurd h
+HasFileNumbers-file scheduled given process files (BadMessages p line why) below h = absurd h
+HasFileNumbers-file messages given process files (BadPayments p bad) below h = absurd h
+HasFileNumbers-file kind given process files (ReadFault file) below h = absurd h
+HasFileNumbers-file kind given process files (Usage (usage.Files wanted given_files)) below h = absurd h
+HasFileNumbers-file kind given process files (Usage usage.Words) below h = tt
+HasFileNumbers-file kind given process files (BadBook bad) below h = tt
+HasFileNumbers-file kind given process files (TooLong file) below h = absurd h
+HasFileNumbers-file kind given process files Done below h = tt
+HasFileNumbers-file kind given process files WriteFault below h = tt
+HasFileNumbers-file kind given process files (BadSchedule line why) below h = tt
+HasFileNumbers-file kind given process files (BadOrder line why) below h = tt
+HasFileNumbers-file kind given process files (NotLegal line) below h = tt
+HasFileNumbers-file kind given process files TooManyOrders below h = tt

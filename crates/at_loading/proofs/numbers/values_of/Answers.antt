@@ -1,3 +1,4 @@
+use Rattle.std.proofs.lemmas.Grind.{common_steps}
 use Rattle.std.proofs.Common.{◌≡◌, ◌^◌, ◌<◌, [], get_or, length, sym, ◌∙◌, ap, arith}
 use Rattle.std.proofs.lemmas.List.{length_push, length-map}
 use Rattle.std.proofs.lemmas.List.Elements.{All-push}
@@ -21,3 +22,15 @@ loop-word-preserved c =
       count = rw (c.push.ensures.items, length_push) (omega (arith, before.count));
       below = rw c.push.ensures.items (All-push (λ value. value < 2 ^ 32) c.loop-word.values.items c.in_ok-value_of.field-0 before.below c.in_ok-value_of.ensures.below);
     }
+
+pub returns-clause-below : goal.returns-clause-below
+returns-clause-below c = grind (arith, common_steps)
+
+pub returns-in_err-value_of-clause-count : goal.returns-in_err-value_of-clause-count
+returns-in_err-value_of-clause-count c = grind (arith, common_steps)
+
+pub returns-in_err-value_of-clause-below : goal.returns-in_err-value_of-clause-below
+returns-in_err-value_of-clause-below c = grind (arith, common_steps)
+
+pub returns-clause-values : goal.returns-clause-values
+returns-clause-values c = grind (arith, common_steps)
