@@ -10,4 +10,3 @@ pub mod Appending
 pub mod LastRecord
 pub mod Loading
 pub mod Ended
-pub mod InTime

@@ -78,6 +78,11 @@ pub fn learn_from(board: &Board, seat: &mut BoardSeat, rest: &Rest, other: &mut 
     requires board { IsOf seat.old board.now }
     requires other { IsOf other.old board.now }
     requires pass { IsOfOnePass seat.old rest.now }
+    ensures same { seat.new.knows ≡ record seat.old.knows {
+      seen = seat.new.knows.seen;
+      requests = seat.new.knows.requests;
+      decisions = seat.new.knows.decisions;
+    } }
     ensures begins { IsPrefix seat.old.knows.seen seat.new.knows.seen }
     ensures told { IsPrefix other.old.knows.seen seat.new.knows.seen }
     ensures stands { (receipts : List Receipt) → Stands (pass_of seat.old rest.now) receipts
