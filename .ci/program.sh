@@ -93,6 +93,46 @@ total 10
 END
 printed 'a journal against the order of the processes' wanted
 
+# Process 1 has its record ready. Process 0 has one load left of its look, before which the last turn has process 1 publish, or not.
+turns 1 13 0 3 1 1
+replayed <<END
+journal 2
+1 1 transfer 1 0 10 done
+0 1 transfer 0 1 10 done
+balances 2
+0 0
+1 10
+total 10
+END
+printed 'a journal whose order the last record of the schedule decides' wanted
+
+turns 1 13 0 3
+replayed <<END
+journal 2
+0 1 transfer 0 1 10 short
+1 1 transfer 1 0 10 done
+balances 2
+0 10
+1 0
+total 10
+END
+printed 'a journal without that record' wanted
+
+lines read,1 | tee pay0.csv >pay1.csv
+for first in 0 1; do
+    turns "$first" 4
+    replayed <<END
+journal 2
+0 1 read 1 10
+1 1 read 1 10
+balances 2
+0 0
+1 10
+total 10
+END
+    printed "a journal of two reads at one place, that of process $first made first" wanted
+done
+
 lines transfer,0,1,1 transfer,0,1,7 >pay0.csv
 lines transfer,1,0,4 transfer,1,0,3 transfer,1,0,11 >pay1.csv
 turns 0 4 1 28 0 28

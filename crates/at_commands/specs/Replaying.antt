@@ -2,7 +2,6 @@
 use Rattle.std.specs.Prelude.{◌≡◌, ℕ, ◌+◌, ◌⊎◌, Bool, true, List, length, sum, Result, Ok, Err}
 use Rattle.at_ledger.specs.Book.{total_of}
 use Rattle.at_ledger.specs.Run.{Legal, Whole, last_state}
-use Rattle.at_ledger.specs.declared.call.Line.{Line}
 use Rattle.at_files.specs.Records.{file_records}
 use Rattle.at_files.specs.Results.{and_then}
 use Rattle.at_files.specs.Schedule.{Schedules, schedule_of}
@@ -14,20 +13,23 @@ use Rattle.at_report.specs.declared.status.Status.{Status}
 use Rattle.at_report.specs.declared.status.Status.TheVariants as status
 use Rattle.at_loading.specs.Loading.{Files, HoldsFile, Loaded, MayReachOf, PaysReplayBytes, SpelledOf, all_loaded, fetched, replay_calls_given}
 use Rattle.at_loading.specs.Words.{Replaying}
+use Rattle.at_stepper.specs.InTurns.{IsReplayBy}
+use Rattle.at_stepper.specs.declared.replaying.Replayed.{Replayed}
 
 -- a book, the calls of each process, and the schedule of their turns
 pub record Replay : Type 0 where
   pub what : Loaded
   pub schedule : List ℕ
 
--- the text is the report of one legal run of the files' calls, each process's once and in file order. The balances that it prints are
--- the run's last, and their sum is that of the openings
-pub record ReportsReplay (l : Loaded) (text : List ℕ) : Type 0 where
-  pub lines : List Line
-  pub whole : Whole l.files lines
-  pub legal : Legal l.book lines
-  pub total : sum (last_state l.book lines).balances ≡ total_of l.book
-  pub printed : text ≡ report_text l.book l.names lines
+-- the text is the report of what was made of the files' calls by the turns of the schedule: one legal run, each process's calls once and in
+-- file order. The balances that it prints are the run's last, and their sum is that of the openings
+pub record ReportsReplay (r : Replay) (text : List ℕ) : Type 0 where
+  pub made : Replayed
+  pub replay : IsReplayBy r.what.book r.what.files r.schedule made
+  pub whole : Whole r.what.files made.lines.items
+  pub legal : Legal r.what.book made.lines.items
+  pub total : sum (last_state r.what.book made.lines.items).balances ≡ total_of r.what.book
+  pub printed : text ≡ report_text r.what.book r.what.names made.lines.items
 
 -- the number of the schedule, which comes after all other files
 abbrev pub schedule_number : Replaying → ℕ
@@ -71,7 +73,7 @@ pub record ReplaysSpelled (files : Files) (asked : Replaying) (text : List ℕ) 
   pub replay : Replay
   pub read : replay_loaded files asked ≡ Ok replay
   pub spelled : SpellsReplay files asked replay
-  pub printed : ReportsReplay replay.what text
+  pub printed : ReportsReplay replay text
 
 -- the file with this number is the schedule, and where the files are told all others are good
 pub record ReachesSchedule (tells : Bool) (files : Files) (asked : Replaying) (file : ℕ) : Type 0 where

@@ -70,7 +70,8 @@ fn replayed_text(
     requires count { length loaded.files.items ≡ loaded.book.processes }
     requires known { All (IsPlayable (length loaded.book.accounts)) (contents_of loaded.files.items) }
     requires schedule { All (λ process. process < loaded.book.processes) schedule.now }
-    ensures { IfOk result (λ text. ReportsReplay (loaded_shown loaded) text.items) }
+    ensures { IfOk result (λ text. ReportsReplay
+        (record { what = loaded_shown loaded; schedule = schedule.now }) text.items) }
 {
     let Loaded { book, names, files } = loaded;
     let replayed = replay(alloc, &book, files, schedule)?;

@@ -1,5 +1,6 @@
 -- A caller whose call goes on, or is answered.
-use Rattle.std.proofs.Common.{◌≡◌, ℕ, ◌+◌, ◌-◌, ◌*◌, ◌<◌, ◌≤◌, ◌⊎◌, Bool, true, false, cond, List, [], ◌∷◌, ◌++◌, drop, length, get_or, take, None, Option, Some, refl, sym, ap, subst, ◌∙◌, arith, inl, inr, length-append}
+use Rattle.std.specs.Prelude.{IfSome, IsSome, ◌↔◌}
+use Rattle.std.proofs.Common.{◌≡◌, ℕ, zero, suc, ◌+◌, ◌-◌, ◌*◌, ◌<◌, ◌≤◌, ◌⊎◌, Bool, true, false, cond, List, [], ◌∷◌, ◌++◌, drop, length, get_or, take, None, Option, Some, refl, sym, ap, subst, ◌∙◌, arith, inl, inr, length-append}
 use Rattle.std.proofs.lemmas.Bool.{cases_Bool}
 use Rattle.std.proofs.lemmas.List.{map-append, take_more}
 use Rattle.std.proofs.lemmas.List.Sums.{sum_by-drop_more}
@@ -14,17 +15,22 @@ use Rattle.at_log.specs.Receipts.{calls_of}
 use Rattle.at_log.specs.declared.receipt.Receipt.{Receipt}
 use Rattle.at_object.specs.Parted.{IsOfOnePass, pass_of}
 use Rattle.at_object.specs.CallCounts.{CallCountTerms, with_one_call}
-use Rattle.at_object.specs.Passes.{PassTerms, Stands, seat_of}
+use Rattle.at_object.specs.Passes.{PassTerms, Stands, asked_by, seat_of, sent_by}
 use Rattle.at_object.specs.Payments.{IsRefused, has_used_up}
 use Rattle.at_object.specs.declared.parts.Rest.{Rest}
 use Rattle.at_object.proofs.Laws.Calls.{process-CallMade}
-use Rattle.at_stepper.specs.Callers.{CallerTerms, IsAnswered, IsFile, IsStillCalling, caller_turns_left, calls_left_of, is_refused, most_turns, next_call, steps_in}
-use Rattle.at_calling.specs.Calling.{CallingTerms, IsCallWithin, IsWay, call_turns_left, exchanges_made, exchanges_of, pass_before, refusal_in, steps_made, steps_of}
+use Rattle.at_stepper.specs.Callers.{CallerTerms, HasLearned, IsAnswered, IsFile, IsStillCalling, caller_turns_left, calls_left_of, is_refused, most_turns, next_call, steps_in}
+use Rattle.at_calling.specs.Calling.{CallingTerms, IsCallWithin, IsWay, MakesCallStep, call_turns_left, exchanges_made, exchanges_of, pass_before, refusal_in, steps_made, steps_of}
 use Rattle.at_object.specs.Calls.{CallMade, StaysWithin}
-use Rattle.at_stepper.specs.KeptCallers.{IsCallBegun, IsCallerOf, IsMakingSo, IsNextInMaking, caller_of, pass_in, stage_in}
+use Rattle.at_history.specs.Publications.{IsPrefix}
+use Rattle.at_stepper.proofs.LookLaws.{look-CallMade}
+use Rattle.at_history.proofs.Laws.Prefixes.{IsPrefix-refl}
+use Rattle.at_stepper.specs.KeptCallers.{IsCallerOf, IsNextInMaking, StartsNext, TakesTurn, caller_of, stage_in}
+use Rattle.at_board.specs.Counting.{raised}
 use Rattle.at_calling.specs.declared.call_stage.CallStage.{CallStage}
 use Rattle.at_calling.specs.declared.call_stage.CallStage.TheVariants.{PayAlone, PayShared, Read as ReadOn, Refuse, Refused}
-use Rattle.at_stepper.specs.declared.turned.Turned.TheVariants.{Answer}
+use Rattle.at_stepper.specs.declared.turned.Turned.{Turned}
+use Rattle.at_stepper.specs.declared.turned.Turned.TheVariants.{Answer, Step}
 
 -- a turn that isn't a call's last makes a step
 pub steps_of-going_on : (b : BookTerms) (stage : CallStage) → 1 < call_turns_left b stage → steps_of stage ≡ 1
@@ -89,45 +95,113 @@ call-CallMade b before after (Transfer from to amount) r made = made.call_is
 call-CallMade b before after (Read account) r made = made.call_is
 call-CallMade b before after (Pay from targets) r made = made.call_is
 
--- the pass between calls, once the next one is begun
-pub pass_in-IsCallBegun : (b : BookTerms) (seat : SeatTerms) (rest : Rest) (calls : List Call) (made : ℕ) (next : Option CallingTerms)
-    → IsCallBegun b seat rest calls made next → pass_in seat rest next ≡ pass_of seat rest
-pass_in-IsCallBegun b seat rest calls made None begun = refl
-pass_in-IsCallBegun b seat rest calls made (Some c) begun = ap (λ (s : SeatTerms). pass_of s c.was) begun.start ∙ ap (λ (x : Rest). pass_of seat x) begun.was
+-- an answer is some receipt
+none_answered : (answer : Option Receipt) → IsSome answer → ((r : Receipt) → answer ≡ Some r → ⊥) → ⊥
+none_answered None some unanswered = absurd (cc some)
+none_answered (Some r) some unanswered = unanswered r refl
 
-pub unturned-IsCallBegun : (b : BookTerms) (seat : SeatTerms) (rest : Rest) (calls : List Call) (made : ℕ) (next : Option CallingTerms)
-    → IsCallBegun b seat rest calls made next → steps_made (stage_in next) ≡ 0
-unturned-IsCallBegun b seat rest calls made None begun = refl
-unturned-IsCallBegun b seat rest calls made (Some c) begun = begun.unturned
+-- what a turn makes of a caller as it was, it makes of the caller
+pub TakesTurn-caller : (b : BookTerms) (was now after : CallerTerms) (turned : Turned) (stage : CallStage) → was ≡ now → was.stage ≡ Some stage
+    → TakesTurn b was after turned stage → IfSome now.stage (TakesTurn b now after turned)
+TakesTurn-caller b was now after turned stage same is takes =
+    subst (λ (c : CallerTerms). IfSome c.stage (TakesTurn b c after turned)) same
+    (subst (λ (o : Option CallStage). IfSome o (TakesTurn b was after turned)) (sym is) takes)
 
-pub unexchanged-IsCallBegun : (b : BookTerms) (seat : SeatTerms) (rest : Rest) (calls : List Call) (made : ℕ) (next : Option CallingTerms)
-    → IsCallBegun b seat rest calls made next → exchanges_made (stage_in next) ≡ 0
-unexchanged-IsCallBegun b seat rest calls made None begun = refl
-unexchanged-IsCallBegun b seat rest calls made (Some c) begun = begun.unexchanged
+-- a call goes on where it isn't answered
+pub left-going_on : (answer : Option Receipt) (left : ℕ) → IsSome answer ↔ (left ≡ 0) → ((r : Receipt) → answer ≡ Some r → ⊥) → 0 < left
+left-going_on answer zero ends unanswered = absurd (none_answered answer (ends.1 refl) unanswered)
+left-going_on answer (suc left) ends unanswered = omega arith
 
-pub way-IsCallBegun : (b : BookTerms) (seat : SeatTerms) (rest : Rest) (calls : List Call) (made : ℕ) (next : Option CallingTerms)
-    → IsCallBegun b seat rest calls made next → made < length calls
-    → IsWay b (pass_in seat rest next) (get_or calls made (Call.Read 0)) (stage_in next)
-way-IsCallBegun b seat rest calls made None begun more = absurd (omega (arith, begun, more))
-way-IsCallBegun b seat rest calls made (Some c) begun more =
-    subst (λ (p : PassTerms). IsWay b p (get_or calls made (Call.Read 0)) c.stage) (sym (pass_in-IsCallBegun b seat rest calls made (Some c) begun))
-    (subst (λ (call : Call). IsWay b (pass_of seat rest) call c.stage) begun.call begun.way)
+-- no call is in the making where nothing goes on
+pub none-stage_in : (making : Option CallingTerms) → stage_in making ≡ None → making ≡ None
+none-stage_in None none = refl
+none-stage_in (Some c) none = absurd (cc none)
 
--- all calls are made, or the next one is in the making
-pub IsMakingSo-IsCallBegun : (b : BookTerms) (seat : SeatTerms) (rest : Rest) (calls : List Call) (made : ℕ) (next : Option CallingTerms)
-    → IsCallBegun b seat rest calls made next → made ≤ length calls → seat.knows.book ≡ b → IsOfOnePass seat rest
-    → IsMakingSo calls made (get_or calls made (Call.Read 0)) seat rest next
-IsMakingSo-IsCallBegun b seat rest calls made None begun within book pass = (omega (arith, begun, within), pass)
-IsMakingSo-IsCallBegun b seat rest calls made (Some c) begun within book pass = record {
-  more = begun.more;
-  call_is = begun.call;
-  mark = begun.mark;
-  rest_is = begun.rest_is;
-  book = ap (λ (s : SeatTerms). s.knows.book) begun.start;
-  left = subst (λ (x : BookTerms). 0 < call_turns_left x c.stage) (sym book) begun.left;
-  way = λ none. subst (λ (x : BookTerms). IsWay x (pass_before c) (get_or calls made (Call.Read 0)) c.stage) (sym book)
-      (way-IsCallBegun b seat rest calls made (Some c) begun begun.more);
-}
+-- a caller between two calls that learns
+module _ (seat after : SeatTerms) (rest : Rest) (calls : List Call) (receipts : List Receipt) (room : ℕ)
+    (was : IsCallerOf seat rest calls receipts None room) (board : after.board ≡ seat.board) (book : after.knows.book ≡ seat.knows.book)
+    (same : after.knows ≡ record seat.knows { seen = after.knows.seen; requests = after.knows.requests; decisions = after.knows.decisions })
+    (begins : IsPrefix seat.knows.seen after.knows.seen) (stands : Stands (pass_of seat rest) receipts → Stands (pass_of after rest) receipts)
+    (process : after.knows.first ≡ seat.knows.first) (sent : sent_by (pass_of after rest) ≡ sent_by (pass_of seat rest))
+    (asked : (a : ℕ) → asked_by (pass_of after rest) a ≡ asked_by (pass_of seat rest) a) (steps : after.steps ≡ seat.steps)
+    (exchanges : after.exchanges ≡ seat.exchanges) (pass : IsOfOnePass after rest) where
+  pub HasLearned-seat : HasLearned (caller_of seat rest calls receipts None) (caller_of after rest calls receipts None)
+  HasLearned-seat = record {
+    same = refl;
+    pass_same =
+        λ t. record { board = board t; knows = after.knows; steps = steps t; exchanges = exchanges t; counted = rest.totals.upto; calls = rest.calls.count };
+    knows_same = same;
+    begins = begins;
+    process_is = process;
+    sent = sent;
+    asked = asked;
+    stands = stands was.caller.stands;
+  }
+
+  pub IsCallerOf-learned : IsCallerOf after rest calls receipts None room
+  IsCallerOf-learned = record {
+    caller = record {
+      file = subst (λ (x : BookTerms). IsFile (length x.accounts) calls) (sym book) was.caller.file;
+      stands = stands was.caller.stands;
+      counted = was.caller.counted;
+      made = was.caller.made;
+      within = was.caller.within;
+      fits = was.caller.fits;
+    };
+    making_so = pass;
+  }
+
+-- a caller that begins its next call
+module _ (b : BookTerms) (seat : SeatTerms) (rest : Rest) (calls : List Call) (receipts : List Receipt) (room : ℕ)
+    (was : IsCallerOf seat rest calls receipts None room) (book : seat.knows.book ≡ b) (kept : IsKept seat.knows) (more : length receipts < length calls)
+    (c : CallingTerms) (call_is : c.call ≡ get_or calls (length receipts) (Call.Read 0)) (start : c.start ≡ seat) (was_rest : c.was ≡ rest)
+    (mark : c.mark ≡ seat) (rest_is : c.rest ≡ rest) (way : IsWay b (pass_of seat rest) c.call c.stage) (unturned : steps_made c.stage ≡ 0)
+    (unexchanged : exchanges_made c.stage ≡ 0) (left : 0 < call_turns_left b c.stage) where
+  abbrev begun : CallerTerms
+  begun = caller_of seat rest calls receipts (Some c)
+
+  abbrev idle : CallerTerms
+  idle = caller_of seat rest calls receipts None
+
+  begun_pass : pass_before c ≡ pass_of seat rest
+  begun_pass = ap (λ (s : SeatTerms). pass_of s c.was) start ∙ ap (λ (x : Rest). pass_of seat x) was_rest
+
+  next_way : IsWay b (pass_of seat rest) (next_call idle) c.stage
+  next_way = subst (λ (call : Call). IsWay b (pass_of seat rest) call c.stage) call_is way
+
+  pub StartsNext-begun : StartsNext b idle begun
+  StartsNext-begun = record {
+    stage = c.stage;
+    same = λ t. record { pass = begun_pass t; seat = seat; totals = rest.totals; calls = calls; receipts = receipts; stage = Some c.stage };
+    history = kept.history;
+    way = next_way;
+    unturned = unturned;
+    unexchanged = unexchanged;
+  }
+
+  pub IsCallerOf-begun : IsCallerOf seat rest calls receipts (Some c) room
+  IsCallerOf-begun = record {
+    caller = record {
+      file = was.caller.file;
+      stands = subst (λ (p : PassTerms). Stands p receipts) (sym begun_pass) was.caller.stands;
+      counted = ap (λ (p : PassTerms). p.calls) begun_pass ∙ was.caller.counted;
+      made = was.caller.made;
+      within = was.caller.within;
+      fits = was.caller.fits;
+    };
+    making_so = record {
+      more = more;
+      call_is = call_is;
+      mark = mark;
+      rest_is = rest_is;
+      book = ap (λ (s : SeatTerms). s.knows.book) start;
+      begins = subst (λ (s : SeatTerms). IsPrefix s.knows.seen seat.knows.seen) (sym start) (IsPrefix-refl seat.knows.seen);
+      left = subst (λ (x : BookTerms). 0 < call_turns_left x c.stage) (sym book) left;
+      way = λ none.
+          subst (λ (x : BookTerms). IsWay x (pass_before c) (next_call idle) c.stage) (sym book)
+          (subst (λ (p : PassTerms). IsWay b p (next_call idle) c.stage) (sym begun_pass) next_way);
+    };
+  }
 
 -- a turn of the call in the making, which may be its last
 module _ (b : BookTerms) (seat : SeatTerms) (rest : Rest) (calls : List Call) (receipts : List Receipt) (c : CallingTerms) (room : ℕ)
@@ -153,7 +227,7 @@ module _ (b : BookTerms) (seat : SeatTerms) (rest : Rest) (calls : List Call) (r
       (same_call : d.call ≡ c.call) (same_start : d.start ≡ c.start) (same_was : d.was ≡ c.was)
       (turns : steps_made d.stage ≡ steps_made c.stage + steps_of c.stage)
       (exchanges : exchanges_made d.stage ≡ exchanges_made c.stage + exchanges_of c.stage)
-      (fewer : call_turns_left b d.stage < call_turns_left b c.stage)
+      (fewer : call_turns_left b d.stage < call_turns_left b c.stage) (more : IsPrefix c.start.knows.seen after_seat.knows.seen)
       (so_far : IsCallWithin b (pass_before c) c.call after_seat.knows after_rest.totals.upto (steps_made d.stage) (exchanges_made d.stage)) where
     same_pass : pass_before d ≡ pass_before c
     same_pass = ap (λ (s : SeatTerms). pass_of s d.was) same_start ∙ ap (λ (x : Rest). pass_of c.start x) same_was
@@ -179,20 +253,36 @@ module _ (b : BookTerms) (seat : SeatTerms) (rest : Rest) (calls : List Call) (r
       abbrev going_on : CallerTerms
       going_on = caller_of after_seat after_rest calls receipts (Some d)
 
-      pub IsStillCalling-turned : IsStillCalling b before going_on
+      IsStillCalling-turned : IsStillCalling b before going_on c.stage
       IsStillCalling-turned = record {
         pass = same_pass;
         receipts = refl;
+        going_on = (d.stage, refl);
         turns = omega (arith, turns, one_step);
         exchanges = exchanges;
+        begins = more;
         within = within_call;
       }
 
-      pub steps_of-turned : steps_of c.stage ≡ 1
-      steps_of-turned = one_step
-
-      pub all_turns_left-turned : caller_turns_left b going_on < caller_turns_left b before
+      all_turns_left-turned : caller_turns_left b going_on < caller_turns_left b before
       all_turns_left-turned = omega (arith, turns, one_step, few_turns, all_turns_left-before)
+
+      -- so its turn is taken, where the seat has counted its step
+      pub TakesTurn-turned : MakesCallStep b c.stage seat after_seat after_rest.totals → after_seat.steps ≡ raised seat.steps (steps_of c.stage)
+          → after_seat.exchanges ≡ raised seat.exchanges (exchanges_of c.stage) → TakesTurn b before going_on Step c.stage
+      TakesTurn-turned made counted exchanged = record {
+        leaves = IsStillCalling-turned;
+        step = made;
+        kind = sym one_step;
+        steps = counted ∙ ap (raised seat.steps) one_step;
+        exchanges = exchanged;
+        calls = refl;
+        process_is = ap (λ (p : PassTerms). p.knows.first) same_pass;
+        left = omega arith;
+        turns_left = all_turns_left-turned;
+        stands = subst (λ (p : PassTerms). Stands p receipts) (sym same_pass) was.caller.stands;
+        between = λ none. absurd (cc none);
+      }
 
       pub IsCallerOf-turned : IsCallerOf after_seat after_rest calls receipts (Some d) room
       IsCallerOf-turned = record {
@@ -210,79 +300,72 @@ module _ (b : BookTerms) (seat : SeatTerms) (rest : Rest) (calls : List Call) (r
           mark = mark;
           rest_is = rest_is;
           book = ap (λ (s : SeatTerms). s.knows.book) same_start ∙ (next.book ∙ (book ∙ sym same_book));
+          begins = subst (λ (s : SeatTerms). IsPrefix s.knows.seen after_seat.knows.seen) (sym same_start) more;
           left = subst (λ (x : BookTerms). 0 < call_turns_left x d.stage) (sym same_book) left;
           way = λ none. absurd (omega (arith, none, turns, one_step));
         };
       }
 
-    -- the call is answered, and the next one is begun
+    -- the call is answered
     module _ (r : Receipt) (made : CallMade b (pass_before c) (pass_of after_seat after_rest) c.call r)
         (stands : (earlier : List Receipt) → Stands (pass_before c) earlier → Stands (pass_of after_seat after_rest) (earlier ++ r ∷ []))
         (one_pass : IsOfOnePass after_seat after_rest) (one_more : after_rest.calls ≡ with_one_call c.was.calls)
         (within : StaysWithin b (pass_before c) (pass_of after_seat after_rest) c.call r) (none : IsRefused r → steps_made d.stage ≡ 0) (all : List Receipt)
-        (pushed : all ≡ receipts ++ r ∷ []) (then : Option CallingTerms) (begun : IsCallBegun b after_seat after_rest calls (length all) then) where
+        (pushed : all ≡ receipts ++ r ∷ []) where
       abbrev answered : CallerTerms
-      answered = caller_of after_seat after_rest calls all then
-
-      after_pass : pass_in after_seat after_rest then ≡ pass_of after_seat after_rest
-      after_pass = pass_in-IsCallBegun b after_seat after_rest calls (length all) then begun
+      answered = caller_of after_seat after_rest calls all None
 
       count : length all ≡ length receipts + 1
       count = ap (λ (rs : List Receipt). length rs) pushed ∙ length-append receipts (r ∷ [])
 
-      steps : steps_of c.stage ≡ steps_in (Answer r)
-      steps = steps_in-Answer b (pass_before c) (pass_of after_seat after_rest) c.call c.stage r made
+      steps_of-answered : steps_of c.stage ≡ steps_in (Answer r)
+      steps_of-answered = steps_in-Answer b (pass_before c) (pass_of after_seat after_rest) c.call c.stage r made
           (λ refused. sym turns ∙ none refused) way_in_making left_in_making
 
-      stands_all : Stands (pass_in after_seat after_rest then) all
-      stands_all =
-          subst (λ (p : PassTerms). Stands p all) (sym after_pass)
-          (subst (λ (rs : List Receipt). Stands (pass_of after_seat after_rest) rs) (sym pushed) (stands receipts was.caller.stands))
+      stands_all : Stands (pass_of after_seat after_rest) all
+      stands_all = subst (λ (rs : List Receipt). Stands (pass_of after_seat after_rest) rs) (sym pushed) (stands receipts was.caller.stands)
 
-      pub steps_of-answered : steps_of c.stage ≡ steps_in (Answer r)
-      steps_of-answered = steps
-
-      pub IsAnswered-turned : IsAnswered b before answered r
+      IsAnswered-turned : IsAnswered b before answered r
       IsAnswered-turned = record {
         receipts = pushed;
         call = call-CallMade b (pass_before c) (pass_of after_seat after_rest) c.call r made ∙ next.call_is;
-        made =
-            subst (λ (call : Call). CallMade b (pass_before c) (pass_in after_seat after_rest then) call r) next.call_is
-            (subst (λ (p : PassTerms). CallMade b (pass_before c) p c.call r) (sym after_pass) made);
+        made = subst (λ (call : Call). CallMade b (pass_before c) (pass_of after_seat after_rest) call r) next.call_is made;
         stands = stands_all;
-        seat = ap seat_of after_pass;
-        within =
-            subst (λ (call : Call). StaysWithin b (pass_before c) (pass_in after_seat after_rest then) call r) next.call_is
-            (subst (λ (p : PassTerms). StaysWithin b (pass_before c) p c.call r) (sym after_pass) within);
-        unturned = unturned-IsCallBegun b after_seat after_rest calls (length all) then begun;
-        unexchanged = unexchanged-IsCallBegun b after_seat after_rest calls (length all) then begun;
-        way = λ more. way-IsCallBegun b after_seat after_rest calls (length all) then begun more;
+        seat = refl;
+        within = subst (λ (call : Call). StaysWithin b (pass_before c) (pass_of after_seat after_rest) call r) next.call_is within;
+        history = kept.history;
+        looked = look-CallMade b (pass_before c) (pass_of after_seat after_rest) c.call r made kept same_book;
+        idle = refl;
       }
 
-      pub all_turns_left-answered : caller_turns_left b answered < caller_turns_left b before
-      all_turns_left-answered = omega (
-        arith,
-        few_turns,
-        all_turns_left-before,
-        unturned-IsCallBegun b after_seat after_rest calls (length all) then begun,
-        ap (λ n. sum_by (most_turns b) (drop n calls)) count,
-      )
+      all_turns_left-answered : caller_turns_left b answered < caller_turns_left b before
+      all_turns_left-answered = omega (arith, few_turns, all_turns_left-before, ap (λ n. sum_by (most_turns b) (drop n calls)) count)
 
-      pub calls_left-answered : calls_left_of before ≡ calls_left_of answered + 1
+      calls_left-answered : calls_left_of before ≡ calls_left_of answered + 1
       calls_left-answered = omega (arith, count, next.more)
 
-      pub process-answered : answered.pass.knows.first ≡ before.pass.knows.first
-      process-answered =
-          ap (λ (p : PassTerms). p.knows.first) after_pass
-          ∙ process-CallMade b (pass_before c) (pass_of after_seat after_rest) c.call r made
+      pub TakesTurn-answered : MakesCallStep b c.stage seat after_seat after_rest.totals → after_seat.steps ≡ raised seat.steps (steps_of c.stage)
+          → after_seat.exchanges ≡ raised seat.exchanges (exchanges_of c.stage) → TakesTurn b before answered (Answer r) c.stage
+      TakesTurn-answered stepped counted exchanged = record {
+        leaves = IsAnswered-turned;
+        step = stepped;
+        kind = sym steps_of-answered;
+        steps = counted ∙ ap (raised seat.steps) steps_of-answered;
+        exchanges = exchanged;
+        calls = refl;
+        process_is = process-CallMade b (pass_before c) (pass_of after_seat after_rest) c.call r made;
+        left = calls_left-answered;
+        turns_left = all_turns_left-answered;
+        stands = stands_all;
+        between = λ none. refl;
+      }
 
-      pub IsCallerOf-answered : (capacity : ℕ) → capacity ≡ room → IsCallerOf after_seat after_rest calls all then capacity
+      pub IsCallerOf-answered : (capacity : ℕ) → capacity ≡ room → IsCallerOf after_seat after_rest calls all None capacity
       IsCallerOf-answered capacity same = record {
         caller = record {
           file = subst (λ (x : BookTerms). IsFile (length x.accounts) calls) (book ∙ sym same_book) was.caller.file;
           stands = stands_all;
-          counted = ap (λ (p : PassTerms). p.calls) after_pass
-              ∙ omega (arith, ap (λ (n : CallCountTerms). n.count) one_more, count, was.caller.counted, was.caller.file.few, next.more);
+          counted = omega (arith, ap (λ (n : CallCountTerms). n.count) one_more, count, was.caller.counted, was.caller.file.few, next.more);
           made =
               ap calls_of pushed
               ∙ (map-append (λ (x : Receipt). x.call) receipts (r ∷ [])
@@ -293,5 +376,5 @@ module _ (b : BookTerms) (seat : SeatTerms) (rest : Rest) (calls : List Call) (r
           within = omega (arith, count, next.more);
           fits = omega (arith, was.caller.fits, same);
         };
-        making_so = IsMakingSo-IsCallBegun b after_seat after_rest calls (length all) then begun (omega (arith, count, next.more)) same_book one_pass;
+        making_so = one_pass;
       }

@@ -1,3 +1,11 @@
+pub mod LookLaws
 pub mod CallerLaws
 pub mod SteppingLaws
+pub mod HearingLaws
 pub mod ReplayLaws
+pub mod TurnTimes
+pub mod KeyLaws
+pub mod TimedCallers
+pub mod TimedTurns
+pub mod TimedLaws
+pub mod JournalLaws

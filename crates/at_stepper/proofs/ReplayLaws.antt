@@ -10,9 +10,11 @@ use Rattle.at_ledger.specs.declared.call.Call.{Call}
 use Rattle.at_log.specs.declared.receipt.Receipt.{Receipt}
 use Rattle.at_stepper.proofs.SteppingLaws.{calls_left-at, some_of}
 use Rattle.at_stepper.specs.Callers.{CallerTerms, answers_in, calls_left_of}
-use Rattle.at_stepper.specs.Replays.{HasTurnedBy, IsSameRun, IsUnturned, TurnBy, TurnInRounds}
-use Rattle.at_stepper.specs.Schedules.{AreTurnsBy, AreTurnsOf, answered_by, rounds_of_turns}
-use Rattle.at_stepper.specs.Stepping.{IsNewStepper, IsOver, StepperTerms, all_turns_left, calls_left, files_of}
+use Rattle.at_stepper.specs.InTurns.{IsMadeAs}
+use Rattle.at_stepper.specs.InTurns.RunsTo.{goes_on, starts}
+use Rattle.at_stepper.specs.Replays.{HasTurnedBy, IsSameRun, TurnAll, TurnBy, TurnInRounds}
+use Rattle.at_stepper.specs.Schedules.{AreTurnsBy, answered_by, rounds_of_turns}
+use Rattle.at_stepper.specs.Stepping.{IsNewStepper, IsOver, StepperTerms, TurnsOne, all_turns_left, calls_left}
 use Rattle.at_stepper.specs.declared.replaying.TurnMade.{TurnMade}
 use Rattle.at_stepper.specs.declared.turned.Turned.{Turned}
 use Rattle.at_stepper.specs.declared.turned.Turned.TheVariants.{Answer, Step}
@@ -89,18 +91,19 @@ HasGoneOn-all count before after sized gone =
 
 -- no turns, and one list of turns after another
 pub TurnBy-none : (turns : List TurnMade) (s : StepperTerms) → TurnBy [] turns s turns s
-TurnBy-none turns s files earlier was = subst (λ (entries : List ℕ). HasTurnedBy files entries turns s) (sym (append-nil earlier)) was
+TurnBy-none turns s b files earlier was = subst (λ (entries : List ℕ). HasTurnedBy b files entries turns s) (sym (append-nil earlier)) was
 
 pub TurnBy-then : (xs ys : List ℕ) (was middle turns : List TurnMade) (s t u : StepperTerms) → TurnBy xs was s middle t → TurnBy ys middle t turns u
     → TurnBy (xs ++ ys) was s turns u
-TurnBy-then xs ys was middle turns s t u first second files earlier turned =
-    subst (λ (entries : List ℕ). HasTurnedBy files entries turns u) (append_assoc earlier xs ys)
-    (second files (earlier ++ xs) (first files earlier turned))
+TurnBy-then xs ys was middle turns s t u first second b files earlier turned =
+    subst (λ (entries : List ℕ). HasTurnedBy b files entries turns u) (append_assoc earlier xs ys)
+    (second b files (earlier ++ xs) (first b files earlier turned))
 
 -- a process that is idle makes no turn
 pub TurnBy-idle : (turns : List TurnMade) (s : StepperTerms) (p : ℕ) → slice_index (calls_left s) p ≡ 0 → TurnBy (p ∷ []) turns s turns s
-TurnBy-idle turns s p none files earlier was = record {
+TurnBy-idle turns s p none b files earlier was = record {
   made = AreTurnsBy.idle earlier turns p was.made (omega (arith, was.left p, none));
+  runs = was.runs;
   left = was.left;
 }
 
@@ -115,13 +118,13 @@ pub answered_by-push : (q : ℕ) (turns : List TurnMade) (t : TurnMade)
 answered_by-push q turns t = sum_by_push (λ (x : TurnMade). cond ((x.process == q) && x.answered) 1 0) turns t
 
 -- a process that isn't idle makes a turn
-pub TurnBy-turned : (turns : List TurnMade) (s u : StepperTerms) (p : ℕ) (answered : Bool) → 0 < slice_index (calls_left s) p
-    → slice_index (calls_left s) p ≡ slice_index (calls_left u) p + cond answered 1 0
-    → ((q : ℕ) → q ≢ p → slice_index (calls_left u) q ≡ slice_index (calls_left s) q)
-    → TurnBy (p ∷ []) turns s (turns ++ record { process = p; answered = answered } ∷ []) u
-TurnBy-turned turns s u p answered busy here others files earlier was =
-    let t : TurnMade = record { process = p; answered = answered } in record {
+pub TurnBy-turned : (turns : List TurnMade) (s u : StepperTerms) (t : TurnMade) (turned : Turned) → 0 < slice_index (calls_left s) t.process
+    → TurnsOne t.process turned s u → IsMadeAs turned t → TurnBy (t.process ∷ []) turns s (turns ++ t ∷ []) u
+TurnBy-turned turns s u t turned busy one made b files earlier was =
+    let p = t.process in
+    let here = one.left ∙ ap (λ n. slice_index (calls_left u) p + n) (answers-cond turned t.answered made.answered) in record {
       made = AreTurnsBy.turn earlier turns t was.made (λ idle. absurd (omega (arith, was.left p, idle, busy)));
+      runs = goes_on turns s u t turned was.runs one made;
       left = λ q.
           elim (cases_eq q p) as (λ _. answered_by q (turns ++ t ∷ []) + slice_index (calls_left u) q ≡ length (get_or files q [])) [
             | inl same ↦
@@ -131,15 +134,15 @@ TurnBy-turned turns s u p answered busy here others files earlier was =
                   was.left p,
                   here,
                   answered_by-push p turns t,
-                  ap {B = ℕ} (λ (b : Bool). cond (b && answered) 1 0) (eq-eqb p p refl),
+                  ap {B = ℕ} (λ (x : Bool). cond (x && t.answered) 1 0) (eq-eqb p p refl),
                 ))
             | inr apart ↦
                 omega (
                   arith,
                   was.left q,
-                  others q apart,
+                  one.others_left q apart,
                   answered_by-push q turns t,
-                  ap {B = ℕ} (λ (b : Bool). cond (b && answered) 1 0) (ne_eqb p q (λ e. apart (sym e))),
+                  ap {B = ℕ} (λ (x : Bool). cond (x && t.answered) 1 0) (ne_eqb p q (λ e. apart (sym e))),
                 )
           ];
     }
@@ -164,9 +167,10 @@ TurnInRounds-more n was middle turns s t u rounds round = record {
 }
 
 -- of a new run no call is answered
-pub IsUnturned-new : (b : BookTerms) (files : List (List Call)) (s : StepperTerms) → IsNewStepper b files s → IsUnturned s
-IsUnturned-new b files s new p =
-    elim (cases_lt p (length s.callers)) as (λ _. slice_index (calls_left s) p ≡ length (get_or (files_of s) p [])) [
+calls_left-new : (b : BookTerms) (files : List (List Call)) (s : StepperTerms) → IsNewStepper b files s
+    → (p : ℕ) → slice_index (calls_left s) p ≡ length (get_or files p [])
+calls_left-new b files s new p =
+    elim (cases_lt p (length s.callers)) as (λ _. slice_index (calls_left s) p ≡ length (get_or files p [])) [
       | inl within ↦
           let d = some_of s.callers p within in
           let one = new.callers.each p [] d (omega (arith, within, new.callers.count)) in
@@ -174,28 +178,35 @@ IsUnturned-new b files s new p =
             arith,
             calls_left-at s.callers p d within,
             ap (λ (rs : List Receipt). length rs) one.is_new.unmade,
-            ap (λ (calls : List Call). length calls) (get_or-map (λ (c : CallerTerms). c.calls) s.callers p d [] within),
+            ap (λ (calls : List Call). length calls) one.is_new.calls_are,
           )
       | inr past ↦
           omega (
             arith,
             calls_left-past s p past,
-            ap (λ (calls : List Call). length calls)
-                (get_or_past (files_of s) p [] (omega (arith, past, length-map s.callers (λ (c : CallerTerms). c.calls)))),
+            ap (λ (calls : List Call). length calls) (get_or_past files p [] (omega (arith, past, new.callers.count))),
           )
     ]
 
 -- at the start no turn is made
-pub HasTurnedBy-none : (s : StepperTerms) → IsUnturned s → HasTurnedBy (files_of s) [] [] s
-HasTurnedBy-none s unturned = record { made = AreTurnsBy.none; left = λ p. zero-add (slice_index (calls_left s) p) ∙ unturned p }
+pub HasTurnedBy-none : (b : BookTerms) (files : List (List Call)) (s : StepperTerms) → IsNewStepper b files s → HasTurnedBy b files [] [] s
+HasTurnedBy-none b files s new = record {
+  made = AreTurnsBy.none;
+  runs = starts s new;
+  left = λ p. zero-add (slice_index (calls_left s) p) ∙ calls_left-new b files s new p;
+}
 
 -- all turns of a schedule
-pub AreTurnsOf-over : (n : ℕ) (schedule : List ℕ) (was turns : List TurnMade) (s t u : StepperTerms) → length s.callers ≡ n
-    → HasTurnedBy (files_of s) schedule was t → TurnInRounds n was t turns u → IsOver u → AreTurnsOf (files_of s) schedule turns
-AreTurnsOf-over n schedule was turns s t u sized turned rounds over =
-    let count : length (files_of s) ≡ n = length-map s.callers (λ (c : CallerTerms). c.calls) ∙ sized in
-    let all = rounds.turned (files_of s) schedule turned in record {
-      times = rounds.times;
-      made = subst (λ m. AreTurnsBy (files_of s) (schedule ++ rounds_of_turns m rounds.times) turns) (sym count) all.made;
-      over = λ p within. omega (arith, all.left p, over p);
-    }
+pub TurnAll-over : (n : ℕ) (schedule : List ℕ) (was turns : List TurnMade) (s t u : StepperTerms) → length s.callers ≡ n
+    → ((b : BookTerms) (files : List (List Call)) → IsNewStepper b files s → HasTurnedBy b files schedule was t) → TurnInRounds n was t turns u
+    → IsOver u → TurnAll schedule s turns u
+TurnAll-over n schedule was turns s t u sized turned rounds over b files new =
+    let count : length files ≡ n = sym new.callers.count ∙ sized in
+    let all = rounds.turned b files schedule (turned b files new) in (
+      all.runs,
+      record {
+        times = rounds.times;
+        made = subst (λ m. AreTurnsBy files (schedule ++ rounds_of_turns m rounds.times) turns) (sym count) all.made;
+        over = λ p within. omega (arith, all.left p, over p);
+      },
+    )

@@ -1,8 +1,8 @@
 -- The callers of a run, as they are begun, as one of them turns, and as they are split at the end.
-use Rattle.std.proofs.Common.{◌≡◌, ℕ, ◌+◌, ◌^◌, ◌<◌, ◌≤◌, List, [], ◌∷◌, ◌++◌, drop, length, get_or, map, set, slice_index, take, Vec, refl, sym, ap, subst, ◌∙◌, arith, inl, inr, length-set}
+use Rattle.std.proofs.Common.{◌≡◌, ℕ, ◌+◌, ◌^◌, ◌<◌, ◌≤◌, suc, List, [], ◌∷◌, ◌++◌, drop, length, get_or, map, set, slice_index, take, Vec, refl, sym, ap, subst, ◌∙◌, arith, inl, inr, length-set}
 use Rattle.std.proofs.lemmas.Bool.{cases_eq, cases_lt}
-use Rattle.std.proofs.lemmas.List.{drop_more, get_or-map, get_or-set_other, get_or-set_same, get_or_append_left, get_or_past, get_or_push, length-drop, length-map, length_push, map-append, map-set, set-get_or, take_all, take_more}
-use Rattle.std.proofs.lemmas.List.Elements.{All-push}
+use Rattle.std.proofs.lemmas.List.{drop_more, ext_get_or, get_or-map, get_or_default, get_or-set_other, get_or-set_same, get_or_append_left, get_or_past, get_or_push, length-drop, length-map, length_push, map-append, map-set, set-get_or, take_all, take_more}
+use Rattle.std.proofs.lemmas.List.Elements.{All-map, All-push}
 use Rattle.std.proofs.lemmas.List.Sums.{sum_by-set}
 use Rattle.std.specs.Global.{Global}
 use Rattle.std.specs.Prelude.{All}
@@ -13,9 +13,9 @@ use Rattle.at_log.specs.declared.receipt.Receipt.{Receipt}
 use Rattle.at_object.specs.Closings.{AreAccountedFor, IsAccountedFor}
 use Rattle.at_object.specs.Parted.{HasMemoryFor}
 use Rattle.at_object.specs.Passes.{AreNewPasses, IsNewPass, PassTerms, Stands}
-use Rattle.at_stepper.specs.Callers.{CallerTerms, IsFile, IsNewCaller, answers_in, caller_turns_left, calls_left_of}
-use Rattle.at_stepper.specs.KeptStepping.{AreCallersOn, AreSplit, AreStartsFor, ChangesOne, IsCallerOn, IsSplit, IsTurned, TurnsOne, passes_in}
-use Rattle.at_stepper.specs.Stepping.{AreBegunCallers, IsBegunCaller}
+use Rattle.at_stepper.specs.Callers.{CallerTerms, IsFile, IsNewCaller, IsTurned, answers_in, caller_turns_left, calls_left_of}
+use Rattle.at_stepper.specs.KeptStepping.{AreCallersOn, AreSplit, AreStartsFor, HasAnsweredAll, IsCallerOn, TurnsCaller, passes_in}
+use Rattle.at_stepper.specs.Stepping.{AreBegunCallers, ChangesOne, IsBegunCaller, TurnsOne}
 use Rattle.at_stepper.specs.declared.caller.Start.{Start}
 use Rattle.at_stepper.specs.declared.turned.Turned.{Turned}
 
@@ -77,7 +77,7 @@ module _ (ledger : BoardTerms) (starts : List Start) (files : List (Vec Call Glo
       (rooms.room n [] start known_file))
 
   -- and the callers with that of this start and file
-  module _ (callers : List CallerTerms) (caller : CallerTerms) (count : length callers ≡ n) (is_new : IsNewCaller ledger.book start.pass file.items caller) where
+  module _ (callers : List CallerTerms) (caller : CallerTerms) (count : length callers ≡ n) (is_new : IsNewCaller start.pass file.items caller) where
     pub made-next : AreNewPasses ledger (passes_in starts)
         → ((p : ℕ) (f : List Call) (d : CallerTerms) → p < length callers → IsBegunCaller ledger p (get_or (lists_in files) p f) (get_or callers p d))
         → (p : ℕ) (f : List Call) (d : CallerTerms) → p < length (callers ++ caller ∷ [])
@@ -85,7 +85,7 @@ module _ (ledger : BoardTerms) (starts : List Start) (files : List (Vec Call Glo
     made-next new made p f d within =
         let last : IsBegunCaller ledger n file.items caller = record {
           pass = subst (IsNewPass ledger n) (sym is_new.pass_is) (IsNewPass-next new);
-          is_new = subst (λ (pass : PassTerms). IsNewCaller ledger.book pass file.items caller) (sym is_new.pass_is) is_new;
+          is_new = subst (λ (pass : PassTerms). IsNewCaller pass file.items caller) (sym is_new.pass_is) is_new;
         } in
         each_push (λ q c. IsBegunCaller ledger q (get_or (lists_in files) q f) c) callers caller (λ q e inside. made q f e inside)
         (subst (λ q. IsBegunCaller ledger q (get_or (lists_in files) q f) caller) (sym count)
@@ -150,7 +150,7 @@ module _ (ledger : BoardTerms) (callers : List CallerTerms) (process : ℕ) (aft
         ];
   }
 
-  ChangesOne-set : (changes : CallerTerms → CallerTerms → Type 0) → ((d : CallerTerms) → changes (get_or callers process d) after)
+  pub ChangesOne-set : (changes : CallerTerms → CallerTerms → Type 0) → ((d : CallerTerms) → changes (get_or callers process d) after)
       → ChangesOne changes process callers (set callers process after)
   ChangesOne-set changes changed = record {
     count = length-set callers process after;
@@ -166,13 +166,13 @@ module _ (ledger : BoardTerms) (callers : List CallerTerms) (process : ℕ) (aft
       (same ∙ sym (get_or-map (λ (c : CallerTerms). c.calls) callers process after [] within))
       ∙ set-get_or (map (λ (c : CallerTerms). c.calls) callers) process [])
 
-  pub TurnsOne-set : (turned : Turned) → ((d : CallerTerms) → IsTurned ledger.book turned (get_or callers process d) after)
+  pub TurnsOne-set : (turned : Turned) → ((d : CallerTerms) → IsTurned ledger.book process callers turned (get_or callers process d) after)
       → TurnsOne process turned (record { ledger = ledger; callers = callers }) (record { ledger = ledger; callers = set callers process after })
   TurnsOne-set turned changed =
       let one = changed after in
       let inside : process < length (set callers process after) = omega (arith, within, length-set callers process after) in record {
         ledger = refl;
-        changes = ChangesOne-set (IsTurned ledger.book turned) changed;
+        changes = ChangesOne-set (IsTurned ledger.book process callers turned) changed;
         files = calls-set one.calls;
         left =
             calls_left-at callers process after within
@@ -185,6 +185,34 @@ module _ (ledger : BoardTerms) (callers : List CallerTerms) (process : ℕ) (aft
         turns_left = omega (arith, one.turns_left, sum_by-set (caller_turns_left ledger.book) callers process after after within);
       }
 
+-- where one has changed, the list is as before but for that one
+pub set-ChangesOne : (changes : CallerTerms → CallerTerms → Type 0) (process : ℕ) (before after : List CallerTerms) (d : CallerTerms)
+    → process < length before → ChangesOne changes process before after → after ≡ set before process (get_or after process d)
+set-ChangesOne changes process before after d within changed =
+    let one = get_or after process d in
+    ext_get_or d after (set before process one) (changed.count ∙ sym (length-set before process one))
+    (λ i inside.
+    elim (cases_eq i process) as (λ _. get_or after i d ≡ get_or (set before process one) i d) [
+      | inl here ↦
+          ap (λ k. get_or after k d) here
+          ∙ (sym (get_or-set_same before process one d within) ∙ ap (λ k. get_or (set before process one) k d) (sym here))
+      | inr other ↦ changed.others i d other ∙ sym (get_or-set_other before process i one d other)
+    ])
+
+-- so a turn of one is a turn of the run
+pub TurnsOne-caller : (ledger : BoardTerms) (before after : List CallerTerms) (process : ℕ) (turned : Turned) → process < length before
+    → TurnsCaller ledger.book process turned before after
+    → TurnsOne process turned (record { ledger = ledger; callers = before }) (record { ledger = ledger; callers = after })
+TurnsOne-caller ledger before after process turned within changed =
+    let some = some_of before process within in
+    let one = get_or after process some in
+    let inside : process < length after = omega (arith, within, changed.count) in
+    subst (λ (cs : List CallerTerms). TurnsOne process turned (record { ledger = ledger; callers = before }) (record { ledger = ledger; callers = cs }))
+    (sym (set-ChangesOne (IsTurned ledger.book process before turned) process before after some within changed))
+    (TurnsOne-set ledger before process one within turned (λ d.
+    subst (λ (c : CallerTerms). IsTurned ledger.book process before turned (get_or before process d) c) (get_or_default after process d some inside)
+    (changed.here d)))
+
 -- callers that are begun are those of the ledger
 pub AreCallersOn-begun : (ledger : BoardTerms) (files : List (List Call)) (callers : List CallerTerms) → AreBegunCallers ledger files callers
     → length files ≡ ledger.book.processes → AreCallersOn ledger callers
@@ -195,69 +223,56 @@ AreCallersOn-begun ledger files callers begun count = record {
         seat = subst (λ (s : SeatTerms). IsOf s ledger) (sym one.is_new.seat_is) one.pass.of_ledger;
         pass = one.pass.of_ledger;
         process_is = one.pass.process_is;
+        stands = subst (λ (rs : List Receipt). Stands (get_or callers p d).pass rs) (sym one.is_new.unmade) one.pass.stands;
+        between = λ none. sym one.is_new.seat_is;
       };
 }
 
--- a caller is split
-pub IsSplit-told : (caller : CallerTerms) (pass : PassTerms) (list : List Receipt) → pass ≡ caller.pass → list ≡ caller.receipts
-    → Stands caller.pass caller.receipts → caller.pass.calls ≡ length caller.receipts → calls_of caller.receipts ≡ caller.calls
-    → length caller.receipts < 2 ^ 32 → IsSplit caller pass list
-IsSplit-told caller pass list pass_is list_is stands counted made few = record {
-  pass_is = pass_is;
-  made = ap calls_of list_is ∙ made;
-  stands = subst (λ (p : PassTerms). Stands p list) (sym pass_is) (subst (λ (rs : List Receipt). Stands caller.pass rs) (sym list_is) stands);
-  counted = ap (λ (p : PassTerms). p.calls) pass_is ∙ (counted ∙ sym (ap (λ (rs : List Receipt). length rs) list_is));
-  few = omega (arith, few, ap (λ (rs : List Receipt). length rs) list_is);
+-- one more caller is split
+pub AreSplit-push : (callers : List CallerTerms) (passes : List PassTerms) (receipts : List (List Receipt)) (caller : CallerTerms)
+    → AreSplit callers passes receipts → HasAnsweredAll caller
+    → AreSplit (callers ++ caller ∷ []) (passes ++ caller.pass ∷ []) (receipts ++ caller.receipts ∷ [])
+AreSplit-push callers passes receipts caller were is = record {
+  passes_are =
+      ap (λ (ps : List PassTerms). ps ++ caller.pass ∷ []) were.passes_are
+      ∙ sym (map-append (λ (c : CallerTerms). c.pass) callers (caller ∷ []));
+  receipts_are =
+      ap (λ (rs : List (List Receipt)). rs ++ caller.receipts ∷ []) were.receipts_are
+      ∙ sym (map-append (λ (c : CallerTerms). c.receipts) callers (caller ∷ []));
+  all = All-push HasAnsweredAll callers caller were.all is;
 }
 
--- one more caller is split
-pub AreSplit-push : (callers : List CallerTerms) (passes : List PassTerms) (receipts : List (List Receipt)) (caller : CallerTerms) (pass : PassTerms)
-    (list : List Receipt) → AreSplit callers passes receipts → IsSplit caller pass list
-    → AreSplit (callers ++ caller ∷ []) (passes ++ pass ∷ []) (receipts ++ list ∷ [])
-AreSplit-push callers passes receipts caller pass list were is = record {
-  passes_count = length_push passes pass ∙ (ap (λ n. n + 1) were.passes_count ∙ sym (length_push callers caller));
-  receipts_count = length_push receipts list ∙ (ap (λ n. n + 1) were.receipts_count ∙ sym (length_push callers caller));
-  made =
-      map-append calls_of receipts (list ∷ [])
-      ∙ (ap (λ (files : List (List Call)). files ++ calls_of list ∷ []) were.made
-      ∙ (ap (λ (file : List Call). map (λ (c : CallerTerms). c.calls) callers ++ file ∷ []) is.made
-      ∙ sym (map-append (λ (c : CallerTerms). c.calls) callers (caller ∷ []))));
-  few = All-push (λ (rs : List Receipt). length rs < 2 ^ 32) receipts list were.few is.few;
-  each = λ p d e within.
-      elim (cases_eq p (length callers)) as (λ _.
-      IsSplit (get_or (callers ++ caller ∷ []) p d) (get_or (passes ++ pass ∷ []) p e) (get_or (receipts ++ list ∷ []) p [])) [
-        | inl here ↦
-            subst (λ (c : CallerTerms). IsSplit c (get_or (passes ++ pass ∷ []) p e) (get_or (receipts ++ list ∷ []) p []))
-            (sym (get_or_push callers caller d p (sym here)))
-            (subst (λ (x : PassTerms). IsSplit caller x (get_or (receipts ++ list ∷ []) p []))
-            (sym (get_or_push passes pass e p (were.passes_count ∙ sym here)))
-            (subst (λ (rs : List Receipt). IsSplit caller pass rs) (sym (get_or_push receipts list [] p (were.receipts_count ∙ sym here))) is))
-        | inr other ↦
-            let before : p < length callers = omega (arith, within, length_push callers caller, other) in
-            subst (λ (c : CallerTerms). IsSplit c (get_or (passes ++ pass ∷ []) p e) (get_or (receipts ++ list ∷ []) p []))
-            (sym (get_or_append_left callers (caller ∷ []) d p before))
-            (subst (λ (x : PassTerms). IsSplit (get_or callers p d) x (get_or (receipts ++ list ∷ []) p []))
-            (sym (get_or_append_left passes (pass ∷ []) e p (omega (arith, before, were.passes_count))))
-            (subst (λ (rs : List Receipt). IsSplit (get_or callers p d) (get_or passes p e) rs)
-            (sym (get_or_append_left receipts (list ∷ []) [] p (omega (arith, before, were.receipts_count)))) (were.each p d e before)))
-      ];
-}
+-- the receipts of callers that have answered all their calls are of these
+pub calls_of-answered : (callers : List CallerTerms) → All HasAnsweredAll callers
+    → map calls_of (map (λ (c : CallerTerms). c.receipts) callers) ≡ map (λ (c : CallerTerms). c.calls) callers
+calls_of-answered [] all = refl
+calls_of-answered (c ∷ cs) all =
+    (λ t. (all 0 c (omega arith)).made t ∷ map calls_of (map (λ (x : CallerTerms). x.receipts) cs))
+    ∙ ap (λ (files : List (List Call)). c.calls ∷ files) (calls_of-answered cs (λ i d within. all (suc i) d (omega (arith, within))))
+
+pub few-answered : (callers : List CallerTerms) → All HasAnsweredAll callers
+    → All (λ (rs : List Receipt). length rs < 2 ^ 32) (map (λ (c : CallerTerms). c.receipts) callers)
+few-answered callers all =
+    All-map (λ (rs : List Receipt). length rs < 2 ^ 32) (λ (c : CallerTerms). c.receipts) callers (λ i d within. (all i d within).few)
 
 -- the passes and receipts of all callers are those of all processes
 pub AreAccountedFor-split : (ledger : BoardTerms) (callers : List CallerTerms) (passes : List PassTerms) (receipts : List (List Receipt))
     → AreCallersOn ledger callers → AreSplit callers passes receipts → AreAccountedFor ledger passes receipts
 AreAccountedFor-split ledger callers passes receipts on split = record {
-  passes_count = split.passes_count ∙ on.count;
-  receipts_count = split.receipts_count ∙ on.count;
+  passes_count = ap (λ (ps : List PassTerms). length ps) split.passes_are ∙ (length-map callers (λ (c : CallerTerms). c.pass) ∙ on.count);
+  receipts_count =
+      ap (λ (rs : List (List Receipt)). length rs) split.receipts_are ∙ (length-map callers (λ (c : CallerTerms). c.receipts) ∙ on.count);
   each = λ p d below.
       let within : p < length callers = omega (arith, below, on.count) in
       let some = some_of callers p within in
-      let one = split.each p some d within in
-      let caller = on.each p some within in
-      subst (λ (pass : PassTerms). IsAccountedFor ledger p pass (get_or receipts p [])) (sym one.pass_is) (record {
-        of_ledger = caller.pass;
-        process_is = caller.process_is;
-        stands = subst (λ (pass : PassTerms). Stands pass (get_or receipts p [])) one.pass_is one.stands;
-        counted = sym (ap (λ (pass : PassTerms). pass.calls) one.pass_is) ∙ one.counted;
-      });
+      let caller : CallerTerms = get_or callers p some in
+      let one = split.all p some within in
+      let is = on.each p some within in
+      let pass_is : get_or passes p d ≡ caller.pass =
+      ap (λ (ps : List PassTerms). get_or ps p d) split.passes_are ∙ get_or-map (λ (c : CallerTerms). c.pass) callers p some d within in
+      let receipts_are : get_or receipts p [] ≡ caller.receipts =
+      ap (λ (rs : List (List Receipt)). get_or rs p []) split.receipts_are ∙ get_or-map (λ (c : CallerTerms). c.receipts) callers p some [] within in
+      subst (λ (pass : PassTerms). IsAccountedFor ledger p pass (get_or receipts p [])) (sym pass_is)
+      (subst (λ (rs : List Receipt). IsAccountedFor ledger p caller.pass rs) (sym receipts_are)
+      (record { of_ledger = is.pass; process_is = is.process_is; stands = one.stands; counted = one.counted }));
 }

@@ -1,32 +1,38 @@
 -- Callers: processes that make their calls one after another, a step a turn.
-use Rattle.std.specs.Prelude.{◌≡◌, ℕ, ◌+◌, ◌-◌, ◌*◌, ◌^◌, ◌<◌, ◌≤◌, ◌++◌, Bool, true, false, List, [], ◌∷◌, All, drop, length, slice_index_or, sum_by, if◌then◌else◌, refl}
+use Rattle.std.specs.Prelude.{◌≡◌, ◌≢◌, ℕ, ◌+◌, ◌-◌, ◌*◌, ◌^◌, ◌<◌, ◌≤◌, ◌++◌, Bool, true, false, List, [], ◌∷◌, All, Option, Some, None, drop, length, slice_index_or, sum_by, if◌then◌else◌, refl}
 use Rattle.at_ledger.specs.Book.{BookTerms}
 use Rattle.at_ledger.specs.Call.{IsCallOn}
 use Rattle.at_ledger.specs.declared.call.Call.{Call}
 use Rattle.at_ledger.specs.declared.call.Reply.{Reply}
 use Rattle.at_ledger.specs.declared.call.Reply.TheVariants.{Balance, Done, Full, NotOwner, Short}
 use Rattle.at_history.specs.Fronts.{places_max}
+use Rattle.at_history.specs.Histories.{IsHistory}
+use Rattle.at_history.specs.Publications.{IsPrefix}
+use Rattle.at_board.specs.Counting.{raised}
 use Rattle.at_board.specs.Knowledge.Seats.{SeatTerms}
 use Rattle.at_board.specs.declared.words.TheConstants.{RECORD_WORDS}
 use Rattle.at_fold.specs.Sums.{TotalSums}
+use Rattle.at_log.specs.InTime.{look_at}
+use Rattle.at_log.specs.declared.receipt.At.{At}
 use Rattle.at_log.specs.declared.receipt.Receipt.{Receipt}
 use Rattle.at_object.specs.BoundNumbers.{three_processes}
-use Rattle.at_object.specs.Passes.{PassTerms, Stands, seat_of}
-use Rattle.at_calling.specs.Calling.{IsCallWithin, IsWay, exchanges_made, exchanges_of, steps_made}
+use Rattle.at_object.specs.Passes.{PassTerms, Stands, asked_by, seat_of, sent_by}
+use Rattle.at_calling.specs.Calling.{IsCallWithin, IsWay, MakesCallStep, exchanges_made, exchanges_of, steps_made, steps_of}
 use Rattle.at_object.specs.Calls.{CallMade, StaysWithin, call_steps}
 use Rattle.at_calling.specs.declared.call_stage.CallStage.{CallStage}
 use Rattle.at_stepper.specs.declared.turned.Turned.{Turned}
 use Rattle.at_stepper.specs.declared.turned.Turned.TheVariants.{Answer, Step}
 
--- a caller by the pass between its calls, which is that of the last answer, by its seat and its totals after the last turn, by its calls
--- and the receipts of those that were answered, and by what the next turn goes on with
+-- a caller by the pass between its calls, which is that of the last answer, or that with which the call in the making began; by its seat and
+-- its totals after the last turn; by its calls and the receipts of those that were answered; and by what the next turn of the call in the
+-- making goes on with. Between two calls there is none
 pub record CallerTerms : Type 0 where
   pub pass : PassTerms
   pub seat : SeatTerms
   pub totals : TotalSums
   pub calls : List Call
   pub receipts : List Receipt
-  pub stage : CallStage
+  pub stage : Option CallStage
 
 -- calls that a caller can make: they name accounts that are there, and are numbered by 32 bits
 pub record IsFile (accounts : ℕ) (calls : List Call) : Type 0 where
@@ -41,14 +47,21 @@ abbrev pub next_call : CallerTerms → Call
 next_call t = slice_index_or t.calls (length t.receipts) (Call.Read 0)
 
 -- the caller of a pass, with all of these calls to make
-pub record IsNewCaller (b : BookTerms) (pass : PassTerms) (calls : List Call) (caller : CallerTerms) : Type 0 where
+pub record IsNewCaller (pass : PassTerms) (calls : List Call) (caller : CallerTerms) : Type 0 where
   pub pass_is : caller.pass ≡ pass
   pub seat_is : caller.seat ≡ seat_of pass
   pub calls_are : caller.calls ≡ calls
   pub unmade : caller.receipts ≡ []
-  pub unturned : steps_made caller.stage ≡ 0
-  pub unexchanged : exchanges_made caller.stage ≡ 0
-  pub way : 0 < length calls → IsWay b pass (next_call caller) caller.stage
+  pub idle : caller.stage ≡ None
+
+-- the steps and exchanges that a call in the making has made so far
+abbrev pub steps_so_far : Option CallStage → ℕ
+steps_so_far None = 0
+steps_so_far (Some stage) = steps_made stage
+
+abbrev pub exchanges_so_far : Option CallStage → ℕ
+exchanges_so_far None = 0
+exchanges_so_far (Some stage) = exchanges_made stage
 
 -- a call was refused before it looked at any balance
 abbrev pub is_refused : Reply → Bool
@@ -68,16 +81,56 @@ abbrev pub answers_in : Turned → ℕ
 answers_in Step = 0
 answers_in (Answer r) = 1
 
--- the call goes on after one step, within its bounds so far. The pass between calls stays, and so do the receipts
-pub record IsStillCalling (b : BookTerms) (before after : CallerTerms) : Type 0 where
+-- between two calls a caller has taken in what others have seen. It has made nothing
+pub record HasLearned (before after : CallerTerms) : Type 0 where
+  pub same : after ≡ record before { pass = after.pass; seat = seat_of after.pass }
+  pub pass_same : after.pass ≡ record before.pass { knows = after.pass.knows }
+  pub knows_same : after.pass.knows ≡ record before.pass.knows {
+    seen = after.pass.knows.seen;
+    requests = after.pass.knows.requests;
+    decisions = after.pass.knows.decisions;
+  }
+  pub begins : IsPrefix before.pass.knows.seen after.pass.knows.seen
+  pub process_is : after.pass.knows.first ≡ before.pass.knows.first
+  pub sent : sent_by after.pass ≡ sent_by before.pass
+  pub asked : (a : ℕ) → asked_by after.pass a ≡ asked_by before.pass a
+  pub stands : Stands after.pass after.receipts
+
+-- all that this one has seen was seen by the other
+abbrev pub IsToldTo : CallerTerms → CallerTerms → Type 0
+IsToldTo teller listener = IsPrefix teller.seat.knows.seen listener.pass.knows.seen
+
+-- the next call of a caller begins: of the other callers' seats it has taken in all that they have seen, and the call is made as its pass says.
+-- No step was made
+pub record BeginsCall (b : BookTerms) (process : ℕ) (callers : List CallerTerms) (before ready : CallerTerms) (stage : CallStage) : Type 0 where
+  pub learned : HasLearned (record before { stage = ready.stage }) ready
+  pub told : (q : ℕ) (d : CallerTerms) → q < length callers → q ≢ process → IsToldTo (slice_index_or callers q d) ready
+  pub history : IsHistory ready.pass.knows.book ready.pass.knows.seen
+  pub way : IsWay b ready.pass (next_call before) stage
+  pub unturned : steps_made stage ≡ 0
+  pub unexchanged : exchanges_made stage ≡ 0
+
+-- what a turn of a process goes on from: the call in the making, or, between two calls, the next one, which begins with this turn
+abbrev pub IsReadyFrom : BookTerms → ℕ → List CallerTerms → CallerTerms → CallerTerms → CallStage → Option CallStage → Type 0
+IsReadyFrom b process callers before ready stage None = BeginsCall b process callers before ready stage
+IsReadyFrom b process callers before ready stage (Some going_on) = ready ≡ before
+
+pub record IsReadyToTurn (b : BookTerms) (process : ℕ) (callers : List CallerTerms) (before ready : CallerTerms) (stage : CallStage) : Type 0 where
+  pub stage_is : ready.stage ≡ Some stage
+  pub from : IsReadyFrom b process callers before ready stage before.stage
+
+-- the call goes on after one step, within its bounds so far. The pass with which it began stays, and so do the receipts
+pub record IsStillCalling (b : BookTerms) (before after : CallerTerms) (stage : CallStage) : Type 0 where
   pub pass : after.pass ≡ before.pass
   pub receipts : after.receipts ≡ before.receipts
-  pub turns : steps_made after.stage ≡ steps_made before.stage + 1
-  pub exchanges : exchanges_made after.stage ≡ exchanges_made before.stage + exchanges_of before.stage
-  pub within : IsCallWithin b before.pass (next_call before) after.seat.knows after.totals.upto (steps_made after.stage) (exchanges_made after.stage)
+  pub going_on : (next : CallStage) × (after.stage ≡ Some next)
+  pub turns : steps_so_far after.stage ≡ steps_made stage + 1
+  pub exchanges : exchanges_so_far after.stage ≡ exchanges_made stage + exchanges_of stage
+  pub begins : IsPrefix before.pass.knows.seen after.seat.knows.seen
+  pub within : IsCallWithin b before.pass (next_call before) after.seat.knows after.totals.upto (steps_so_far after.stage) (exchanges_so_far after.stage)
 
--- the call is answered by this receipt, and the pass of its last step takes the place of the one before the call. The next call, if there
--- is one, is begun
+-- the call is answered by this receipt, and the pass of its last step takes the place of the one before the call. The receipt rests on a look
+-- at all that this one had seen
 pub record IsAnswered (b : BookTerms) (before after : CallerTerms) (r : Receipt) : Type 0 where
   pub receipts : after.receipts ≡ before.receipts ++ r ∷ []
   pub call : r.call ≡ next_call before
@@ -85,14 +138,14 @@ pub record IsAnswered (b : BookTerms) (before after : CallerTerms) (r : Receipt)
   pub stands : Stands after.pass after.receipts
   pub seat : seat_of after.pass ≡ after.seat
   pub within : StaysWithin b before.pass after.pass (next_call before) r
-  pub unturned : steps_made after.stage ≡ 0
-  pub unexchanged : exchanges_made after.stage ≡ 0
-  pub way : length after.receipts < length after.calls → IsWay b after.pass (next_call after) after.stage
+  pub history : IsHistory after.pass.knows.book after.pass.knows.seen
+  pub looked : r.at ≢ At.Previous → length before.pass.knows.seen ≤ look_at after.pass.knows.first after.pass.knows.seen r.at
+  pub idle : after.stage ≡ None
 
 -- what a turn leaves of its caller, by what it answers
-abbrev pub LeavesCaller : BookTerms → CallerTerms → CallerTerms → Turned → Type 0
-LeavesCaller b before after Step = IsStillCalling b before after
-LeavesCaller b before after (Answer r) = IsAnswered b before after r
+abbrev pub LeavesCaller : BookTerms → CallerTerms → CallerTerms → CallStage → Turned → Type 0
+LeavesCaller b before after stage Step = IsStillCalling b before after stage
+LeavesCaller b before after stage (Answer r) = IsAnswered b before after r
 
 -- the most turns of a call, whatever the others do
 abbrev pub most_turns : BookTerms → Call → ℕ
@@ -111,4 +164,19 @@ most_turns-shared = refl
 
 -- the turns that are left to a caller at most
 abbrev pub caller_turns_left : BookTerms → CallerTerms → ℕ
-caller_turns_left b t = sum_by (most_turns b) (drop (length t.receipts) t.calls) - steps_made t.stage
+caller_turns_left b t = sum_by (most_turns b) (drop (length t.receipts) t.calls) - steps_so_far t.stage
+
+-- one turn of a process's caller, among these callers: from what it goes on from, just the step was made that came next
+pub record IsTurned (b : BookTerms) (process : ℕ) (callers : List CallerTerms) (turned : Turned) (before after : CallerTerms) : Type 0 where
+  pub ready : CallerTerms
+  pub stage : CallStage
+  pub is_ready : IsReadyToTurn b process callers before ready stage
+  pub leaves : LeavesCaller b ready after stage turned
+  pub step : MakesCallStep b stage ready.seat after.seat after.totals
+  pub kind : steps_in turned ≡ steps_of stage
+  pub steps : after.seat.steps ≡ raised before.seat.steps (steps_in turned)
+  pub exchanges : after.seat.exchanges ≡ raised before.seat.exchanges (exchanges_of stage)
+  pub calls : after.calls ≡ before.calls
+  pub process_is : after.pass.knows.first ≡ before.pass.knows.first
+  pub left : calls_left_of before ≡ calls_left_of after + answers_in turned
+  pub turns_left : caller_turns_left b after < caller_turns_left b before

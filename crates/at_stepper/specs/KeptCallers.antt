@@ -1,26 +1,29 @@
 -- What the type of a caller keeps of its fields, which no other sees.
-use Rattle.std.specs.Prelude.{◌≡◌, ℕ, ◌<◌, ◌≤◌, List, Option, Some, None, length, slice_index_or, take}
+use Rattle.std.specs.Prelude.{◌≡◌, ℕ, ◌+◌, ◌<◌, ◌≤◌, List, Option, Some, None, length, take}
 use Rattle.at_ledger.specs.Book.{BookTerms}
 use Rattle.at_ledger.specs.declared.call.Call.{Call}
 use Rattle.at_board.specs.Knowledge.Seats.{SeatTerms}
+use Rattle.at_history.specs.Histories.{IsHistory}
+use Rattle.at_history.specs.Publications.{IsPrefix}
 use Rattle.at_log.specs.Receipts.{calls_of}
 use Rattle.at_log.specs.declared.receipt.Receipt.{Receipt}
 use Rattle.at_object.specs.Parted.{IsOfOnePass, pass_of}
-use Rattle.at_object.specs.Passes.{PassTerms, Stands}
+use Rattle.at_object.specs.Passes.{PassTerms, Stands, seat_of}
+use Rattle.at_board.specs.Counting.{raised}
 use Rattle.at_object.specs.declared.parts.Rest.{Rest}
-use Rattle.at_stepper.specs.Callers.{CallerTerms, IsFile, next_call}
-use Rattle.at_calling.specs.Calling.{CallingTerms, IsWay, call_turns_left, exchanges_made, pass_before, steps_made}
+use Rattle.at_stepper.specs.Callers.{CallerTerms, IsFile, LeavesCaller, answers_in, caller_turns_left, calls_left_of, next_call, steps_in}
+use Rattle.at_stepper.specs.declared.turned.Turned.{Turned}
+use Rattle.at_calling.specs.Calling.{CallingTerms, IsWay, MakesCallStep, call_turns_left, exchanges_made, exchanges_of, pass_before, steps_made, steps_of}
 use Rattle.at_calling.specs.declared.call_stage.CallStage.{CallStage}
-use Rattle.at_calling.specs.declared.call_stage.CallStage.TheVariants.{Refused}
 
--- the pass between calls, and what the next turn goes on with, by the call in the making
+-- the pass between calls, or with which the call in the making began, and what the next turn of that goes on with
 abbrev pub pass_in : SeatTerms → Rest → Option CallingTerms → PassTerms
 pass_in seat rest None = pass_of seat rest
 pass_in seat rest (Some c) = pass_before c
 
-abbrev pub stage_in : Option CallingTerms → CallStage
-stage_in None = Refused
-stage_in (Some c) = c.stage
+abbrev pub stage_in : Option CallingTerms → Option CallStage
+stage_in None = None
+stage_in (Some c) = Some c.stage
 
 -- a caller by its fields
 abbrev pub caller_of : SeatTerms → Rest → List Call → List Receipt → Option CallingTerms → CallerTerms
@@ -40,16 +43,17 @@ pub record IsNextInMaking (calls : List Call) (made : ℕ) (call : Call) (seat :
   pub mark : c.mark ≡ seat
   pub rest_is : c.rest ≡ rest
   pub book : c.start.knows.book ≡ seat.knows.book
+  pub begins : IsPrefix c.start.knows.seen seat.knows.seen
   pub left : 0 < call_turns_left seat.knows.book c.stage
   pub way : steps_made c.stage ≡ 0 → IsWay seat.knows.book (pass_before c) call c.stage
 
--- all calls are made, or the next one is in the making
+-- the pass is between two calls, or the next one is in the making
 abbrev pub IsMakingSo : List Call → ℕ → Call → SeatTerms → Rest → Option CallingTerms → Type 0
-IsMakingSo calls made call seat rest None = (made ≡ length calls) × IsOfOnePass seat rest
+IsMakingSo calls made call seat rest None = IsOfOnePass seat rest
 IsMakingSo calls made call seat rest (Some c) = IsNextInMaking calls made call seat rest c
 
--- the receipts are of the first calls, in order. They stand with the pass between calls, which has counted as many, and there is room for
--- one receipt of each call
+-- the receipts are of the first calls, in order. They stand with the pass, which has counted as many, and there is room for one receipt of
+-- each call
 pub record IsCallerSo (caller : CallerTerms) (room : ℕ) : Type 0 where
   pub file : IsFile (length caller.seat.knows.book.accounts) caller.calls
   pub stands : Stands caller.pass caller.receipts
@@ -62,19 +66,25 @@ pub record IsCallerOf (seat : SeatTerms) (rest : Rest) (calls : List Call) (rece
   pub caller : IsCallerSo (caller_of seat rest calls receipts making) room
   pub making_so : IsMakingSo calls (length receipts) (next_call (caller_of seat rest calls receipts making)) seat rest making
 
--- the call at a place was begun by this pass, in no step; there is none where all calls are made
-pub record BeginsCall (b : BookTerms) (seat : SeatTerms) (rest : Rest) (calls : List Call) (made : ℕ) (c : CallingTerms) : Type 0 where
-  pub more : made < length calls
-  pub call : c.call ≡ slice_index_or calls made (Call.Read 0)
-  pub start : c.start ≡ seat
-  pub was : c.was ≡ rest
-  pub mark : c.mark ≡ seat
-  pub rest_is : c.rest ≡ rest
-  pub way : IsWay b (pass_of seat rest) c.call c.stage
-  pub unturned : steps_made c.stage ≡ 0
-  pub unexchanged : exchanges_made c.stage ≡ 0
-  pub left : 0 < call_turns_left b c.stage
+-- the next call of a caller is begun as its pass says, in no step
+pub record StartsNext (b : BookTerms) (before after : CallerTerms) : Type 0 where
+  pub stage : CallStage
+  pub same : after ≡ record before { stage = Some stage }
+  pub history : IsHistory before.pass.knows.book before.pass.knows.seen
+  pub way : IsWay b before.pass (next_call before) stage
+  pub unturned : steps_made stage ≡ 0
+  pub unexchanged : exchanges_made stage ≡ 0
 
-abbrev pub IsCallBegun : BookTerms → SeatTerms → Rest → List Call → ℕ → Option CallingTerms → Type 0
-IsCallBegun b seat rest calls made None = length calls ≤ made
-IsCallBegun b seat rest calls made (Some c) = BeginsCall b seat rest calls made c
+-- just the next step was made of the call in the making, which is then answered or goes on
+pub record TakesTurn (b : BookTerms) (before after : CallerTerms) (turned : Turned) (stage : CallStage) : Type 0 where
+  pub leaves : LeavesCaller b before after stage turned
+  pub step : MakesCallStep b stage before.seat after.seat after.totals
+  pub kind : steps_in turned ≡ steps_of stage
+  pub steps : after.seat.steps ≡ raised before.seat.steps (steps_in turned)
+  pub exchanges : after.seat.exchanges ≡ raised before.seat.exchanges (exchanges_of stage)
+  pub calls : after.calls ≡ before.calls
+  pub process_is : after.pass.knows.first ≡ before.pass.knows.first
+  pub left : calls_left_of before ≡ calls_left_of after + answers_in turned
+  pub turns_left : caller_turns_left b after < caller_turns_left b before
+  pub stands : Stands after.pass after.receipts
+  pub between : after.stage ≡ None → seat_of after.pass ≡ after.seat

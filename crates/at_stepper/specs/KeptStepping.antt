@@ -1,24 +1,22 @@
 -- What the type of a run keeps of its fields, which no caller sees.
-use Rattle.std.specs.Prelude.{◌≡◌, ◌≢◌, ℕ, ◌+◌, ◌^◌, ◌<◌, List, [], All, length, map, slice_index, slice_index_or}
+use Rattle.std.specs.Prelude.{◌≡◌, ◌≢◌, ℕ, ◌^◌, ◌<◌, List, [], All, None, length, map, slice_index_or}
 use Rattle.at_ledger.specs.Book.{BookTerms}
 use Rattle.at_ledger.specs.declared.call.Call.{Call}
-use Rattle.at_board.specs.Counting.{raised}
 use Rattle.at_board.specs.Knowledge.Seats.{BoardTerms, IsOf}
 use Rattle.at_log.specs.Receipts.{calls_of, lists_in}
 use Rattle.at_log.specs.declared.receipt.Receipt.{Receipt}
-use Rattle.at_object.specs.Closings.{AreAccountedFor}
+use Rattle.at_object.specs.Closings.{AreAccountedFor, HasAllLogs}
 use Rattle.at_object.specs.Parted.{HasMemoryFor}
-use Rattle.at_object.specs.Passes.{IsPassOf, PassTerms, Stands}
-use Rattle.at_stepper.specs.Callers.{CallerTerms, LeavesCaller, answers_in, caller_turns_left, calls_left_of, steps_in}
-use Rattle.at_calling.specs.Calling.{MakesCallStep, exchanges_of}
-use Rattle.at_stepper.specs.Stepping.{IsOver, StepperTerms, all_turns_left, calls_left, files_of}
+use Rattle.at_object.specs.Passes.{IsPassOf, PassTerms, Stands, seat_of}
+use Rattle.at_stepper.specs.Callers.{CallerTerms, HasLearned, IsToldTo, IsTurned}
+use Rattle.at_stepper.specs.declared.turned.Turned.{Turned}
+use Rattle.at_stepper.specs.Stepping.{ChangesOne, IsOver, StepperTerms, files_of}
 use Rattle.at_stepper.specs.declared.caller.Start.{Start}
 use Rattle.at_stepper.specs.declared.progress.EndedRun.{EndedRun}
 use Rattle.at_stepper.specs.declared.progress.ClosedRun.{ClosedRun}
 use Rattle.at_stepper.specs.declared.progress.Progress.{Progress}
 use Rattle.at_stepper.specs.declared.progress.Progress.TheVariants.{Closed, Ended, Running}
 use Rattle.at_stepper.specs.declared.run.Run.{Run}
-use Rattle.at_stepper.specs.declared.turned.Turned.{Turned}
 
 -- the passes that callers start with
 abbrev pub passes_in : List Start → List PassTerms
@@ -39,46 +37,44 @@ pub record IsCallerOn (ledger : BoardTerms) (process : ℕ) (caller : CallerTerm
   pub seat : IsOf caller.seat ledger
   pub pass : IsPassOf caller.pass ledger
   pub process_is : caller.pass.knows.first ≡ process
+  pub stands : Stands caller.pass caller.receipts
+  pub between : caller.stage ≡ None → seat_of caller.pass ≡ caller.seat
 
 -- one for each process, in order
 pub record AreCallersOn (ledger : BoardTerms) (callers : List CallerTerms) : Type 0 where
   pub count : length callers ≡ ledger.book.processes
   pub each : (p : ℕ) (d : CallerTerms) → p < length callers → IsCallerOn ledger p (slice_index_or callers p d)
 
--- one turn of a caller, whatever the others do
-pub record IsTurned (b : BookTerms) (turned : Turned) (before after : CallerTerms) : Type 0 where
-  pub leaves : LeavesCaller b before after turned
-  pub step : MakesCallStep b before.stage before.seat after.seat after.totals
-  pub steps : after.seat.steps ≡ raised before.seat.steps (steps_in turned)
-  pub exchanges : after.seat.exchanges ≡ raised before.seat.exchanges (exchanges_of before.stage)
-  pub calls : after.calls ≡ before.calls
-  pub left : calls_left_of before ≡ calls_left_of after + answers_in turned
-  pub turns_left : caller_turns_left b after < caller_turns_left b before
+-- of some callers that of a process has learned, between two calls, what another has seen
+pub record HearsOne (process other : ℕ) (before after : List CallerTerms) : Type 0 where
+  pub changes : ChangesOne (λ was now. HasLearned was now) process before after
+  pub told : (d : CallerTerms) → other ≢ process → IsToldTo (slice_index_or before other d) (slice_index_or after process d)
 
--- the callers are the same but for this one
-pub record ChangesOne (changes : CallerTerms → CallerTerms → Type 0) (process : ℕ) (before after : List CallerTerms) : Type 0 where
-  pub count : length after ≡ length before
-  pub here : (d : CallerTerms) → changes (slice_index_or before process d) (slice_index_or after process d)
-  pub others : (q : ℕ) (d : CallerTerms) → q ≢ process → slice_index_or after q d ≡ slice_index_or before q d
+-- or what all others have seen
+pub record HearsAll (process : ℕ) (before after : List CallerTerms) : Type 0 where
+  pub changes : ChangesOne (λ was now. HasLearned was now) process before after
+  pub told : (q : ℕ) (d : CallerTerms) → q < length before → q ≢ process →
+      IsToldTo (slice_index_or before q d) (slice_index_or after process d)
 
--- the process has made a turn, and no other has
-pub record TurnsOne (process : ℕ) (turned : Turned) (before after : StepperTerms) : Type 0 where
-  pub ledger : after.ledger ≡ before.ledger
-  pub changes : ChangesOne (IsTurned before.ledger.book turned) process before.callers after.callers
-  pub files : files_of after ≡ files_of before
-  pub left : slice_index (calls_left before) process ≡ slice_index (calls_left after) process + answers_in turned
-  pub others_left : (q : ℕ) → q ≢ process → slice_index (calls_left after) q ≡ slice_index (calls_left before) q
-  pub turns_left : all_turns_left after < all_turns_left before
+-- that of a process has made a turn
+abbrev pub TurnsCaller : BookTerms → ℕ → Turned → List CallerTerms → List CallerTerms → Type 0
+TurnsCaller b process turned before after = ChangesOne (IsTurned b process before turned) process before after
 
--- all calls of the run are answered by these receipts
+-- all calls of the run are answered by these receipts, which are the callers'
 pub record IsAnsweredBy (run : Run) (receipts : List (List Receipt)) : Type 0 where
   pub over : IsOver (stepper_terms run)
+  pub receipts_are : receipts ≡ map (λ caller. caller.receipts) (stepper_terms run).callers
   pub made : map calls_of receipts ≡ files_of (stepper_terms run)
   pub few : All (λ list. length list < 2 ^ 32) receipts
+
+-- the passes of callers
+abbrev pub caller_passes : List CallerTerms → List PassTerms
+caller_passes callers = map (λ caller. caller.pass) callers
 
 -- what is kept of a run whose passes and receipts are put together
 pub record IsEndedSo (ended : EndedRun) : Type 0 where
   pub answered : IsAnsweredBy ended.run.value (lists_in ended.receipts.items)
+  pub passes_are : ended.passes.items ≡ caller_passes ended.run.value.callers.items
   pub accounted : AreAccountedFor ended.ledger ended.passes.items (lists_in ended.receipts.items)
   pub ledger_is : ended.ledger ≡ ended.run.value.ledger
 
@@ -86,28 +82,25 @@ pub record IsEndedSo (ended : EndedRun) : Type 0 where
 pub record IsClosedSo (over : ClosedRun) : Type 0 where
   pub answered : IsAnsweredBy over.run.value over.closed.closing.receipts
   pub book_is : over.closed.book ≡ over.run.value.ledger.book
+  pub logs : HasAllLogs (caller_passes over.run.value.callers.items) over.closed
 
 abbrev pub IsProgressSo : Progress → Type 0
 IsProgressSo (Running run) = AreCallersOn run.ledger run.callers.items
 IsProgressSo (Ended ended) = IsEndedSo ended
 IsProgressSo (Closed over) = IsClosedSo over
 
--- the pass and the receipts of a caller that has answered all its calls
-pub record IsSplit (caller : CallerTerms) (pass : PassTerms) (receipts : List Receipt) : Type 0 where
-  pub pass_is : pass ≡ caller.pass
-  pub made : calls_of receipts ≡ caller.calls
-  pub stands : Stands pass receipts
-  pub counted : pass.calls ≡ length receipts
-  pub few : length receipts < 2 ^ 32
+-- all calls of the caller are answered: its receipts are of them, and stand with its pass
+pub record HasAnsweredAll (caller : CallerTerms) : Type 0 where
+  pub stands : Stands caller.pass caller.receipts
+  pub counted : caller.pass.calls ≡ length caller.receipts
+  pub made : calls_of caller.receipts ≡ caller.calls
+  pub few : length caller.receipts < 2 ^ 32
 
--- those of all callers, in order
+-- the passes and the receipts of callers that have answered all their calls, in order
 pub record AreSplit (callers : List CallerTerms) (passes : List PassTerms) (receipts : List (List Receipt)) : Type 0 where
-  pub passes_count : length passes ≡ length callers
-  pub receipts_count : length receipts ≡ length callers
-  pub made : map calls_of receipts ≡ map (λ (caller : CallerTerms). caller.calls) callers
-  pub few : All (λ list. length list < 2 ^ 32) receipts
-  pub each : (p : ℕ) (d : CallerTerms) (e : PassTerms) → p < length callers →
-      IsSplit (slice_index_or callers p d) (slice_index_or passes p e) (slice_index_or receipts p [])
+  pub passes_are : passes ≡ caller_passes callers
+  pub receipts_are : receipts ≡ map (λ caller. caller.receipts) callers
+  pub all : All HasAnsweredAll callers
 
 -- there is a start for each file, with room for a receipt of each call
 pub record AreStartsFor (files : List (List Call)) (starts : List Start) : Type 0 where

@@ -3,4 +3,5 @@ pub mod KeptCallers
 pub mod Stepping
 pub mod KeptStepping
 pub mod Schedules
+pub mod InTurns
 pub mod Replays

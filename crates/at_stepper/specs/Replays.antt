@@ -1,8 +1,10 @@
 -- What the turns of a schedule leave of a run.
 use Rattle.std.specs.Prelude.{◌≡◌, ℕ, ◌+◌, ◌++◌, List, [], length, slice_index, slice_index_or}
+use Rattle.at_ledger.specs.Book.{BookTerms}
 use Rattle.at_ledger.specs.declared.call.Call.{Call}
-use Rattle.at_stepper.specs.Schedules.{AreTurnsBy, answered_by, rounds_of_turns}
-use Rattle.at_stepper.specs.Stepping.{StepperTerms, calls_left, files_of}
+use Rattle.at_stepper.specs.InTurns.{RunsTo}
+use Rattle.at_stepper.specs.Schedules.{AreTurnsBy, AreTurnsOf, answered_by, rounds_of_turns}
+use Rattle.at_stepper.specs.Stepping.{IsNewStepper, StepperTerms, calls_left, files_of}
 use Rattle.at_stepper.specs.declared.replaying.TurnMade.{TurnMade}
 
 -- the run is of the same ledger, files and callers
@@ -11,21 +13,24 @@ pub record IsSameRun (before after : StepperTerms) : Type 0 where
   pub files : files_of after ≡ files_of before
   pub count : length after.callers ≡ length before.callers
 
--- no call of the run is answered
-abbrev pub IsUnturned : StepperTerms → Type 0
-IsUnturned s = (p : ℕ) → slice_index (calls_left s) p ≡ length (slice_index_or (files_of s) p [])
-
--- so far the turns by these entries are made, and to each process those calls are left that no turn of it has answered
-pub record HasTurnedBy (files : List (List Call)) (entries : List ℕ) (turns : List TurnMade) (s : StepperTerms) : Type 0 where
+-- so far the turns by these entries are made, they lead from a new run to this one, and to each process those calls are left that no turn of
+-- it has answered
+pub record HasTurnedBy (b : BookTerms) (files : List (List Call)) (entries : List ℕ) (turns : List TurnMade) (s : StepperTerms) : Type 0 where
   pub made : AreTurnsBy files entries turns
+  pub runs : RunsTo b files turns s
   pub left : (p : ℕ) → answered_by p turns + slice_index (calls_left s) p ≡ length (slice_index_or files p [])
 
 -- the turns by these entries are made, whatever turns were made before
 abbrev pub TurnBy : List ℕ → List TurnMade → StepperTerms → List TurnMade → StepperTerms → Type 0
-TurnBy entries was before turns after = (files : List (List Call)) (earlier : List ℕ) → HasTurnedBy files earlier was before
-    → HasTurnedBy files (earlier ++ entries) turns after
+TurnBy entries was before turns after = (b : BookTerms) (files : List (List Call)) (earlier : List ℕ) → HasTurnedBy b files earlier was before
+    → HasTurnedBy b files (earlier ++ entries) turns after
 
 -- and so are the turns by some rounds of all processes
 pub record TurnInRounds (n : ℕ) (was : List TurnMade) (before : StepperTerms) (turns : List TurnMade) (after : StepperTerms) : Type 0 where
   pub times : ℕ
   pub turned : TurnBy (rounds_of_turns n times) was before turns after
+
+-- from a new run all its turns are made: those of the schedule, and then rounds of all processes until all are idle
+abbrev pub TurnAll : List ℕ → StepperTerms → List TurnMade → StepperTerms → Type 0
+TurnAll schedule before turns after = (b : BookTerms) (files : List (List Call)) → IsNewStepper b files before
+    → RunsTo b files turns after × AreTurnsOf files schedule turns

@@ -1,10 +1,11 @@
 -- Runs of the calls of all processes by turns.
-use Rattle.std.specs.Prelude.{◌≡◌, ℕ, ◌<◌, List, length, map, slice_index, slice_index_or, sum_by}
+use Rattle.std.specs.Prelude.{◌≡◌, ◌≢◌, ℕ, ◌+◌, ◌<◌, List, length, map, slice_index, slice_index_or, sum_by}
 use Rattle.at_ledger.specs.Book.{BookTerms}
 use Rattle.at_ledger.specs.declared.call.Call.{Call}
 use Rattle.at_board.specs.Knowledge.Seats.{BoardTerms}
 use Rattle.at_object.specs.Passes.{IsNewPass}
-use Rattle.at_stepper.specs.Callers.{CallerTerms, IsNewCaller, calls_left_of, caller_turns_left}
+use Rattle.at_stepper.specs.Callers.{CallerTerms, IsNewCaller, IsTurned, answers_in, calls_left_of, caller_turns_left}
+use Rattle.at_stepper.specs.declared.turned.Turned.{Turned}
 
 -- a run by its ledger and the callers of all processes, in order
 pub record StepperTerms : Type 0 where
@@ -30,7 +31,7 @@ all_turns_left s = sum_by (caller_turns_left s.ledger.book) s.callers
 -- the caller of a new pass of the ledger, with all calls of a file to make
 pub record IsBegunCaller (ledger : BoardTerms) (process : ℕ) (file : List Call) (caller : CallerTerms) : Type 0 where
   pub pass : IsNewPass ledger process caller.pass
-  pub is_new : IsNewCaller ledger.book caller.pass file caller
+  pub is_new : IsNewCaller caller.pass file caller
 
 -- one for each file, in order
 pub record AreBegunCallers (ledger : BoardTerms) (files : List (List Call)) (callers : List CallerTerms) : Type 0 where
@@ -43,3 +44,18 @@ pub record AreBegunCallers (ledger : BoardTerms) (files : List (List Call)) (cal
 pub record IsNewStepper (b : BookTerms) (files : List (List Call)) (s : StepperTerms) : Type 0 where
   pub book_is : s.ledger.book ≡ b
   pub callers : AreBegunCallers s.ledger files s.callers
+
+-- of some callers this one has changed so, and no other
+pub record ChangesOne (changes : CallerTerms → CallerTerms → Type 0) (process : ℕ) (before after : List CallerTerms) : Type 0 where
+  pub count : length after ≡ length before
+  pub here : (d : CallerTerms) → changes (slice_index_or before process d) (slice_index_or after process d)
+  pub others : (q : ℕ) (d : CallerTerms) → q ≢ process → slice_index_or after q d ≡ slice_index_or before q d
+
+-- the process has made a turn, and no other has. Whatever is scheduled, the turns come to an end
+pub record TurnsOne (process : ℕ) (turned : Turned) (before after : StepperTerms) : Type 0 where
+  pub ledger : after.ledger ≡ before.ledger
+  pub changes : ChangesOne (IsTurned before.ledger.book process before.callers turned) process before.callers after.callers
+  pub files : files_of after ≡ files_of before
+  pub left : slice_index (calls_left before) process ≡ slice_index (calls_left after) process + answers_in turned
+  pub others_left : (q : ℕ) → q ≢ process → slice_index (calls_left after) q ≡ slice_index (calls_left before) q
+  pub turns_left : all_turns_left after < all_turns_left before

@@ -1,4 +1,4 @@
-//! The callers that a run starts with.
+//! What a run starts with.
 
 ghost use Rattle.std.specs.Prelude.{◌≡◌, ℕ, ◌<◌, All, IfOk, length, slice_index_or};
 ghost use Rattle.at_log.specs.Receipts.{lists_in};
@@ -9,7 +9,7 @@ ghost use Rattle.at_stepper.specs.KeptStepping.{AreStartsFor, passes_in};
 ghost use Rattle.at_stepper.specs.Stepping.{AreBegunCallers};
 
 use crate::caller::{Caller, Start};
-use at_board::Board;
+use crate::run::Run;
 use at_ledger::{Book, Call};
 use at_object::{Ledger, NoMemory, Pass};
 use std::alloc::Global;
@@ -59,26 +59,27 @@ fn starts_for(alloc: Global, passes: Vec<Pass>, files: &[Vec<Call>]) -> Result<V
     Ok(starts)
 }
 
-/// The callers of the files, in memory that was taken before.
-pub(crate) fn callers_for(
-    board: &Board,
-    starts: Vec<Start>,
-    files: Vec<Vec<Call>>,
-    mut callers: Vec<Caller>,
-) -> Vec<Caller>
-    requires passes { AreNewPasses board.now (passes_in starts.items) }
-    requires rooms { AreStartsFor (lists_in files.items) starts.items }
-    requires known { All (IsFile (length board.now.book.accounts)) (lists_in files.items) }
-    requires room { HasMemoryFor callers (length files.items) }
-    ensures { AreBegunCallers board.now (lists_in files.items) result.items }
+/// The run of the files, in memory that was taken before. No turn of it is made.
+pub(crate) fn run_of(memory: Memory, files: Vec<Vec<Call>>) -> Run
+    requires passes { AreNewPasses memory.ledger (passes_in memory.starts.items) }
+    requires rooms { AreStartsFor (lists_in files.items) memory.starts.items }
+    requires known { All (IsFile (length memory.ledger.book.accounts)) (lists_in files.items) }
+    requires room { HasMemoryFor memory.callers (length files.items) }
+    ensures ledger { result.ledger ≡ memory.ledger }
+    ensures callers { AreBegunCallers memory.ledger (lists_in files.items) result.callers.items }
 {
+    let Memory {
+        ledger,
+        starts,
+        mut callers,
+    } = memory;
     let mut others = starts.into_iter();
     for calls in files {
         let Some(start) = others.next() else {
             // There is a start for each file.
             unreachable!()
         };
-        callers.push_reserved(Caller::new(board, start, calls));
+        callers.push_reserved(Caller::new(start, calls));
     }
-    callers
+    Run { ledger, callers }
 }

@@ -5,6 +5,7 @@ ghost use Rattle.at_ledger.specs.Run.{Legal, Whole};
 ghost use Rattle.at_log.specs.Receipts.{lists_in};
 ghost use Rattle.at_object.specs.Parted.{HasMemoryFor};
 ghost use Rattle.at_stepper.specs.Callers.{CallerTerms, calls_left_of};
+ghost use Rattle.at_stepper.specs.InTurns.{IsJournalOf};
 ghost use Rattle.at_stepper.specs.KeptStepping.{AreCallersOn, AreSplit, IsClosedSo, IsEndedSo, IsProgressSo, run_in, stepper_terms};
 ghost use Rattle.at_stepper.specs.Stepping.{IsOver, files_of};
 
@@ -27,9 +28,11 @@ pub struct FinishRefused {
 
 impl Stepper {
     /// Closes the ledger of a run whose calls are all answered, and answers its journal: each call of the files as a line, in one order
-    /// in which the ledger answers each as it was answered. Takes time in proportion to N log N in the number of calls and records.
+    /// in which the ledger answers each as it was answered. By the turns that led to the run its lines are linearizable, in the sense of
+    /// Herlihy and Wing (TOPLAS 1990). Takes time in proportion to N log N in the number of calls and records.
     pub fn finish(self, alloc: Global) -> Result<Vec<Line>, FinishRefused>
         requires over { IsOver self }
+        ensures journal { IfOk result (λ lines. IsJournalOf self lines.items) }
         ensures legal { IfOk result (λ lines. Legal self.ledger.book lines.items) }
         ensures whole { IfOk result (λ lines. Whole (files_of self) lines.items) }
         ensures refused { IfErr result (λ r. r.stepper ≡ self) }
@@ -59,6 +62,8 @@ fn refused(progress: Progress) -> FinishRefused
 /// Closes the ledger and answers the journal, of a run whose passes and receipts are put together.
 fn finish_ended(alloc: Global, ended: EndedRun) -> Result<Vec<Line>, FinishRefused>
     requires { IsEndedSo ended }
+    ensures journal { IfOk result (λ lines. IsJournalOf
+        (stepper_terms ended.run.value) lines.items) }
     ensures legal { IfOk result (λ lines. Legal ended.run.value.ledger.book lines.items) }
     ensures whole { IfOk result (λ lines. Whole
         (files_of (stepper_terms ended.run.value)) lines.items) }
@@ -73,6 +78,8 @@ fn finish_ended(alloc: Global, ended: EndedRun) -> Result<Vec<Line>, FinishRefus
 /// Answers the journal of a run whose ledger is closed.
 fn finish_closed(alloc: Global, over: ClosedRun) -> Result<Vec<Line>, FinishRefused>
     requires { IsClosedSo over }
+    ensures journal { IfOk result (λ lines. IsJournalOf
+        (stepper_terms over.run.value) lines.items) }
     ensures legal { IfOk result (λ lines. Legal over.run.value.ledger.book lines.items) }
     ensures whole { IfOk result (λ lines. Whole
         (files_of (stepper_terms over.run.value)) lines.items) }

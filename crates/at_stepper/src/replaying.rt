@@ -5,9 +5,9 @@ ghost use Rattle.std.specs.List.{range_with_len};
 ghost use Rattle.at_ledger.specs.Run.{Legal, Whole};
 ghost use Rattle.at_log.specs.Receipts.{lists_in};
 ghost use Rattle.at_stepper.specs.Callers.{IsFile};
-ghost use Rattle.at_stepper.specs.Replays.{IsSameRun, IsUnturned, TurnBy, TurnInRounds};
-ghost use Rattle.at_stepper.specs.Schedules.{AreTurnsOf};
-ghost use Rattle.at_stepper.specs.Stepping.{IsOver, all_turns_left, calls_left, files_of};
+ghost use Rattle.at_stepper.specs.InTurns.{IsReplayBy};
+ghost use Rattle.at_stepper.specs.Replays.{IsSameRun, TurnAll, TurnBy, TurnInRounds};
+ghost use Rattle.at_stepper.specs.Stepping.{IsOver, all_turns_left, calls_left};
 
 use crate::stepper::Stepper;
 use at_ledger::{Book, Call, Line};
@@ -21,7 +21,7 @@ pub struct TurnMade {
     pub answered: bool,
 }
 
-/// What a run by a schedule leaves: its journal, and its turns in order.
+/// What a run by a schedule leaves: its journal, and its turns in order. They tell when each call began and ended.
 #[derive(Drop)]
 pub struct Replayed {
     pub lines: Vec<Line>,
@@ -40,8 +40,8 @@ pub fn replay(
     requires count { length files.items ≡ book.now.processes }
     requires known { All (IsFile (length book.now.accounts)) (lists_in files.items) }
     requires schedule { All (λ process. process < book.now.processes) schedule.now }
-    ensures turns { IfOk result
-        (λ r. AreTurnsOf (lists_in files.items) schedule.now r.turns.items) }
+    ensures replay { IfOk result
+        (IsReplayBy book.now (lists_in files.items) schedule.now) }
     ensures legal { IfOk result (λ r. Legal book.now r.lines.items) }
     ensures whole { IfOk result (λ r. Whole (lists_in files.items) r.lines.items) }
 {
@@ -63,12 +63,10 @@ fn make_turns(
     schedule: &[u32],
     turns: &mut Vec<TurnMade>,
 ) -> Result<(), NoMemory>
-    requires unturned { IsUnturned stepper.old }
     requires count { length stepper.old.callers ≡ processes }
     requires schedule { All (λ process. process < processes) schedule.now }
     requires none { turns.old.items ≡ [] }
-    ensures turns { OnOk result
-        (AreTurnsOf (files_of stepper.old) schedule.now turns.new.items) }
+    ensures turned { OnOk result (TurnAll schedule.now stepper.old turns.new.items stepper.new) }
     ensures over { OnOk result (IsOver stepper.new) }
     ensures same { IsSameRun stepper.old stepper.new }
 {

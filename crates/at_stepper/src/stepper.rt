@@ -1,15 +1,12 @@
 //! Runs of the calls of all processes by turns.
 
-ghost use Rattle.std.specs.Prelude.{◌≡◌, ◌≢◌, ℕ, ◌+◌, ◌<◌, ◌==◌, All, IfErr, IfOk, length, slice_index, slice_index_or};
-ghost use Rattle.at_board.specs.Counting.{raised};
+ghost use Rattle.std.specs.Prelude.{◌≡◌, ◌<◌, ◌==◌, All, IfErr, IfOk, length, slice_index};
 ghost use Rattle.at_log.specs.Receipts.{lists_in};
-ghost use Rattle.at_stepper.specs.Callers.{CallerTerms, IsFile, LeavesCaller, answers_in, steps_in};
-ghost use Rattle.at_calling.specs.Calling.{MakesCallStep, exchanges_of};
-ghost use Rattle.at_stepper.specs.Stepping.{IsNewStepper, all_turns_left, calls_left, files_of};
+ghost use Rattle.at_stepper.specs.Callers.{IsFile};
+ghost use Rattle.at_stepper.specs.Stepping.{IsNewStepper, TurnsOne, calls_left};
 
-use crate::beginning::{Memory, callers_for, memory_for};
+use crate::beginning::{memory_for, run_of};
 use crate::progress::Progress;
-use crate::run::Run;
 use crate::turned::Turned;
 use at_ledger::{Book, Call};
 use std::alloc::Global;
@@ -51,14 +48,8 @@ impl Stepper {
         let Ok(memory) = memory_for(alloc, book, files.as_slice()) else {
             return Err(StepperRefused { files });
         };
-        let Memory {
-            ledger,
-            starts,
-            callers,
-        } = memory;
-        let callers = callers_for(ledger.board(), starts, files, callers);
         Ok(Stepper {
-            progress: Progress::Running(Run { ledger, callers }),
+            progress: Progress::Running(run_of(memory, files)),
         })
     }
 
@@ -73,36 +64,13 @@ impl Stepper {
         }
     }
 
-    /// Makes the process's next turn: one step of the board, or none where its call is answered not-owner or full. The last turn of a call
-    /// answers its receipt, and the call after it begins with the process's next turn. The work is that of one step, and of a copy of the
-    /// receipt where there is one. It takes no memory.
+    /// Makes the process's next turn: one step of the board, or none where its call is answered not-owner or full. The first turn of a call
+    /// begins it: the process's seat takes in before, in no step, all that the seats of the others have seen. Its last turn answers
+    /// its receipt. The work is that of one step, of a copy of the receipt where there is one, and of a look at each seat where a call
+    /// begins. It takes no memory.
     pub fn turn(&mut self, process: u32) -> Turned
         requires left { 0 < slice_index (calls_left self.old) process }
-        ensures turned { (d : CallerTerms) → LeavesCaller self.old.ledger.book
-            (slice_index_or self.old.callers process d)
-            (slice_index_or self.new.callers process d) result }
-        ensures step { (d : CallerTerms) → MakesCallStep self.old.ledger.book
-            (slice_index_or self.old.callers process d).stage
-            (slice_index_or self.old.callers process d).seat
-            (slice_index_or self.new.callers process d).seat
-            (slice_index_or self.new.callers process d).totals }
-        ensures others { (q : ℕ) (d : CallerTerms) → q ≢ process
-            → slice_index_or self.new.callers q d ≡ slice_index_or self.old.callers q d }
-        ensures count { length self.new.callers ≡ length self.old.callers }
-        ensures ledger { self.new.ledger ≡ self.old.ledger }
-        ensures files { files_of self.new ≡ files_of self.old }
-        ensures left { slice_index (calls_left self.old) process
-            ≡ slice_index (calls_left self.new) process + answers_in result }
-        ensures others_left { (q : ℕ) → q ≢ process
-            → slice_index (calls_left self.new) q ≡ slice_index (calls_left self.old) q }
-        // Whatever is scheduled, the turns come to an end.
-        ensures turns_left { all_turns_left self.new < all_turns_left self.old }
-        ensures steps { (d : CallerTerms) → (slice_index_or self.new.callers process d).seat.steps
-            ≡ raised (slice_index_or self.old.callers process d).seat.steps (steps_in result) }
-        ensures exchanges { (d : CallerTerms)
-            → (slice_index_or self.new.callers process d).seat.exchanges
-            ≡ raised (slice_index_or self.old.callers process d).seat.exchanges
-            (exchanges_of (slice_index_or self.old.callers process d).stage) }
+        ensures turned { TurnsOne process result self.old self.new }
     {
         match &mut self.progress {
             Progress::Running(run) => run.turn(process),

@@ -18,6 +18,8 @@ mod credit_trials;
 #[cfg(test)]
 mod fold_trials;
 #[cfg(test)]
+mod in_time;
+#[cfg(test)]
 mod late_trials;
 #[cfg(test)]
 mod log_trials;

@@ -2,6 +2,7 @@
 
 ghost use Rattle.std.specs.Prelude.{◌≡◌, ◌<◌, All, IfSome, length};
 
+use crate::in_time::is_in_time;
 use crate::small_files::{Outcome, outcome_of, small_book, small_files};
 use crate::turn_journals::are_in;
 use at_ledger::{Book, Call, Line};
@@ -128,7 +129,7 @@ fn outcome_in(alloc: Global, book: &Book, files: &[Vec<Call>], lines: &[Line]) -
     }
 }
 
-/// The outcome of the small files by a schedule. None where its journal hasn't their calls, or isn't legal.
+/// The outcome of the small files by a schedule. None where its journal hasn't their calls, isn't legal, or isn't in time.
 fn outcome_by(alloc: Global, book: &Book, schedule: &[u32], files: &[Vec<Call>]) -> Option<Outcome>
     requires processes { book.now.processes ≡ 2 }
     requires accounts { length book.now.accounts ≡ 2 }
@@ -136,8 +137,10 @@ fn outcome_by(alloc: Global, book: &Book, schedule: &[u32], files: &[Vec<Call>])
 {
     let calls = small_files(alloc)?;
     match replay(alloc, book, calls, schedule) {
-        Ok(replayed) => outcome_in(alloc, book, files, replayed.lines.as_slice()),
-        Err(_) => None,
+        Ok(replayed) if is_in_time(&replayed) => {
+            outcome_in(alloc, book, files, replayed.lines.as_slice())
+        }
+        Ok(_) | Err(_) => None,
     }
 }
 

@@ -12,6 +12,8 @@ use Rattle.at_ledger.specs.declared.call.Line.{Line}
 use Rattle.at_report.specs.Report.{report_text}
 use Rattle.at_report.specs.declared.status.Status.{Status}
 use Rattle.at_loading.specs.Loading.{Files, IsSpelled, Loaded, PaysReplayBytes, replay_calls_given}
+use Rattle.at_stepper.specs.InTurns.{IsReplayBy}
+use Rattle.at_stepper.specs.declared.replaying.Replayed.{Replayed}
 use Rattle.at_commands.specs.Replaying.{Replay, ReportsReplay, SpellsReplay, calls_loaded, replay_loaded, schedule_loaded, schedule_number}
 use Rattle.at_loading.specs.Words.{Replaying}
 use Rattle.at_commands.proofs.Laws.RunTotals.{IsLineOn-Whole, sum-last_state}
@@ -58,12 +60,16 @@ IsLineOn-played b files lines whole count known =
     IsLineOn-Whole (length b.accounts) b.processes files lines whole count (λ p d within. (known p d within).known)
 
 -- the report of a run of such files
-pub ReportsReplay-lines : (l : Loaded) (lines : List Line) (text : List ℕ) → Whole l.files lines → Legal l.book lines → length l.files ≡ l.book.processes
-    → All (IsPlayable (length l.book.accounts)) l.files → text ≡ report_text l.book l.names lines → ReportsReplay l text
-ReportsReplay-lines l lines text whole legal count known printed = record {
-  lines = lines;
+pub ReportsReplay-lines : (r : Replay) (made : Replayed) (text : List ℕ) → IsReplayBy r.what.book r.what.files r.schedule made
+    → Whole r.what.files made.lines.items → Legal r.what.book made.lines.items → length r.what.files ≡ r.what.book.processes
+    → All (IsPlayable (length r.what.book.accounts)) r.what.files → text ≡ report_text r.what.book r.what.names made.lines.items → ReportsReplay r text
+ReportsReplay-lines r made text replay whole legal count known printed = record {
+  made = made;
+  replay = replay;
   whole = whole;
   legal = legal;
-  total = sum-last_state l.book l.book.processes lines (IsLineOn-played l.book l.files lines whole count known);
+  total =
+      sum-last_state r.what.book r.what.book.processes made.lines.items
+      (IsLineOn-played r.what.book r.what.files made.lines.items whole count known);
   printed = printed;
 }

@@ -1,8 +1,8 @@
-use Rattle.std.proofs.Common.{◌≡◌, ◌∙◌, ◌+◌, Err, string_bytes, refl, ap, inr, arith}
+use Rattle.std.proofs.Common.{◌≡◌, ◌∙◌, ℕ, ◌+◌, Err, List, string_bytes, refl, ap, subst, inr, arith}
 use Rattle.std.proofs.lemmas.List.{length-map}
 use Rattle.at_ledger.specs.Files.{contents_of}
 use Rattle.at_loading.specs.Loading.{loaded_shown, named_book}
-use Rattle.at_commands.specs.Replaying.{schedule_number}
+use Rattle.at_commands.specs.Replaying.{ReportsReplay, schedule_number}
 use Rattle.at_loading.specs.Words.{replaying_shown}
 use Rattle.at_loading.proofs.Laws.MayRefuse.{refusal_of}
 use Rattle.at_commands.proofs.Laws.Replays.{IsPlayable-replayed, replay_loaded-scheduled}
@@ -34,5 +34,7 @@ returns-in-Ok-replayed_text-clause-printed g c told =
       read = replay_loaded-scheduled (g.F.Shelf.file c.args.shelf.now) _ asked (loaded_shown c.in-Ok.loaded) _ _ _ loads.files.files last c.processes-processes.ensures
           (loads.ok told) (schedules.ok now_told);
       spelled = record { calls = loads.spelled told; schedule = rw (loads.files.files, c.processes-processes.ensures) at (schedules.spelled now_told) };
-      printed = c.in-Ok-replayed_text.ensures;
+      printed =
+          subst (λ (turns : List ℕ). ReportsReplay (record { what = loaded_shown c.in-Ok.loaded; schedule = turns }) c.in-Ok-replayed_text.text.items)
+          c.as_slice.ensures.value c.in-Ok-replayed_text.ensures;
     }

@@ -20,6 +20,6 @@ report-requires-clause-lines c =
 pub returns : goal.returns
 returns c =
     let what : Loaded = record { book = c.args.loaded.book; names = c.args.loaded.names; files = contents_of c.args.loaded.files.items } in
-    ReportsReplay-lines what c.in_ok-replayed.replayed.lines.items c.in_ok-text.text.items c.in_ok-replayed.ensures.whole
-    c.in_ok-replayed.ensures.legal (length-contents_of c.args.loaded.files.items ∙ c.requires.count) c.requires.known
-    (rw c.as_slice.ensures.value at c.in_ok-text.ensures.text)
+    ReportsReplay-lines (record { what = what; schedule = c.args.schedule.now }) c.in_ok-replayed.replayed c.in_ok-text.text.items
+    c.in_ok-replayed.ensures.replay c.in_ok-replayed.ensures.whole c.in_ok-replayed.ensures.legal
+    (length-contents_of c.args.loaded.files.items ∙ c.requires.count) c.requires.known (rw c.as_slice.ensures.value at c.in_ok-text.ensures.text)

@@ -1,7 +1,9 @@
-use Rattle.std.proofs.Common.{◌∙◌, ap, subst, sym}
-use Rattle.at_log.specs.Receipts.{lists_in}
-use Rattle.at_stepper.proofs.SteppingLaws.{AreAccountedFor-split, calls_left-at}
-use Rattle.at_stepper.specs.KeptStepping.{IsAnsweredBy}
+use Rattle.std.proofs.Common.{◌∙◌, ◌^◌, ◌<◌, List, ap, length, map, subst, sym}
+use Rattle.std.specs.Prelude.{All}
+use Rattle.at_log.specs.declared.receipt.Receipt.{Receipt}
+use Rattle.at_log.specs.Receipts.{calls_of, lists_in}
+use Rattle.at_stepper.proofs.SteppingLaws.{AreAccountedFor-split, calls_left-at, calls_of-answered, few-answered}
+use Rattle.at_stepper.specs.KeptStepping.{IsAnsweredBy, caller_passes}
 use Rattle.at_stepper.specs.declared.run.Run.{Run}
 use Rattle.at_stepper.proofs.finishing.ended.Goals as goal
 
@@ -11,10 +13,16 @@ parts-passes-requires-clause-idle c = λ k d within. sym (calls_left-at c.args.r
 pub returns-clause-ended : goal.returns-clause-ended
 returns-clause-ended c =
     let lists = lists_in c.parts-passes.result.1.items in
+    let callers = c.args.run.callers.items in
     let split = c.parts-passes.ensures in
     record {
-      answered = subst (λ (run : Run). IsAnsweredBy run lists) (sym c.of-was.ensures)
-          (record { over = c.requires.over; made = split.made; few = split.few });
-      accounted = AreAccountedFor-split c.args.run.ledger c.args.run.callers.items c.parts-passes.result.0.items lists c.requires.callers split;
+      answered = subst (λ (run : Run). IsAnsweredBy run lists) (sym c.of-was.ensures) (record {
+        over = c.requires.over;
+        receipts_are = split.receipts_are;
+        made = ap (map calls_of) split.receipts_are ∙ calls_of-answered callers split.all;
+        few = subst (All (λ (rs : List Receipt). length rs < 2 ^ 32)) (sym split.receipts_are) (few-answered callers split.all);
+      });
+      passes_are = split.passes_are ∙ sym (ap (λ (run : Run). caller_passes run.callers.items) c.of-was.ensures);
+      accounted = AreAccountedFor-split c.args.run.ledger callers c.parts-passes.result.0.items lists c.requires.callers split;
       ledger_is = sym (ap (λ (run : Run). run.ledger) c.of-was.ensures);
     }

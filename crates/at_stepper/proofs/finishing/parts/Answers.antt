@@ -3,7 +3,7 @@ use Rattle.std.proofs.lemmas.List.{map-append}
 use Rattle.at_log.specs.Receipts.{lists_in}
 use Rattle.at_log.specs.declared.receipt.Receipt.{Receipt}
 use Rattle.at_object.specs.Passes.{PassTerms}
-use Rattle.at_stepper.proofs.SteppingLaws.{AreSplit-push, IsSplit-told}
+use Rattle.at_stepper.proofs.SteppingLaws.{AreSplit-push}
 use Rattle.at_stepper.specs.Callers.{CallerTerms}
 use Rattle.at_stepper.specs.KeptStepping.{AreSplit}
 use Rattle.at_stepper.proofs.finishing.parts.Goals as goal
@@ -29,10 +29,11 @@ loop-caller-preserved c =
       callers = kept.callers ∙ (ap (λ (cs : List CallerTerms). done ++ cs) c.in-Some.ensures.steps.0 ∙ sym (append_assoc done (caller ∷ []) left));
       split =
           subst (λ (ps : List PassTerms). AreSplit (done ++ caller ∷ []) ps (lists_in c.push_reserved-in-loop-caller.new.self.items))
-          (sym more_passes)
-          (subst (λ (rs : List (List Receipt)). AreSplit (done ++ caller ∷ []) (passes ++ pass ∷ []) rs) (sym more_lists)
-          (AreSplit-push done passes lists caller pass list kept.split
-          (IsSplit-told caller pass list told.pass told.receipts told.stands told.counted told.made told.few)));
+          (sym (more_passes ∙ ap (λ (x : PassTerms). passes ++ x ∷ []) told.pass))
+          (subst (λ (rs : List (List Receipt)). AreSplit (done ++ caller ∷ []) (passes ++ caller.pass ∷ []) rs)
+          (sym (more_lists ∙ ap (λ (x : List Receipt). lists ++ x ∷ []) told.receipts))
+          (AreSplit-push done passes lists caller kept.split
+          (record { stands = told.stands; counted = told.counted; made = told.made; few = told.few })));
       room = omega (arith, kept.room, c.push_reserved.ensures.len, c.push_reserved.ensures.capacity, c.in-Some.ensures.steps.1);
       list_room = omega (
         arith,

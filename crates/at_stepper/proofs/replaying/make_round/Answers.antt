@@ -22,6 +22,12 @@ loop-process-preserved c =
       same = IsSameRun-trans before between after kept.same told.same;
     }
 
+pub returns-clause-turned : goal.returns-clause-turned
+returns-clause-turned c =
+    let all : c.loop-process.process ≡ c.args.processes = omega (arith, c.loop-process-test.false, c.loop-process.auto.process-end) in
+    subst (λ n. TurnBy (range_with_len 0 n) c.args.turns.now.items c.args.stepper.now c.loop-process.turns.items c.loop-process.stepper) all
+    c.loop-process.invariant.turned
+
 pub returns-clause-left : goal.returns-clause-left
 returns-clause-left c =
     let all : c.loop-process.process ≡ c.args.processes = omega (arith, c.loop-process-test.false, c.loop-process.auto.process-end) in

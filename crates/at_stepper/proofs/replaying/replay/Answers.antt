@@ -1,6 +1,18 @@
 use Rattle.at_log.specs.Receipts.{lists_in}
-use Rattle.at_stepper.proofs.ReplayLaws.{IsUnturned-new}
 use Rattle.at_stepper.proofs.replaying.replay.Goals as goal
 
-pub make_turns-requires-clause-unturned : goal.make_turns-requires-clause-unturned
-make_turns-requires-clause-unturned c = IsUnturned-new c.args.book.now (lists_in c.args.files.items) c.in-Ok.stepper c.in-Ok.ensures.ok
+pub returns-in-Ok-finish-clause-replay : goal.returns-in-Ok-finish-clause-replay
+returns-in-Ok-finish-clause-replay c =
+    let book = c.args.book.now in
+    let files = lists_in c.args.files.items in
+    let made = c.in_ok-make_turns.ensures in
+    let all = made.turned book files c.in-Ok.ensures.ok in
+    let journal = c.in-Ok-finish.ensures.journal in
+    record {
+      run = c.make_turns.new.stepper;
+      runs = all.0;
+      over = made.over;
+      turns = all.1;
+      journal = journal;
+      linearizable = journal.linearizable book files c.make_turns.new.turns.items all.0;
+    }

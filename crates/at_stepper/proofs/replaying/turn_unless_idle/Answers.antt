@@ -1,6 +1,6 @@
 use Rattle.std.proofs.Common.{◌∙◌, ◌+◌, ◌++◌, ◌<◌, ◌∷◌, [], List, ap, arith, slice_index, subst, sym}
 use Rattle.std.proofs.lemmas.Bool.{eqb-false, eqb-true}
-use Rattle.at_stepper.proofs.ReplayLaws.{TurnBy-idle, TurnBy-turned, answers-cond}
+use Rattle.at_stepper.proofs.ReplayLaws.{TurnBy-idle, TurnBy-turned}
 use Rattle.at_stepper.specs.Replays.{TurnBy}
 use Rattle.at_stepper.specs.Stepping.{calls_left}
 use Rattle.at_stepper.specs.declared.replaying.TurnMade.{TurnMade}
@@ -18,9 +18,7 @@ returns-clause-turned c =
     let turns = c.args.turns.now.items in
     let apart = eqb-false (slice_index (calls_left before) p) 0 (sym c.idle.ensures ∙ c.if-idle.false) in
     let busy : 0 < slice_index (calls_left before) p = omega (arith, apart) in
-    subst (λ (all : List TurnMade). TurnBy (p ∷ []) turns before all after)
-    {x = turns ++ record { process = p; answered = c.is_answer-answered.result } ∷ []} {y = c.push.new.self.items} (sym c.in_ok-push.ensures.items)
-    (TurnBy-turned turns before after p c.is_answer-answered.result busy
-    (c.turn.ensures.left
-    ∙ ap (λ n. slice_index (calls_left after) p + n) (answers-cond c.turn.result c.is_answer-answered.result c.is_answer-answered.ensures))
-    c.turn.ensures.others_left)
+    let t : TurnMade = record { process = p; answered = c.is_answer-answered.result } in
+    subst (λ (all : List TurnMade). TurnBy (p ∷ []) turns before all after) {x = turns ++ t ∷ []} {y = c.push.new.self.items}
+    (sym c.in_ok-push.ensures.items)
+    (TurnBy-turned turns before after t c.turn.result busy c.turn.ensures.turned (record { answered = c.is_answer-answered.ensures }))

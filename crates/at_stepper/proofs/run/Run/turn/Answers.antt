@@ -1,39 +1,56 @@
-use Rattle.std.proofs.Common.{◌≡◌, ◌∙◌, ◌<◌, get_or, length, subst, sym}
-use Rattle.std.proofs.lemmas.List.{get_or_read}
+use Rattle.std.proofs.Common.{◌≡◌, ◌∙◌, ◌<◌, IfSome, List, None, ap, get_or, length, subst, sym}
+use Rattle.std.proofs.lemmas.List.{get_or_default, with_items_is}
+use Rattle.at_stepper.specs.Stepping.{TurnsOne}
 use Rattle.at_board.specs.Knowledge.Seats.{BoardTerms, IsOf}
 use Rattle.at_object.specs.Passes.{IsPassOf}
-use Rattle.at_stepper.proofs.SteppingLaws.{AreCallersOn-set, TurnsOne-set, known-calls_left}
+use Rattle.at_stepper.proofs.HearingLaws.{AreCallersOn-turned, IfSome-some, TurnsOne-turned, some_stage}
+use Rattle.at_stepper.proofs.SteppingLaws.{TurnsOne-caller, known-calls_left}
 use Rattle.at_stepper.specs.Callers.{CallerTerms}
-use Rattle.at_stepper.specs.KeptStepping.{IsTurned}
+use Rattle.at_stepper.specs.KeptCallers.{TakesTurn}
+use Rattle.at_stepper.specs.KeptStepping.{TurnsCaller}
 use Rattle.at_stepper.proofs.run.Run.turn.Goals as goal
+
+pub returns-then-is_between_calls-clause-turned : goal.returns-then-is_between_calls-clause-turned
+returns-then-is_between_calls-clause-turned c =
+    let ledger : BoardTerms = c.args.self.now.ledger in
+    let callers = c.args.self.now.callers.items in
+    let p = c.args.process in
+    let items = with_items_is c.args.self.now.callers c.first_turn.new.callers (c.first_turn.ensures.turned.count ∙ c.deref_mut.ensures.len) in
+    subst (λ (cs : List CallerTerms). TurnsOne p c.first_turn.result (record { ledger = ledger; callers = callers }) (record { ledger = ledger; callers = cs }))
+    (sym items)
+    (TurnsOne-caller ledger callers c.first_turn.new.callers p c.first_turn.result (known-calls_left callers p c.requires.left)
+    (subst (λ (cs : List CallerTerms). TurnsCaller ledger.book p c.first_turn.result cs c.first_turn.new.callers) c.deref_mut.ensures.value
+    (subst (λ (l : BoardTerms). TurnsCaller l.book p c.first_turn.result c.deref_mut.result.now c.first_turn.new.callers) c.board-board.ensures
+    c.first_turn.ensures.turned)))
 
 pub returns-clause-turned : goal.returns-clause-turned
 returns-clause-turned c =
     let ledger : BoardTerms = c.args.self.now.ledger in
     let callers = c.args.self.now.callers.items in
-    let process = c.args.process in
-    let within : process < length callers = known-calls_left callers process c.requires.left in
-    let told = c.turn.ensures in
-    TurnsOne-set ledger callers process c.turn.new.self within c.turn.result
-    (λ d. subst (λ (was : CallerTerms). IsTurned ledger.book c.turn.result was c.turn.new.self)
-    (get_or_read callers process c.index_mut-caller.result.now within c.index_mut-caller.ensures.value d)
-    (subst (λ (l : BoardTerms). IsTurned l.book c.turn.result c.index_mut-caller.result.now c.turn.new.self) c.board.ensures
-    (record { leaves = told.turned; step = told.step; calls = told.calls; left = told.left; turns_left = told.turns_left; steps = told.steps; exchanges = told.exchanges })))
+    let p = c.args.process in
+    let within : p < length callers = known-calls_left callers p c.requires.left in
+    let was : CallerTerms = c.index_mut.result.now in
+    let same : c.index.result.now ≡ was = c.index.ensures ∙ (get_or_default callers p c.index.result.now was within ∙ sym c.index_mut.ensures.value) in
+    let going_on = some_stage was.stage (λ none.
+    let idle = c.is_between_calls.ensures.1 (ap (λ (t : CallerTerms). t.stage) same ∙ none) in absurd (cc (idle, c.if-is_between_calls.false))) in
+    TurnsOne-turned ledger callers p was c.turn.new.self c.turn.result within c.requires.callers c.index_mut.ensures.value going_on.0 going_on.1
+    (subst (λ (l : BoardTerms). TakesTurn l.book was c.turn.new.self c.turn.result going_on.0) c.board-board.ensures
+    (IfSome-some (TakesTurn c.board-board.result.now.book was c.turn.new.self c.turn.result) was.stage going_on.0 going_on.1 c.turn.ensures.turned))
+    (subst (λ (l : BoardTerms). IsOf c.turn.new.self.seat l) c.board-board.ensures c.turn.ensures.board)
+    (subst (λ (l : BoardTerms). IsPassOf was.pass l → IsPassOf c.turn.new.self.pass l) c.board-board.ensures c.turn.ensures.pass)
 
 pub returns-clause-callers : goal.returns-clause-callers
 returns-clause-callers c =
     let ledger : BoardTerms = c.args.self.now.ledger in
     let callers = c.args.self.now.callers.items in
-    let process = c.args.process in
-    let within : process < length callers = known-calls_left callers process c.requires.left in
-    let was : CallerTerms = c.index_mut-caller.result.now in
-    let read : was ≡ get_or callers process was = c.index_mut-caller.ensures.value in
-    let on = c.requires.callers.each process was within in
-    let told = c.turn.ensures in
-    AreCallersOn-set ledger callers process c.turn.new.self within c.requires.callers (record {
-      seat = subst (λ (l : BoardTerms). IsOf c.turn.new.self.seat l) c.board.ensures told.board;
-      pass = subst (λ (l : BoardTerms). IsPassOf c.turn.new.self.pass l) c.board.ensures
-          (told.pass (subst (λ (l : BoardTerms). IsPassOf was.pass l) (sym c.board.ensures)
-          (subst (λ (x : CallerTerms). IsPassOf x.pass ledger) (sym read) on.pass)));
-      process_is = told.process ∙ subst (λ (x : CallerTerms). x.pass.knows.first ≡ process) (sym read) on.process_is;
-    })
+    let p = c.args.process in
+    let within : p < length callers = known-calls_left callers p c.requires.left in
+    let was : CallerTerms = c.index_mut.result.now in
+    let same : c.index.result.now ≡ was = c.index.ensures ∙ (get_or_default callers p c.index.result.now was within ∙ sym c.index_mut.ensures.value) in
+    let going_on = some_stage was.stage (λ none.
+    let idle = c.is_between_calls.ensures.1 (ap (λ (t : CallerTerms). t.stage) same ∙ none) in absurd (cc (idle, c.if-is_between_calls.false))) in
+    AreCallersOn-turned ledger callers p was c.turn.new.self c.turn.result within c.requires.callers c.index_mut.ensures.value going_on.0 going_on.1
+    (subst (λ (l : BoardTerms). TakesTurn l.book was c.turn.new.self c.turn.result going_on.0) c.board-board.ensures
+    (IfSome-some (TakesTurn c.board-board.result.now.book was c.turn.new.self c.turn.result) was.stage going_on.0 going_on.1 c.turn.ensures.turned))
+    (subst (λ (l : BoardTerms). IsOf c.turn.new.self.seat l) c.board-board.ensures c.turn.ensures.board)
+    (subst (λ (l : BoardTerms). IsPassOf was.pass l → IsPassOf c.turn.new.self.pass l) c.board-board.ensures c.turn.ensures.pass)

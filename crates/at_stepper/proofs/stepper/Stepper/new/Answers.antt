@@ -5,15 +5,15 @@ use Rattle.at_ledger.specs.Book.{BookTerms}
 use Rattle.at_ledger.specs.declared.call.Call.{Call}
 use Rattle.at_log.specs.Receipts.{lists_in}
 use Rattle.at_stepper.proofs.SteppingLaws.{AreCallersOn-begun}
-use Rattle.at_stepper.specs.Stepping.{AreBegunCallers}
+use Rattle.at_stepper.specs.KeptStepping.{AreCallersOn}
 use Rattle.at_stepper.proofs.stepper.Stepper.new.Goals as goal
 
 pub invariant_of-result : goal.invariant_of-result
 invariant_of-result c =
     let ledger : BoardTerms = c.in-Ok.memory.ledger in
     let files = lists_in c.args.files.items in
-    let callers = c.callers_for-callers.result.items in
-    AreCallersOn-begun ledger files callers
-    (subst (λ (l : BoardTerms). AreBegunCallers l files callers) c.board.ensures c.callers_for-callers.ensures)
+    let made = c.run_of.ensures in
+    subst (λ (l : BoardTerms). AreCallersOn l c.run_of.result.callers.items) (sym made.ledger)
+    (AreCallersOn-begun ledger files c.run_of.result.callers.items made.callers
     (length-map c.args.files.items (λ (f : Vec Call Global). f.items)
-    ∙ (c.requires.count ∙ sym (ap (λ (b : BookTerms). b.processes) c.in-Ok.ensures.book)))
+    ∙ (c.requires.count ∙ sym (ap (λ (b : BookTerms). b.processes) c.in-Ok.ensures.book))))

@@ -4,49 +4,47 @@ use Rattle.std.proofs.lemmas.List.{length-drop, length-map, length_push}
 use Rattle.at_ledger.specs.declared.call.Call.{Call}
 use Rattle.at_log.specs.Receipts.{lists_in}
 use Rattle.at_stepper.proofs.SteppingLaws.{AreBegunCallers-all, HasRoom-next, IsFile-next, IsNewPass-next, calls-next, made-next, rest_next}
-use Rattle.at_stepper.proofs.beginning.callers_for.Goals as goal
-use Rattle.at_stepper.specs.Callers.{CallerTerms}
+use Rattle.at_stepper.proofs.beginning.run_of.Goals as goal
+use Rattle.at_ledger.specs.Book.{BookTerms}
+use Rattle.at_stepper.specs.Callers.{CallerTerms, IsFile}
 use Rattle.at_stepper.specs.Stepping.{IsBegunCaller}
-
-pub new-requires-clause-pass : goal.new-requires-clause-pass
-new-requires-clause-pass c =
-    (IsNewPass-next c.args.board.now c.args.starts.items c.args.files.items (length c.loop-calls.callers.items) c.in-Some-next.start
-    c.next-in-loop-calls.new.self.rest.items c.in-Some.calls c.next.new.self.rest.items
-    (sym c.loop-calls.invariant.starts ∙ c.in-Some-next.ensures.items) (sym c.loop-calls.invariant.files ∙ c.in-Some.ensures.steps.0)
-    c.requires.passes).of_ledger
 
 pub new-requires-clause-stands : goal.new-requires-clause-stands
 new-requires-clause-stands c =
-    (IsNewPass-next c.args.board.now c.args.starts.items c.args.files.items (length c.loop-calls.callers.items) c.in-Some-next.start
+    (IsNewPass-next c.args.memory.ledger c.args.memory.starts.items c.args.files.items (length c.loop-calls.callers.items) c.in-Some-next.start
     c.next-in-loop-calls.new.self.rest.items c.in-Some.calls c.next.new.self.rest.items
     (sym c.loop-calls.invariant.starts ∙ c.in-Some-next.ensures.items) (sym c.loop-calls.invariant.files ∙ c.in-Some.ensures.steps.0)
     c.requires.passes).stands
 
 pub new-requires-clause-uncounted : goal.new-requires-clause-uncounted
 new-requires-clause-uncounted c =
-    (IsNewPass-next c.args.board.now c.args.starts.items c.args.files.items (length c.loop-calls.callers.items) c.in-Some-next.start
+    (IsNewPass-next c.args.memory.ledger c.args.memory.starts.items c.args.files.items (length c.loop-calls.callers.items) c.in-Some-next.start
     c.next-in-loop-calls.new.self.rest.items c.in-Some.calls c.next.new.self.rest.items
     (sym c.loop-calls.invariant.starts ∙ c.in-Some-next.ensures.items) (sym c.loop-calls.invariant.files ∙ c.in-Some.ensures.steps.0)
     c.requires.passes).calls_are
 
 pub new-requires-clause-file : goal.new-requires-clause-file
 new-requires-clause-file c =
-    IsFile-next c.args.board.now c.args.starts.items c.args.files.items (length c.loop-calls.callers.items) c.in-Some-next.start
-    c.next-in-loop-calls.new.self.rest.items c.in-Some.calls c.next.new.self.rest.items
-    (sym c.loop-calls.invariant.starts ∙ c.in-Some-next.ensures.items) (sym c.loop-calls.invariant.files ∙ c.in-Some.ensures.steps.0)
-    (length c.args.board.now.book.accounts) c.requires.known
+    let starts_are = sym c.loop-calls.invariant.starts ∙ c.in-Some-next.ensures.items in
+    let files_are = sym c.loop-calls.invariant.files ∙ c.in-Some.ensures.steps.0 in
+    let new = IsNewPass-next c.args.memory.ledger c.args.memory.starts.items c.args.files.items (length c.loop-calls.callers.items) c.in-Some-next.start
+    c.next-in-loop-calls.new.self.rest.items c.in-Some.calls c.next.new.self.rest.items starts_are files_are c.requires.passes in
+    subst (λ (b : BookTerms). IsFile (length b.accounts) c.in-Some.calls.items) (sym new.of_ledger.book)
+    (IsFile-next c.args.memory.ledger c.args.memory.starts.items c.args.files.items (length c.loop-calls.callers.items) c.in-Some-next.start
+    c.next-in-loop-calls.new.self.rest.items c.in-Some.calls c.next.new.self.rest.items starts_are files_are
+    (length c.args.memory.ledger.book.accounts) c.requires.known)
 
 pub new-requires-clause-room : goal.new-requires-clause-room
 new-requires-clause-room c =
-    HasRoom-next c.args.board.now c.args.starts.items c.args.files.items (length c.loop-calls.callers.items) c.in-Some-next.start
+    HasRoom-next c.args.memory.ledger c.args.memory.starts.items c.args.files.items (length c.loop-calls.callers.items) c.in-Some-next.start
     c.next-in-loop-calls.new.self.rest.items c.in-Some.calls c.next.new.self.rest.items
     (sym c.loop-calls.invariant.starts ∙ c.in-Some-next.ensures.items) (sym c.loop-calls.invariant.files ∙ c.in-Some.ensures.steps.0)
     c.requires.rooms
 
 pub loop-calls-preserved : goal.loop-calls-preserved
 loop-calls-preserved c =
-    let ledger = c.args.board.now in
-    let starts = c.args.starts.items in
+    let ledger = c.args.memory.ledger in
+    let starts = c.args.memory.starts.items in
     let files = c.args.files.items in
     let callers = c.loop-calls.callers.items in
     let n : ℕ = length callers in
@@ -86,4 +84,7 @@ returns c =
       length-drop (length callers) files,
       ap (λ (fs : List (Vec Call Global)). length fs) (sym c.loop-calls.invariant.files ∙ none),
     ) in
-    AreBegunCallers-all c.args.board.now (lists_in files) callers all c.loop-calls.invariant.calls c.loop-calls.invariant.made
+    record {
+      ledger = refl;
+      callers = AreBegunCallers-all c.args.memory.ledger (lists_in files) callers all c.loop-calls.invariant.calls c.loop-calls.invariant.made;
+    }

@@ -1,0 +1,60 @@
+-- The journal of a run that is closed.
+use Rattle.std.proofs.Common.{◌≡◌, ℕ, ◌<◌, List, length, get_or, map, refl, sym, ap, subst, ◌∙◌, arith}
+use Rattle.std.proofs.lemmas.List.{get_or-map, length-map}
+use Rattle.at_history.specs.Publications.{IsPrefix}
+use Rattle.at_journal.specs.Calls.{calls_in}
+use Rattle.at_journal.specs.Linearizable.{AreTimed, CallTimes, IsLinearizable}
+use Rattle.at_ledger.specs.Book.{BookTerms}
+use Rattle.at_ledger.specs.declared.call.Call.{Call}
+use Rattle.at_ledger.specs.declared.call.Line.{Line}
+use Rattle.at_board.specs.Knowledge.Seats.{BoardTerms}
+use Rattle.at_log.specs.Coherent.{Coherent}
+use Rattle.at_log.specs.JournalOrder.{journal_lines}
+use Rattle.at_log.specs.Receipts.{calls_of}
+use Rattle.at_log.specs.declared.receipt.Receipt.{Receipt}
+use Rattle.at_object.specs.Closings.{ClosedTerms, HasAllLogs}
+use Rattle.at_object.specs.Passes.{PassTerms}
+use Rattle.at_stepper.proofs.TimedLaws.{AreTimed-RunsTo}
+use Rattle.at_stepper.specs.Callers.{CallerTerms}
+use Rattle.at_stepper.specs.InTurns.{IsJournalOf, RunsTo, times_of}
+use Rattle.at_stepper.specs.InTurns.RunsTo.{goes_on, starts}
+use Rattle.at_stepper.specs.KeptStepping.{caller_passes}
+use Rattle.at_stepper.specs.Stepping.{StepperTerms, files_of}
+use Rattle.at_stepper.specs.declared.replaying.TurnMade.{TurnMade}
+
+-- a run is of the book and the files of the new one that led to it
+pub book-RunsTo : (b : BookTerms) (files : List (List Call)) (turns : List TurnMade) (s : StepperTerms) → RunsTo b files turns s → s.ledger.book ≡ b
+book-RunsTo b files turns s (starts new is) = is.book_is
+book-RunsTo b files turns s (goes_on earlier before after t turned runs one made) =
+    ap (λ (l : BoardTerms). l.book) one.ledger ∙ book-RunsTo b files earlier before runs
+
+pub files-RunsTo : (b : BookTerms) (files : List (List Call)) (turns : List TurnMade) (s : StepperTerms) → RunsTo b files turns s → files_of s ≡ files
+files-RunsTo b files turns s (starts new is) = is.callers.calls
+files-RunsTo b files turns s (goes_on earlier before after t turned runs one made) = one.files ∙ files-RunsTo b files earlier before runs
+
+module _ (s : StepperTerms) (closed : ClosedTerms) (lines : List Line) (logs : HasAllLogs (caller_passes s.callers) closed)
+    (coherent : Coherent closed.book closed.closing) (book_is : closed.book ≡ s.ledger.book)
+    (receipts_are : closed.closing.receipts ≡ map (λ (c : CallerTerms). c.receipts) s.callers) (made : calls_in closed.closing ≡ files_of s)
+    (lines_are : lines ≡ journal_lines closed.closing)
+    (linearizable : (times : CallTimes) → AreTimed closed.closing times → IsLinearizable closed.book (calls_in closed.closing) times lines) where
+  seen_in_list : (p : ℕ) (d : CallerTerms) → p < length s.callers → IsPrefix (get_or s.callers p d).pass.knows.seen logs.state.published
+  seen_in_list p d within =
+      subst (λ (pass : PassTerms). IsPrefix pass.knows.seen logs.state.published)
+      (get_or-map (λ (c : CallerTerms). c.pass) s.callers p d d.pass within)
+      (logs.seen p d.pass (omega (arith, within, length-map s.callers (λ (c : CallerTerms). c.pass))))
+
+  timed_turns : (b : BookTerms) (files : List (List Call)) (turns : List TurnMade) → RunsTo b files turns s → AreTimed closed.closing (times_of turns)
+  timed_turns b files turns runs = AreTimed-RunsTo b files turns s closed.closing logs.state.published runs receipts_are seen_in_list logs.in_time
+
+  pub IsJournalOf-closed : IsJournalOf s lines
+  IsJournalOf-closed = record {
+    closing = closed.closing;
+    coherent = subst (λ (b : BookTerms). Coherent b closed.closing) book_is coherent;
+    receipts = receipts_are;
+    lines_are = lines_are;
+    timed = timed_turns;
+    linearizable = λ b files turns runs.
+        subst (λ (x : BookTerms). IsLinearizable x files (times_of turns) lines) (book_is ∙ book-RunsTo b files turns s runs)
+        (subst (λ (fs : List (List Call)). IsLinearizable closed.book fs (times_of turns) lines) (made ∙ files-RunsTo b files turns s runs)
+        (linearizable (times_of turns) (timed_turns b files turns runs)));
+  }
