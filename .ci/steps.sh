@@ -5,9 +5,11 @@
 #   1. In at_board, a function names an operation of the table once at most, outside every loop and closure, and counts one step or
 #      exchange where it does. No function names a raw operation or looks at a word without a step, but `meet`, which loads a word of
 #      its own once. `make_note` and `take_in` make one operation each and leave its count to who names them, for whom that is an
-#      operation. `learn_from` alone names both and counts none: whoever calls it has both seats, so no thread hears of another by
-#      it, and it loads no word of the table.
+#      operation. The three calls of an `Overview` alone count none: their caller has all the seats whose lists they put together, so
+#      no thread hears of another by them, and they load no word of the table.
 #   2. In every crate of the product, nothing names an atomic word, a lock, a channel or a yield. A test may.
+#   3. An `Overview` stays on one thread, but a seat that has learned it may go to another. So no crate names one but `at_board`,
+#      those in which one caller makes the steps of all processes, and the tests of these.
 cd "$(dirname "$0")/../crates" || exit 2
 failed=0
 say() {
@@ -17,8 +19,8 @@ say() {
 
 # The operations of a table's shared part that a seat makes.
 steps='(load|store|compare_exchange|split_seat|join_seat)::<'
-# The functions that make one and leave its count to who names them.
-left='([.]|::)(make_note|take_in)[(]'
+# The functions that make one or more and count none themselves.
+left='([.]|::)(make_note|take_in|overview|add_to_overview|learn_overview)[(]'
 # What no call of at_board may use: an operation that no rule of the table sees, a look at its words, and waiting.
 unseen='peek|raw::|fetch_add|swap::<|exchange_weak|loop *\{|while |spin|yield|park|sleep'
 
@@ -57,7 +59,9 @@ for file in at_board/src/*.rt; do
         [ "$looped" -eq 0 ] || echo "$file: $name makes an operation in a loop or a closure"
         case $file:$name in
             at_board/src/note.rt:make_note | at_board/src/note.rt:take_in) wanted='1 0 0' ;;
-            at_board/src/note.rt:learn_from) wanted='0 2 0' ;;
+            at_board/src/overview.rt:overview) wanted='1 0 0' ;;
+            at_board/src/overview.rt:add_to_overview) wanted='2 0 0' ;;
+            at_board/src/overview.rt:learn_overview) wanted='1 1 0' ;;
             *)
                 [ $((made + taken)) -le 1 ] || echo "$file: $name makes $((made + taken)) operations"
                 wanted="$made $taken $((made + taken))"
@@ -79,6 +83,11 @@ grep -nE "$words" */src/*.rt |
     grep -vE '^(at_board|at_players|at_[a-z_]*trials)/|^at_program/src/gate_tests\.rt:' |
     grep -vE ':[0-9]+: *(//|ghost use)' && say "a word, a lock or a channel outside the board"
 grep -nE 'sync::atomic' at_board/src/*.rt | grep -vE '^at_board/src/meet.rt:' && say "at_board: an atomic word outside its table"
+
+# Who may put together what several seats have seen.
+grep -nE '\bOverview\b|learn_overview|add_to_overview' */src/*.rt |
+    grep -vE '^(at_board|at_object|at_machines|at_calling|at_stepper|at_trials)/' |
+    grep -vE ':[0-9]+: *//' && say "an overview outside the crates whose caller has all seats"
 
 [ "$failed" -eq 0 ] && echo "steps: each operation on the board is one counted step, and no other word is shared"
 exit "$failed"

@@ -1,5 +1,6 @@
 pub mod Decide
 pub mod Note
+pub mod Overview
 pub mod LoadAnnounced
 pub mod Table
 pub mod StoreRequestWord

@@ -5,3 +5,4 @@ pub mod Parts
 pub mod Records
 pub mod Knows
 pub mod Candidates
+pub mod Overviews

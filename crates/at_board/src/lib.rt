@@ -11,7 +11,8 @@
 //!
 //! The definitions read best in this order. Where the words lie, what they hold, and what they stand for: `Words`. What a seat
 //! knows: `Knowledge`, with `Parts` first. The rule: `Rule`. What each call asks and tells: `Steps`, a file for each. How a board
-//! begins and ends: `Ends`. `Steps/Plays` and `Steps/Meetings` tie the steps to the table, and `Knowledge/Fresh` is for the crates above.
+//! begins and ends: `Ends`. `Steps/Plays` and `Steps/Meetings` tie the steps to the table, and `Knowledge/Fresh` and
+//! `Knowledge/Overviews` are for the crates above.
 #![tactic(auto)]
 
 mod addresses;
@@ -31,6 +32,7 @@ mod load_record_word;
 mod load_request_word;
 mod meet;
 mod note;
+mod overview;
 mod plays;
 mod publish;
 mod rule;
@@ -43,6 +45,7 @@ pub use crate::board::Board;
 pub use crate::board_end::BoardEnd;
 pub use crate::knowledge::{Asking, Knowledge, LoadedWord, Loads, Part, SeenDecision, SeenRequest};
 pub use crate::note::BoardNote;
+pub use crate::overview::Overview;
 pub use crate::seat::BoardSeat;
 pub use crate::words::{
     RECORD_WORDS, REQUEST_WORDS, entry_of, pack_targets, record_word, targets_from, unpack_targets,

@@ -1,4 +1,4 @@
-//! Notes: what one seat has seen, handed to another in two steps, or in none by a caller that has both seats.
+//! Notes: what one seat has seen, handed to another in two steps.
 
 ghost use Rattle.std.specs.Prelude.{◌≡◌, ◌+◌, ◌<◌, []};
 ghost use Rattle.at_board.specs.Counting.{exchanged, raised};
@@ -60,22 +60,6 @@ impl Board {
         self.take_in(seat, note);
     }
 
-    /// Takes in all that another seat has seen, for a caller that has both seats. It is no step of either: it loads no word of the
-    /// board, and no thread hears of another by it, since one thread has both seats.
-    pub fn learn_from(&self, seat: &mut BoardSeat, other: &mut BoardSeat)
-        requires board { IsOf seat.old self.now }
-        requires other { IsOf other.old self.now }
-        ensures learned { Learns self.now.book seat.old.knows (noted other.old.knows) seat.new.knows }
-        ensures seat { IsKept seat.new.knows }
-        ensures board { seat.new.board ≡ seat.old.board }
-        ensures steps { seat.new.steps ≡ seat.old.steps }
-        ensures exchanges { seat.new.exchanges ≡ seat.old.exchanges }
-        ensures other { other.new ≡ other.old }
-    {
-        let note = self.make_note(other);
-        self.take_in(seat, note);
-    }
-
     /// The copy alone. Whether it counts as an exchange, its callers decide.
     fn make_note(&self, seat: &mut BoardSeat) -> BoardNote
         requires board { IsOf seat.old self.now }
@@ -90,7 +74,7 @@ impl Board {
     }
 
     /// The taking in alone. Whether it counts as an exchange, its callers decide.
-    fn take_in(&self, seat: &mut BoardSeat, note: BoardNote)
+    pub(crate) fn take_in(&self, seat: &mut BoardSeat, note: BoardNote)
         requires board { IsOf seat.old self.now }
         requires note { IsOf note self.now }
         ensures learned { Learns self.now.book seat.old.knows note.knows seat.new.knows }

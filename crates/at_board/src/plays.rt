@@ -80,6 +80,16 @@ impl Split<Knowledge> for Note {
     ghost right = { noted };
 }
 
+pub(crate) struct SeenAlone;
+
+impl Split<Knowledge> for SeenAlone {
+    ghost use Rattle.at_board.specs.Knowledge.Overviews.{seen_alone};
+
+    ghost left = { λ v. v };
+
+    ghost right = { seen_alone };
+}
+
 pub(crate) struct Learn;
 
 impl Join<Knowledge> for Learn {

@@ -11,11 +11,13 @@ use Rattle.at_history.proofs.Laws.Histories.{IsHistory-Sound}
 use Rattle.at_history.proofs.Laws.Prefixes.{IsPrefix-count_of, IsLonger, IsLonger-longer, longer-either}
 use Rattle.at_history.specs.BoardState.{BoardState}
 use Rattle.at_history.specs.Histories.{IsHistory}
-use Rattle.at_history.specs.Publications.{count_of, longer}
+use Rattle.at_history.specs.Publications.{IsPrefix, count_of, longer}
+use Rattle.at_history.specs.declared.publication.Publication.{Publication}
 use Rattle.at_board.proofs.KnowledgeLaws.Agreement.{AgreesWithSeen-Knows}
 use Rattle.at_board.proofs.KnowledgeLaws.Asking.{HasPart-more, HasRequests}
 use Rattle.at_board.proofs.KnowledgeLaws.Kept.{IsKept-state, IsSeat-IsKept}
 use Rattle.at_board.proofs.KnowledgeLaws.Seats.{AreSeated-set, knows_after}
+use Rattle.at_board.proofs.StepLaws.Note.{Holds-nothing}
 use Rattle.at_board.specs.Knowledge.Agreement.{AgreesWithSeen}
 use Rattle.at_board.specs.Knowledge.Knows.{HasPart, IsAnnounced, IsDecided, Knows}
 use Rattle.at_board.specs.Knowledge.Parts.{part_at}
@@ -26,6 +28,14 @@ use Rattle.at_board.specs.Steps.Meetings.{AreSeen}
 use Rattle.at_board.specs.Steps.Note.{IsNote}
 use Rattle.at_board.specs.declared.knowledge.Knowledge.{Knowledge}
 
+-- a seat has seen all of its own process, so there is no more of it in a longer list that is a prefix of what was published
+pub count_of-between : (b : BookTerms) (words : List ℕ) (s : BoardState) (v : Knowledge) (list : List Publication) → 0 < length v.parts → Knows b words s v
+    → IsPrefix v.seen list → IsPrefix list s.published → count_of v.first list ≡ count_of v.first v.seen
+count_of-between b words s v list part knows more before =
+    let first : v.first + 0 ≡ v.first = omega arith in
+    let own : HasPart b words s v v.first (part_at v 0) = subst (λ p. HasPart b words s v p (part_at v 0)) first (knows.parts 0 part) in
+    omega (arith, own.seen, own.published, IsPrefix-count_of v.first v.seen list more, IsPrefix-count_of v.first list s.published before)
+
 module _ {S : Type 0} where
   -- both lists of two seats that the rule has at once
   pub IsLonger-seen : (b : BookTerms) (id other : ℕ) (v w : Knowledge) (met : AreSeen {S = S} (λ s. Ruled b s.words s.views) id v other w)
@@ -35,25 +45,14 @@ module _ {S : Type 0} where
       IsLonger-longer v.seen w.seen ruled.state.published (ruled.knows id v met.3).seen (ruled.knows other w met.4).seen
 
   -- the first seat has seen all of its own process, so there is no more of it in the longer list
-  pub count_of-longer : (b : BookTerms) (id other : ℕ) (v w : Knowledge) → 0 < length v.parts → AreSeen {S = S} (λ s. Ruled b s.words s.views) id v other w
+  count_of-longer : (b : BookTerms) (id other : ℕ) (v w : Knowledge) → 0 < length v.parts → AreSeen {S = S} (λ s. Ruled b s.words s.views) id v other w
       → count_of v.first (longer v.seen w.seen) ≡ count_of v.first v.seen
   count_of-longer b id other v w part met =
-      let s : BoardState = met.1.state in
       let long = IsLonger-seen b id other v w met in
-      let first : v.first + 0 ≡ v.first = omega arith in
-      let own : HasPart b met.0.words s v v.first (part_at v 0) =
-      subst (λ p. HasPart b met.0.words s v p (part_at v 0)) first ((met.1.knows id v met.3).parts 0 part) in
-      omega (
-        arith,
-        own.seen,
-        own.published,
-        IsPrefix-count_of v.first v.seen (longer v.seen w.seen) long.first,
-        IsPrefix-count_of v.first (longer v.seen w.seen) s.published long.before,
-      )
+      count_of-between b met.0.words met.1.state v (longer v.seen w.seen) part (met.1.knows id v met.3) long.first long.before
 
-Knows-learned : (b : BookTerms) (words : List ℕ) (s : BoardState) (v w : Knowledge) → 0 < length v.parts → Knows b words s v → Knows b words s w
-    → Knows b words s (learned v w)
-Knows-learned b words s v w part mine theirs =
+Knows-learned : (b : BookTerms) (words : List ℕ) (s : BoardState) (v w : Knowledge) → Knows b words s v → Knows b words s w → Knows b words s (learned v w)
+Knows-learned b words s v w mine theirs =
     let u : Knowledge = learned v w in
     let long = IsLonger-longer v.seen w.seen s.published mine.seen theirs.seen in
     let more : HasRequests u.requests v.requests = λ x there. Contains-append_left v.requests w.requests x there in
@@ -71,10 +70,6 @@ Knows-spent_knowledge b words s = record {
   decisions = All-nil (IsDecided s);
   parts = λ k within. absurd (omega arith);
 }
-
--- knowledge with no part stands for no process
-Holds-nothing : (v : Knowledge) (p : ℕ) → length v.parts ≡ 0 → Holds v p → ⊥
-Holds-nothing v p none holds = omega (arith, holds.0, holds.1)
 
 -- a note is spent
 AreSeated-spent : (b : BookTerms) (seat : ℕ → ℕ) (knowledge : List Knowledge) (id : ℕ) (w : Knowledge) → AreSeated b seat knowledge
@@ -95,13 +90,13 @@ AreSeated-spent b seat knowledge id w seated found none = record {
 }
 
 Ruled-learned : (b : BookTerms) (words : List ℕ) (knowledge : List Knowledge) (id other : ℕ) (v w : Knowledge) → Ruled b words knowledge
-    → get_elem? knowledge id ≡ some v → other ≢ id → get_elem? knowledge other ≡ some w → 0 < length v.parts
+    → get_elem? knowledge id ≡ some v → other ≢ id → get_elem? knowledge other ≡ some w
     → length w.parts ≡ 0 → Ruled b words (set (set knowledge id (learned v w)) other spent_knowledge)
-Ruled-learned b words knowledge id other v w ruled found apart there part none =
+Ruled-learned b words knowledge id other v w ruled found apart there none =
     let s : BoardState = ruled.state in
     let u : Knowledge = learned v w in
     let joined = set knowledge id u in
-    let knows = knows_after b words s knowledge id u (Knows-learned b words s v w part (ruled.knows id v found) (ruled.knows other w there))
+    let knows = knows_after b words s knowledge id u (Knows-learned b words s v w (ruled.knows id v found) (ruled.knows other w there))
     (λ j t off at. ruled.knows j t at) in
     record {
       state = s;
@@ -115,21 +110,21 @@ Ruled-learned b words knowledge id other v w ruled found apart there part none =
     }
 
 module _ {S : Type 0} where
-  -- a note may be joined to a seat
-  pub learns : (key : BookTerms) (id other : ℕ) (v w : Knowledge) → 0 < length v.parts → length w.parts ≡ 0
+  -- a note may be joined to a seat, or to another note
+  pub learns : (key : BookTerms) (id other : ℕ) (v w : Knowledge) → length w.parts ≡ 0
       → Joins {S = S} (λ s. Ruled key s.words s.views) id v other w (learned v w) spent_knowledge
-  learns key id other v w part none s holds found apart there =
+  learns key id other v w none s holds found apart there =
       Ruled-learned key s.words s.views id other v w holds found apart
-      (sym (set_else s.views id other (learned v w) apart) ∙ there) part none
+      (sym (set_else s.views id other (learned v w) apart) ∙ there) none
 
 module _ {S : Type 0} where
   -- where the rule holds of a seat and a note, all that the seat has seen with the note agrees
-  learned_agrees : (b : BookTerms) (id other : ℕ) (v w : Knowledge) → 0 < length v.parts
+  learned_agrees : (b : BookTerms) (id other : ℕ) (v w : Knowledge)
       → AreSeen {S = S} (λ s. Ruled b s.words s.views) id v other w → AgreesWithSeen (learned v w)
-  learned_agrees b id other v w part met =
+  learned_agrees b id other v w met =
       let ruled = met.1 in
       AgreesWithSeen-Knows b met.0.words ruled.state (learned v w) ruled.sound
-      (Knows-learned b met.0.words ruled.state v w part (ruled.knows id v met.3) (ruled.knows other w met.4))
+      (Knows-learned b met.0.words ruled.state v w (ruled.knows id v met.3) (ruled.knows other w met.4))
 
 -- the same by the book that the key is
 pub AreSeen-key : {S : Type 0} (key b : BookTerms) (id other : ℕ) (v w : Knowledge) → key ≡ b
@@ -146,7 +141,7 @@ Learns-learned b id other v w process published book note_book seat note met =
       own = count_of-longer b id other v w (omega (arith, seat.one_part)) met;
       told = long.second;
       history = longer-either (IsHistory b) v.seen w.seen (subst (λ t. IsHistory t v.seen) book seat.history) (subst (λ t. IsHistory t w.seen) note_book note.history);
-      agrees = learned_agrees b id other v w (omega (arith, seat.one_part)) met;
+      agrees = learned_agrees b id other v w met;
       same = refl;
     }
 
@@ -158,7 +153,7 @@ IsSeat-learned b id other v w process published book note_book seat note met =
     let ruled = met.1 in
     let s : BoardState = ruled.state in
     let checked : IsBook b = subst IsBook book seat.book in
-    let knows = Knows-learned b met.0.words s v w (omega (arith, seat.one_part)) (ruled.knows id v met.3) (ruled.knows other w met.4) in
+    let knows = Knows-learned b met.0.words s v w (ruled.knows id v met.3) (ruled.knows other w met.4) in
     let few = (IsHistory-Sound b s ruled.shown.records.room ruled.sound checked.begun).few in
     IsSeat-IsKept (learned v w) process published seat.process_is seat.published_is
     (IsKept-state b met.0.words s (learned v w) ruled.sound ruled.overtaking few checked book told.history knows seat.one_part)

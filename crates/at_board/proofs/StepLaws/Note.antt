@@ -1,7 +1,5 @@
 -- Making a note keeps the rule.
-use Rattle.std.proofs.Common.{◌≡◌, ℕ, ◌<◌, List, [], ◌∷◌, ◌++◌, refl, sym, subst, arith, inl, inr}
-use lib.ListN.{get_elem?}
-use mathlib.Core.Option.{some}
+use Rattle.std.proofs.Common.{◌≡◌, ℕ, ◌<◌, List, [], ◌∷◌, ◌++◌, length, refl, sym, subst, arith, inl, inr}
 use Rattle.atomic_table.proofs.Lists.{at_longer, at_snoc, set_again}
 use Rattle.atomic_table.specs.Table.{Splits}
 use Rattle.at_ledger.specs.Book.{BookTerms, IsBook}
@@ -22,31 +20,31 @@ Knows-noted b words s v knows = record {
   parts = λ k within. absurd (omega arith);
 }
 
--- a note stands for no process
-Holds-noted : (v : Knowledge) (p : ℕ) → Holds (noted v) p → ⊥
-Holds-noted v p holds = omega (arith, holds.0, holds.1)
+-- knowledge with no part stands for no process
+pub Holds-nothing : (v : Knowledge) (p : ℕ) → length v.parts ≡ 0 → Holds v p → ⊥
+Holds-nothing v p none holds = omega (arith, holds.0, holds.1)
 
--- one more that knows, a note
-Ruled-noted : (b : BookTerms) (words : List ℕ) (knowledge : List Knowledge) (id : ℕ) (v : Knowledge) → Ruled b words knowledge → get_elem? knowledge id ≡ some v
-    → Ruled b words (knowledge ++ noted v ∷ [])
-Ruled-noted b words knowledge id v ruled found = record {
+-- one more that knows, with no part
+pub Ruled-more : (b : BookTerms) (words : List ℕ) (knowledge : List Knowledge) (w : Knowledge) (ruled : Ruled b words knowledge) → length w.parts ≡ 0
+    → Knows b words ruled.state w → Ruled b words (knowledge ++ w ∷ [])
+Ruled-more b words knowledge w ruled none knows = record {
   state = ruled.state;
   seat = ruled.seat;
   shown = ruled.shown;
   sound = ruled.sound;
   overtaking = ruled.overtaking;
-  knows = λ j u there. elim (at_snoc knowledge (noted v) u j there) as (λ _. Knows b words ruled.state u) [
+  knows = λ j u there. elim (at_snoc knowledge w u j there) as (λ _. Knows b words ruled.state u) [
     | inl old ↦ ruled.knows j u old
-    | inr new ↦ subst (Knows b words ruled.state) new (Knows-noted b words ruled.state v (ruled.knows id v found))
+    | inr new ↦ subst (Knows b words ruled.state) new knows
   ];
   seated = record {
-    only = λ j p u there holds. elim (at_snoc knowledge (noted v) u j there) as (λ _. ruled.seat p ≡ j) [
+    only = λ j p u there holds. elim (at_snoc knowledge w u j there) as (λ _. ruled.seat p ≡ j) [
       | inl old ↦ ruled.seated.only j p u old holds
-      | inr new ↦ absurd (Holds-noted v p (subst (λ t. Holds t p) (sym new) holds))
+      | inr new ↦ absurd (Holds-nothing w p none (subst (λ t. Holds t p) (sym new) holds))
     ];
     some_seat = λ p within.
         let before = ruled.seated.some_seat p within in
-        (before.0, at_longer knowledge (noted v ∷ []) (ruled.seat p) before.0 before.1, before.2);
+        (before.0, at_longer knowledge (w ∷ []) (ruled.seat p) before.0 before.1, before.2);
   };
 }
 
@@ -54,7 +52,8 @@ module _ {S : Type 0} where
   -- a seat may be cut into itself and a note
   pub notes : (key : BookTerms) (id : ℕ) (v : Knowledge) → Splits {S = S} (λ s. Ruled key s.words s.views) id v v (noted v)
   notes key id v s holds found =
-      subst (λ t. Ruled key s.words (t ++ noted v ∷ [])) (sym (set_again s.views id v found)) (Ruled-noted key s.words s.views id v holds found)
+      subst (λ t. Ruled key s.words (t ++ noted v ∷ [])) (sym (set_again s.views id v found))
+      (Ruled-more key s.words s.views (noted v) holds refl (Knows-noted key s.words holds.state v (holds.knows id v found)))
 
 -- a board has words
 pub word_count-some : (b : BookTerms) → IsBook b → 0 < word_count b

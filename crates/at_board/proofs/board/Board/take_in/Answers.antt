@@ -1,4 +1,4 @@
-use Rattle.std.proofs.Common.{◌≡◌, ◌<◌, length, sym, ap, subst, ◌∙◌, arith}
+use Rattle.std.proofs.Common.{◌≡◌, length, sym, ap, subst, ◌∙◌, arith}
 use Rattle.std.proofs.lemmas.Grind.{common_steps}
 use Rattle.at_ledger.specs.Book.{BookTerms}
 use Rattle.at_board.proofs.StepLaws.Learn.{AreSeen-key, HasCounts-learned, IsSeat-learned, Learns-learned, learns}
@@ -28,7 +28,6 @@ join_seat-requires c =
       ap (λ s. s.me.1) other ∙ c.note.invariant.0,
       omega (arith, c.self.invariant.1, word_count-some c.self.inside.layout.book c.self.invariant.2),
       learns c.self.inside.table.shared.key.value c.meet.new.one.id c.meet.new.other.id c.meet.new.one.me.0 c.meet.new.other.me.0
-          (subst (λ (t : Knowledge). 0 < length t.parts) (sym (ap (λ s. s.me.0) one)) (omega (arith, c.seat.invariant.1.one_part)))
           (ap (λ s. length s.me.0.parts) other ∙ c.note.invariant.1.no_part),
     )
 
