@@ -24,7 +24,7 @@ mod reads;
 pub use crate::close::CloseRefused;
 pub use crate::closed::Closed;
 pub use crate::ledger::Ledger;
-pub use crate::notes::{Note, learn_from};
+pub use crate::notes::{Note, learn_overview};
 pub use crate::parts::{CallCount, Rest, sent_after};
 pub use crate::pass::Pass;
 pub use at_base::NoMemory;

@@ -1,7 +1,8 @@
-//! Notes: what one pass has seen, handed to another.
+//! Notes and overviews: what one pass has seen, handed to another, and what the passes of one caller have seen.
 
 ghost use Rattle.std.specs.Prelude.{◌≡◌, ℕ, ◌+◌, List};
 ghost use Rattle.at_board.specs.Counting.{raised};
+ghost use Rattle.at_board.specs.Knowledge.Overviews.{IsOverviewOf, LearnsOverview};
 ghost use Rattle.at_board.specs.Knowledge.Seats.{IsOf};
 ghost use Rattle.at_history.specs.Moves.{AreRuns};
 ghost use Rattle.at_history.specs.Publications.{IsPrefix, longer};
@@ -13,7 +14,7 @@ ghost use Rattle.at_shared.specs.Helpings.{decides_on};
 use crate::ledger::Ledger;
 use crate::parts::Rest;
 use crate::pass::Pass;
-use at_board::{Board, BoardNote, BoardSeat};
+use at_board::{Board, BoardNote, BoardSeat, Overview};
 use std::marker::Model;
 
 /// What a pass had seen when the note was made, to be handed to another pass. It takes no memory.
@@ -72,32 +73,25 @@ impl Ledger {
     }
 }
 
-/// Takes in what the seat of another pass has seen, for a pass that was taken apart, so that its later calls come after all of it. It
-/// is no step, since one caller has both passes. Takes no memory.
-pub fn learn_from(board: &Board, seat: &mut BoardSeat, rest: &Rest, other: &mut BoardSeat)
+/// Takes in all that an overview has, for a pass that was taken apart, between two calls, so that its later calls come after all of
+/// it. It is no step. Takes no memory.
+pub fn learn_overview(board: &Board, seat: &mut BoardSeat, rest: &Rest, overview: &mut Overview)
     requires board { IsOf seat.old board.now }
-    requires other { IsOf other.old board.now }
+    requires overview { IsOverviewOf overview.old board.now }
     requires pass { IsOfOnePass seat.old rest.now }
-    ensures same { seat.new.knows ≡ record seat.old.knows {
-      seen = seat.new.knows.seen;
-      requests = seat.new.knows.requests;
-      decisions = seat.new.knows.decisions;
-    } }
-    ensures begins { IsPrefix seat.old.knows.seen seat.new.knows.seen }
-    ensures told { IsPrefix other.old.knows.seen seat.new.knows.seen }
+    ensures learned { LearnsOverview board.now.book seat.old.knows overview.old.seen seat.new.knows }
     ensures stands { (receipts : List Receipt) → Stands (pass_of seat.old rest.now) receipts
         → Stands (pass_of seat.new rest.now) receipts }
     ensures pass { IsOfOnePass seat.new rest.now }
     ensures board { IsOf seat.new board.now }
-    ensures process { seat.new.knows.first ≡ seat.old.knows.first }
     ensures sent { sent_by (pass_of seat.new rest.now) ≡ sent_by (pass_of seat.old rest.now) }
     ensures asked { (a : ℕ) → asked_by (pass_of seat.new rest.now) a
         ≡ asked_by (pass_of seat.old rest.now) a }
     ensures decides { (a : ℕ) → decides_on seat.new.knows a ≡ decides_on seat.old.knows a }
     ensures steps { seat.new.steps ≡ seat.old.steps }
     ensures exchanges { seat.new.exchanges ≡ seat.old.exchanges }
-    ensures other { other.new ≡ other.old }
+    ensures same { overview.new ≡ overview.old }
 {
     seat.known();
-    board.learn_from(seat, other);
+    board.learn_overview(seat, overview);
 }

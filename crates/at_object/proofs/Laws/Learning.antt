@@ -1,11 +1,14 @@
--- What is left of a pass whose seat takes in what another has seen.
+-- What is left of a pass whose seat takes in what a note or an overview has.
 use Rattle.std.proofs.Common.{◌≡◌, ℕ, List, length, refl, sym, ap, subst, ◌∙◌, arith, get_or}
-use Rattle.at_ledger.specs.Book.{BookTerms, HasSlot}
+use Rattle.at_ledger.specs.Book.{HasSlot}
+use Rattle.at_history.specs.Publications.{IsPrefix}
 use Rattle.at_history.specs.Rounds.{named, owns_of}
+use Rattle.at_history.specs.declared.publication.Publication.{Publication}
 use Rattle.at_board.specs.Knowledge.Parts.{asking_on, own_part}
 use Rattle.at_board.specs.Knowledge.Seats.{IsKept, SeatTerms}
-use Rattle.at_board.specs.Steps.Learn.{Learns}
 use Rattle.at_board.specs.declared.knowledge.Knowledge.{Knowledge}
+use Rattle.at_board.specs.declared.knowledge.SeenDecision.{SeenDecision}
+use Rattle.at_board.specs.declared.knowledge.SeenRequest.{SeenRequest}
 use Rattle.at_closing.proofs.Laws.Seats.{named-IsBetweenCalls}
 use Rattle.at_closing.proofs.Laws.Stands.{AsksNothing, HasMoved, IsBetweenCalls-still, owns_of-still}
 use Rattle.at_closing.proofs.Laws.Told.{Told-IsPrefix}
@@ -19,8 +22,11 @@ use Rattle.at_object.specs.Parted.{IsOfOnePass, pass_of}
 use Rattle.at_object.specs.Passes.{Stands, sent_by}
 use Rattle.at_object.specs.declared.parts.Rest.{Rest}
 
-module _ (b : BookTerms) (before after : SeatTerms) (rest : Rest) (note : Knowledge) (pass : IsOfOnePass before rest) (kept : IsKept before.knows)
-    (learns : Learns b before.knows note after.knows) (keeps : IsKept after.knows) where
+-- of what the seat knows, its list, its requests and its decisions alone are others
+module _ (before after : SeatTerms) (rest : Rest) (list : List Publication) (requests : List SeenRequest) (decisions : List SeenDecision)
+    (pass : IsOfOnePass before rest) (kept : IsKept before.knows)
+    (same : after.knows ≡ record before.knows { seen = list; requests = requests; decisions = decisions })
+    (more : IsPrefix before.knows.seen after.knows.seen) (keeps : IsKept after.knows) where
   abbrev v : Knowledge
   v = before.knows
 
@@ -33,17 +39,17 @@ module _ (b : BookTerms) (before after : SeatTerms) (rest : Rest) (note : Knowle
     kept_before = kept;
     kept_after = keeps;
     book_before = refl;
-    book_after = ap (λ (t : Knowledge). t.book) learns.same;
-    process = ap (λ (t : Knowledge). t.first) learns.same;
-    more = learns.more;
-    free = ap (λ (t : Knowledge). (own_part t).held) learns.same ∙ pass.pass.between.free;
+    book_after = ap (λ (t : Knowledge). t.book) same;
+    process = ap (λ (t : Knowledge). t.first) same;
+    more = more;
+    free = ap (λ (t : Knowledge). (own_part t).held) same ∙ pass.pass.between.free;
   }
 
   nothing : AsksNothing v w
-  nothing = record { same = λ a. ap (λ (t : Knowledge). (asking_on (own_part t) a).announced) learns.same }
+  nothing = record { same = λ a. ap (λ (t : Knowledge). (asking_on (own_part t) a).announced) same }
 
   published : (own_part w).published ≡ (own_part v).published
-  published = ap (λ (t : Knowledge). (own_part t).published) learns.same
+  published = ap (λ (t : Knowledge). (own_part t).published) same
 
   between : IsBetweenCalls v.book w
   between = IsBetweenCalls-still v.book v w moved pass.pass.between nothing published
@@ -52,19 +58,19 @@ module _ (b : BookTerms) (before after : SeatTerms) (rest : Rest) (note : Knowle
   owns = owns_of-still v.book v w moved pass.pass.between nothing published
 
   -- its type keeps the same of it
-  pub IsOfOnePass-Learns : after.board ≡ before.board → IsOfOnePass after rest
-  IsOfOnePass-Learns board =
+  pub IsOfOnePass-learned : after.board ≡ before.board → IsOfOnePass after rest
+  IsOfOnePass-learned board =
       let was = rest.totals in
       let sent = rest.sent in
       IsOfOnePass-same before after rest rest pass board moved.process refl
       (IsPass-HasMoved v.book v w was was sent sent moved between
-      (StaysCounted-HasCounted was v.book v.seen pass.pass.counted w.seen learns.more)
+      (StaysCounted-HasCounted was v.book v.seen pass.pass.counted w.seen more)
       (ap (λ p. get_or was.upto p 0) moved.process ∙ (pass.pass.own_counted ∙ sym published)) (pass.pass.sent_is ∙ sym owns)
       (λ a none. nothing.same a ∙ pass.pass.unasked a none))
 
   -- receipts that stood with it stand with it still
-  pub Stands-Learns : (receipts : List Receipt) → Stands (pass_of before rest) receipts → Stands (pass_of after rest) receipts
-  Stands-Learns receipts told =
+  pub Stands-learned : (receipts : List Receipt) → Stands (pass_of before rest) receipts → Stands (pass_of after rest) receipts
+  Stands-learned receipts told =
       let still : (a slot : ℕ) → HasSlot v.book v.first a slot → named a slot w.seen ≡ named a slot v.seen = λ a slot has.
       omega (
         arith,
@@ -74,8 +80,8 @@ module _ (b : BookTerms) (before after : SeatTerms) (rest : Rest) (note : Knowle
       ) in
       subst (λ t. Told t w.first w.seen receipts) (sym moved.book_after)
       (subst (λ p. Told v.book p w.seen receipts) (sym moved.process)
-      (Told-IsPrefix v.book v.first v.seen w.seen receipts kept.history learns.more owns still told))
+      (Told-IsPrefix v.book v.first v.seen w.seen receipts kept.history more owns still told))
 
   -- it has sent no more
-  pub sent_by-Learns : sent_by (pass_of after rest) ≡ sent_by (pass_of before rest)
-  sent_by-Learns = ap (λ p. owns_of p w.seen) moved.process ∙ owns
+  pub sent_by-learned : sent_by (pass_of after rest) ≡ sent_by (pass_of before rest)
+  sent_by-learned = ap (λ p. owns_of p w.seen) moved.process ∙ owns
