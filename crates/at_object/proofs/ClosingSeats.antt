@@ -4,7 +4,7 @@ use Rattle.std.proofs.lemmas.List.{get_or-map, length-map}
 use Rattle.std.specs.List.{All}
 use Rattle.std.specs.Vec.{vec_capacity}
 use Rattle.at_history.specs.Histories.{IsHistory}
-use Rattle.at_history.specs.Publications.{IsPrefix, publications_of}
+use Rattle.at_history.specs.Publications.{IsPrefix, count_of, publications_of}
 use Rattle.at_ledger.specs.Book.{BookTerms}
 use Rattle.at_board.specs.Ends.Closing.{AreAllFree, EndTerms, IsEnd, records_of}
 use Rattle.at_board.specs.Ends.Opening.{starting_seat}
@@ -114,6 +114,19 @@ module _ (ledger : BoardTerms) (passes : List PassTerms) (receipts : List (List 
       let within : p < length passes = omega (arith, known, accounted.passes_count, ap (λ (b : BookTerms). b.processes) same) in
       omega (arith, length-records_of-pass e same ended p none known, room p d none within)
 
+  -- each pass has seen all records of its process
+  counted-seats : (e : EndTerms) → e.book ≡ ledger.book → (ended : IsEnd e seats) → (p : ℕ) (d : PassTerms) → p < e.book.processes
+      → count_of p ended.state.published ≡ count_of p (get_or passes p d).knows.seen
+  counted-seats e same ended p d known =
+      let inside : p < ledger.book.processes = omega (arith, known, ap (λ (b : BookTerms). b.processes) same) in
+      let within : p < length passes = omega (arith, inside, accounted.passes_count) in
+      let seat = get_or seats p (seat_of d) in
+      let is : seat ≡ seat_of (get_or passes p d) =
+      ap (λ (ss : List SeatTerms). get_or ss p (seat_of d)) seats_are ∙ get_or-map seat_of passes p d (seat_of d) within in
+      ended.counted p (seat_of d) known
+      ∙ (sym (at_rest-seat p (seat_of d) inside).between.own
+      ∙ (ap (λ q. count_of q seat.knows.seen) (first_is p (seat_of d) inside) ∙ ap (λ (s : SeatTerms). count_of p s.knows.seen) is))
+
   -- the logs are all that was published, and each pass had seen a prefix of it. The journal keeps the time of it, since the receipts
   -- stand with the seats
   pub HasAllLogs-seats : (e : EndTerms) (closed : ClosedTerms) → e.book ≡ ledger.book → closed.book ≡ ledger.book
@@ -131,5 +144,7 @@ module _ (ledger : BoardTerms) (passes : List PassTerms) (receipts : List (List 
         subst (λ (s : SeatTerms). IsPrefix s.knows.seen ended.state.published)
         (ap (λ (ss : List SeatTerms). get_or ss p (seat_of d)) seats_are ∙ get_or-map seat_of passes p d (seat_of d) within)
         (ended.seen p (seat_of d) (omega (arith, within, length-seats, accounted.passes_count)));
+    counted = λ p d known. counted-seats e same ended p d
+        (omega (arith, known, ap (λ (b : BookTerms). b.processes) same, ap (λ (b : BookTerms). b.processes) book));
     in_time = in_time (subst (AllStand e.book seats) (sym receipts_are) (AllStand-board e same));
   }

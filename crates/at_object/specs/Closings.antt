@@ -2,7 +2,7 @@
 use Rattle.std.specs.Prelude.{◌≡◌, ℕ, ◌<◌, List, [], length, slice_index_or, All, None}
 use Rattle.at_history.specs.BoardState.{BoardState}
 use Rattle.at_history.specs.Histories.{IsHistory}
-use Rattle.at_history.specs.Publications.{IsPrefix, publications_of}
+use Rattle.at_history.specs.Publications.{IsPrefix, count_of, publications_of}
 use Rattle.at_history.specs.Sound.{Sound}
 use Rattle.at_ledger.specs.Book.{BookTerms}
 use Rattle.at_board.specs.Knowledge.Seats.{BoardTerms}
@@ -31,7 +31,7 @@ pub record ClosedTerms : Type 0 where
   pub closing : ClosingTerms
 
 -- the logs are the publications of the board's last state, which is sound and in which no cell is held, cut by process. All that each
--- pass had seen is a prefix of that one list, and the journal's order keeps its time
+-- pass had seen is a prefix of that one list, which has no more of its process, and the journal's order keeps its time
 pub record HasAllLogs (passes : List PassTerms) (closed : ClosedTerms) : Type 0 where
   pub state : BoardState
   pub sound : Sound closed.book state
@@ -39,4 +39,6 @@ pub record HasAllLogs (passes : List PassTerms) (closed : ClosedTerms) : Type 0 
   pub free : (p : ℕ) → p < closed.book.processes → state.held p ≡ None
   pub logs : (p : ℕ) → p < closed.book.processes → log_published closed.closing p ≡ publications_of p state.published
   pub seen : All (λ pass. IsPrefix pass.knows.seen state.published) passes
+  pub counted : (p : ℕ) (d : PassTerms) → p < closed.book.processes →
+      count_of p state.published ≡ count_of p (slice_index_or passes p d).knows.seen
   pub in_time : KeepsTime state.published closed.closing
