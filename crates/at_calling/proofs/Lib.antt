@@ -1,3 +1,4 @@
+pub mod Laws
 pub mod ReadingLaws
 pub mod PayingAloneLaws
 pub mod PayingAloneTurns

@@ -14,7 +14,7 @@ use Rattle.at_board.specs.Knowledge.Candidates.{HasLoadedRows}
 use Rattle.at_board.specs.Knowledge.Parts.{asking_on, no_asking, no_part, own_part, part_asking, seen_as, with_asking}
 use Rattle.at_board.specs.Steps.Announce.{Announces, with_request}
 use Rattle.at_board.specs.Steps.LoadAnnounced.{all_of, with_row}
-use Rattle.at_board.specs.Steps.LoadRequestWord.{with_loaded}
+use Rattle.at_board.specs.Steps.LoadRequestWord.{LoadsRequestWord, with_loaded}
 use Rattle.at_board.specs.Steps.StoreRequestWord.{StoresRequestWord, with_request_word}
 use Rattle.at_board.specs.Words.Packed.{request_words}
 use Rattle.at_board.specs.declared.knowledge.Asking.{Asking}
@@ -88,24 +88,29 @@ HasSameCounts-HasLoaded b v w a part loads = record {
 HasSameCounts-trans : (v u w : Knowledge) (a : ℕ) → HasSameCounts v u a → HasSameCounts u w a → HasSameCounts v w a
 HasSameCounts-trans v u w a one two = record { published = two.published ∙ one.published; decides = two.decides ∙ one.decides }
 
+pub HasSameCounts-LoadsRequestWord : (b : BookTerms) (v w : Knowledge) (a slot number word n : ℕ) → LoadsRequestWord b v w a slot number word n
+    → HasSameCounts v w a
+HasSameCounts-LoadsRequestWord b v w a slot number word n told =
+    let x : SeenRequest = seen_as a slot number told.request in
+    HasSameCounts-with_asking v (record v { requests = v.requests ++ x ∷ [] }) w a (with_loaded (asking_on (own_part v) a) x word) refl refl told.same
+
 HasSameCounts-MakesLoadOf : (b : BookTerms) (v w : Knowledge) (a slot own : ℕ) (this next : NextRowLoad) → MakesLoadOf b v w a slot own this next
     → HasSameCounts v w a
 HasSameCounts-MakesLoadOf b v w a slot own announced_word next (count, told, follows) =
     HasSameCounts-with_asking v (record v { seen = w.seen; requests = v.requests ++ all_of a slot told.row }) w a
     (with_row (asking_on (own_part v) a) slot count) refl refl told.same
 HasSameCounts-MakesLoadOf b v w a slot own (request_word number word) next (n, told, follows) =
-    let x : SeenRequest = seen_as a slot number told.request in
-    HasSameCounts-with_asking v (record v { requests = v.requests ++ x ∷ [] }) w a (with_loaded (asking_on (own_part v) a) x word) refl refl told.same
+    HasSameCounts-LoadsRequestWord b v w a slot number word n told
 HasSameCounts-MakesLoadOf b v w a slot own nothing next told = absurd told
 
 pub HasSameCounts-MakesNextLoad : (b : BookTerms) (c after : CollectingRowsTerms) → MakesNextLoad b c after → HasSameCounts c.mark after.mark c.account
 HasSameCounts-MakesNextLoad b c after told = HasSameCounts-MakesLoadOf b c.mark after.mark c.account c.slot c.own.slot c.next told.row_next told.load
 
-HasSameCounts-StoresRequestWord : (v w : Knowledge) (a j n : ℕ) → StoresRequestWord v w a j n → HasSameCounts v w a
+pub HasSameCounts-StoresRequestWord : (v w : Knowledge) (a j n : ℕ) → StoresRequestWord v w a j n → HasSameCounts v w a
 HasSameCounts-StoresRequestWord v w a j n told =
     HasSameCounts-with_asking v v w a (with_request_word (asking_on (own_part v) a) j n) refl refl told
 
-HasSameCounts-Announces : (b : BookTerms) (v w : Knowledge) (a slot : ℕ) (r : Request) → Announces b v w a slot r → HasSameCounts v w a
+pub HasSameCounts-Announces : (b : BookTerms) (v w : Knowledge) (a slot : ℕ) (r : Request) → Announces b v w a slot r → HasSameCounts v w a
 HasSameCounts-Announces b v w a slot r told =
     let old : Asking = asking_on (own_part v) a in
     HasSameCounts-with_asking v (record v { seen = w.seen; requests = v.requests ++ seen_as a slot (length old.announced) r ∷ [] }) w a

@@ -127,7 +127,7 @@ IsStepOf-MakesStep b c w exchange next has left (d, proposal, told, then) =
     (omega (arith, IsPrefix-length c.mark.seen w.seen after.more, ap (λ (q : Part). q.published) own)) (λ some. ap (λ (q : Part). q.published) own)
 IsStepOf-MakesStep b c w (request_word d word) next has left ((n, told), more, last) =
     IsStepOf-LoadsRequestWord b c.mark w c.helping.account d.slot d.number word n (left_of_round b.processes next) has told
-IsStepOf-MakesStep b c w (record_word d word) next has left (stores, publishes) =
+IsStepOf-MakesStep b c w (record_word d word) next has left (few, stores, publishes) =
     let a = c.helping.account in
     elim (cases_lt word (record_width b)) as (λ _. IsStepOf c.mark w a 0 (left_of_round b.processes next)) [
       | inl inside ↦

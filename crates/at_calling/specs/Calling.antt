@@ -16,9 +16,9 @@ use Rattle.at_object.specs.Passes.{PassTerms}
 use Rattle.at_object.specs.Payments.{refusal_of}
 use Rattle.at_object.specs.declared.parts.Rest.{Rest}
 use Rattle.at_shared.specs.Helpings.{decides_made}
-use Rattle.at_machines.specs.Looking.{IsWithinOneMore, MakesLookLoad, look_turns_left}
-use Rattle.at_calling.specs.PayingAlone.{MakesPayStep, pay_turns_left, turns_made}
-use Rattle.at_calling.specs.PayingShared.{MakesShareStep, share_exchanges_at, share_exchanges_made, share_turns_left}
+use Rattle.at_machines.specs.Looking.{IsWithinOneMore, MakesLookLoad, length_at, look_turns_left}
+use Rattle.at_calling.specs.PayingAlone.{MakesPayStep, pay_length_at, pay_publishes_at, pay_turns_left, turns_made}
+use Rattle.at_calling.specs.PayingShared.{MakesShareStep, share_exchanges_at, share_exchanges_made, share_length_at, share_publishes_at, share_turns_left}
 use Rattle.at_calling.specs.Reading.{counted_so_far, newly_seen}
 use Rattle.at_calling.specs.declared.call_stage.CallStage.{CallStage}
 use Rattle.at_calling.specs.declared.call_stage.CallStage.TheVariants.{PayAlone, PayShared, Read, Refuse, Refused}
@@ -106,6 +106,22 @@ exchanges_of Refused = 0
 exchanges_of (Read r) = 0
 exchanges_of (PayAlone p) = 0
 exchanges_of (PayShared p) = share_exchanges_at p.stage
+
+-- how many records it publishes
+abbrev pub publishes_of : BookTerms → CallStage → ℕ
+publishes_of b (Refuse reply) = 0
+publishes_of b Refused = 0
+publishes_of b (Read r) = 0
+publishes_of b (PayAlone p) = pay_publishes_at b p.stage
+publishes_of b (PayShared p) = share_publishes_at b p.stage
+
+-- and the process whose length it loads, if it loads one
+abbrev pub length_loaded : CallStage → Option ℕ
+length_loaded (Refuse reply) = None
+length_loaded Refused = None
+length_loaded (Read r) = length_at r.looking.stage
+length_loaded (PayAlone p) = pay_length_at p.stage
+length_loaded (PayShared p) = share_length_at p.stage
 
 -- just the step was made that came next: none of a call that is refused
 abbrev pub MakesCallStep : BookTerms → CallStage → SeatTerms → SeatTerms → TotalSums → Type 0

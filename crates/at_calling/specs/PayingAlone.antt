@@ -1,5 +1,5 @@
 -- Payments from single accounts that are made one step a turn.
-use Rattle.std.specs.Prelude.{◌≡◌, ℕ, ◌+◌, ◌-◌, ◌*◌, ◌<◌, ◌≤◌, List}
+use Rattle.std.specs.Prelude.{◌≡◌, ℕ, ◌+◌, ◌-◌, ◌*◌, ◌<◌, ◌≤◌, List, Option, None}
 use Rattle.at_ledger.specs.Book.{BookTerms}
 use Rattle.at_ledger.specs.Call.{TargetPair}
 use Rattle.at_ledger.specs.declared.call.Reply.{Reply}
@@ -15,8 +15,8 @@ use Rattle.at_log.specs.declared.receipt.At.{At}
 use Rattle.at_object.specs.Paid.{PaysAlone}
 use Rattle.at_object.specs.Payments.{single_steps}
 use Rattle.at_shared.specs.Settling.{OnReceipts}
-use Rattle.at_machines.specs.Appending.{StoresNextWord, publication_of}
-use Rattle.at_machines.specs.Looking.{MakesLookLoad, look_turns_left}
+use Rattle.at_machines.specs.Appending.{StoresNextWord, publication_of, published_after}
+use Rattle.at_machines.specs.Looking.{MakesLookLoad, length_at, look_turns_left}
 use Rattle.at_calling.specs.declared.pay_stage.PayStage.{PayStage}
 use Rattle.at_calling.specs.declared.pay_stage.PayStage.TheVariants.{Append, Look, Short}
 
@@ -47,13 +47,26 @@ pay_turns_left width (Look l) = look_turns_left l.stage + width + 1
 pay_turns_left width (Append a) = width + 1 - a.stored
 pay_turns_left width Short = 0
 
--- just the step was made that came next: of the look, or of the append
+-- just the step was made that came next: of the look, or of the append, by what the seat knew before it
 abbrev pub MakesPayStep : BookTerms → PayStage → SeatTerms → SeatTerms → TotalSums → Type 0
 MakesPayStep b (Look l) before after now = MakesLookLoad b l.stage before after now
 MakesPayStep b (Append a) before after now =
-    (a.stored < record_width b → StoresNextWord a after.knows)
-    × (a.stored ≡ record_width b → Publishes b a.start after.knows (publication_of a))
+    (a.mark ≡ before.knows) × (a.stored ≤ record_width b)
+    × (a.stored < record_width b → StoresNextWord a after.knows)
+    × (a.stored ≡ record_width b → Publishes b a.mark after.knows (publication_of a))
 MakesPayStep b Short before after now = ⊥
+
+-- how many records the next turn publishes: one where the record's words are stored, and else none
+abbrev pub pay_publishes_at : BookTerms → PayStage → ℕ
+pay_publishes_at b (Look l) = 0
+pay_publishes_at b (Append a) = published_after (record_width b) a.stored
+pay_publishes_at b Short = 0
+
+-- and the process whose length it loads, if it loads one
+abbrev pub pay_length_at : PayStage → Option ℕ
+pay_length_at (Look l) = length_at l.stage
+pay_length_at (Append a) = None
+pay_length_at Short = None
 
 -- the steps of a payment after its look: of a record with so many words, where it is done
 abbrev pub append_steps : ℕ → Reply → ℕ

@@ -1,5 +1,5 @@
 -- Payments from shared accounts that are made one step a turn.
-use Rattle.std.specs.Prelude.{◌≡◌, ◌≢◌, ℕ, ◌+◌, ◌-◌, ◌*◌, ◌≤◌, List}
+use Rattle.std.specs.Prelude.{◌≡◌, ◌≢◌, ℕ, ◌+◌, ◌-◌, ◌*◌, ◌≤◌, List, Option, None}
 use Rattle.at_ledger.specs.Account.{slots_of}
 use Rattle.at_ledger.specs.Book.{BookTerms, account_of}
 use Rattle.at_ledger.specs.Call.{TargetPair}
@@ -15,8 +15,8 @@ use Rattle.at_object.specs.Payments.{shared_steps}
 use Rattle.at_shared.specs.Helpings.{decides_made, decides_on}
 use Rattle.at_shared.specs.Settling.{OnReceipts, asking_steps, round_steps}
 use Rattle.at_snapshot.specs.Snapshots.{snapshot_steps}
-use Rattle.at_calling.specs.Starting.{MakesStartStep}
-use Rattle.at_calling.specs.Turning.{MakesTurnStep, exchanges_at}
+use Rattle.at_calling.specs.Starting.{MakesStartStep, start_length_at}
+use Rattle.at_calling.specs.Turning.{MakesTurnStep, exchanges_at, help_length_at, publishes_at}
 use Rattle.at_calling.specs.declared.share_stage.ShareStage.{ShareStage}
 use Rattle.at_calling.specs.declared.share_stage.ShareStage.TheVariants.{Ended, Help, Start}
 use Rattle.at_calling.specs.declared.turn_stage.TurnStage.{TurnStage}
@@ -70,6 +70,18 @@ abbrev pub share_exchanges_at : ShareStage → ℕ
 share_exchanges_at (Start s) = 0
 share_exchanges_at (Help h u) = exchanges_at u.stage
 share_exchanges_at Ended = 0
+
+-- and one record is published in the last one
+abbrev pub share_publishes_at : BookTerms → ShareStage → ℕ
+share_publishes_at b (Start s) = 0
+share_publishes_at b (Help h u) = publishes_at b u.stage
+share_publishes_at b Ended = 0
+
+-- the process whose length the next turn loads, if it loads one
+abbrev pub share_length_at : ShareStage → Option ℕ
+share_length_at (Start s) = start_length_at s.stage
+share_length_at (Help h u) = help_length_at u.stage
+share_length_at Ended = None
 
 -- the exchanges that were made: none in the start
 abbrev pub unless_starting : ℕ → ShareStage → ℕ

@@ -1,12 +1,11 @@
 -- Payments from shared accounts that are started one step a turn.
-use Rattle.std.specs.Prelude.{◌≡◌, ℕ, ◌+◌, ◌-◌, ◌*◌, ◌<◌, ◌≤◌, List, length}
+use Rattle.std.specs.Prelude.{◌≡◌, ℕ, ◌+◌, ◌-◌, ◌*◌, ◌<◌, ◌≤◌, List, length, Option, None}
 use Rattle.at_ledger.specs.Account.{slots_of}
-use Rattle.at_ledger.specs.Book.{BookTerms, HasSlot, account_of}
+use Rattle.at_ledger.specs.Book.{BookTerms, account_of}
 use Rattle.at_ledger.specs.Call.{TargetPair}
 use Rattle.at_history.specs.Publications.{IsPrefix}
 use Rattle.at_board.specs.Knowledge.Parts.{asking_on, own_part}
 use Rattle.at_board.specs.Knowledge.Seats.{SeatTerms}
-use Rattle.at_board.specs.Steps.Announce.{Announces}
 use Rattle.at_board.specs.declared.knowledge.Knowledge.{Knowledge}
 use Rattle.at_board.specs.declared.words.TheConstants.{RECORD_WORDS, REQUEST_WORDS}
 use Rattle.at_fold.specs.Sums.{TotalSums}
@@ -14,11 +13,11 @@ use Rattle.at_shared.specs.HelpingTerms.{HelpingTerms}
 use Rattle.at_shared.specs.Helpings.{HasStarted, IsHelping, decides_on}
 use Rattle.at_shared.specs.Settling.{asking_steps}
 use Rattle.at_snapshot.specs.Snapshots.{snapshot_steps}
-use Rattle.at_machines.specs.Asking.{StoresNextRequestWord, request_asked}
+use Rattle.at_machines.specs.Asking.{AnnouncesAsked, StoresNextRequestWord}
 use Rattle.at_machines.specs.CollectingRows.{CollectingRowsTerms, MakesNextLoad, rows_after}
 use Rattle.at_machines.specs.LoadingRow.{NextRowLoad}
 use Rattle.at_machines.specs.LoadingRow.NextRowLoad.{announced_word, request_word, nothing}
-use Rattle.at_machines.specs.Looking.{MakesLookLoad, look_turns_left}
+use Rattle.at_machines.specs.Looking.{MakesLookLoad, length_at, look_turns_left}
 use Rattle.at_calling.specs.declared.start_stage.StartStage.{StartStage}
 use Rattle.at_calling.specs.declared.start_stage.StartStage.TheVariants.{Ask, Collect, Look}
 
@@ -79,13 +78,20 @@ pub record HasSameCounts (before after : Knowledge) (a : ℕ) : Type 0 where
 abbrev pub MakesRowsLoad : BookTerms → CollectingRowsTerms → Knowledge → Type 0
 MakesRowsLoad b c v = (slot : ℕ) × (next : NextRowLoad) × MakesNextLoad b c (rows_after c v slot next)
 
--- just the step was made that came next: of the look, of asking, or of the rows
+-- just the step was made that came next: of the look, of asking, or of the rows, by what the seat knew before it
 abbrev pub MakesStartStep : BookTerms → StartStage → SeatTerms → SeatTerms → TotalSums → Type 0
 MakesStartStep b (Look l) before after now = MakesLookLoad b l.stage before after now
 MakesStartStep b (Ask a) before after now =
-    (a.stored < REQUEST_WORDS → StoresNextRequestWord a after.knows)
-    × (a.stored ≡ REQUEST_WORDS → (slot : ℕ) → HasSlot b a.start.first a.account slot → Announces b a.start after.knows a.account slot (request_asked a))
-MakesStartStep b (Collect c) before after now = MakesRowsLoad b c after.knows
+    (a.mark ≡ before.knows) × (a.stored ≤ REQUEST_WORDS)
+    × (a.stored < REQUEST_WORDS → StoresNextRequestWord a after.knows)
+    × (a.stored ≡ REQUEST_WORDS → AnnouncesAsked b a after.knows)
+MakesStartStep b (Collect c) before after now = (c.mark ≡ before.knows) × MakesRowsLoad b c after.knows
+
+-- the process whose length the next turn loads, if it loads one
+abbrev pub start_length_at : StartStage → Option ℕ
+start_length_at (Look l) = length_at l.stage
+start_length_at (Ask a) = None
+start_length_at (Collect c) = None
 
 -- the request that waits for these targets on the account, whose first turn came after what was known before. It has published,
 -- held and decided nothing

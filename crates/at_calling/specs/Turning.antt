@@ -1,5 +1,5 @@
 -- Turns of helping that are made one step a turn.
-use Rattle.std.specs.Prelude.{◌≡◌, ◌≢◌, ℕ, ◌+◌, ◌-◌, ◌*◌, ◌≤◌, List, None}
+use Rattle.std.specs.Prelude.{◌≡◌, ◌≢◌, ℕ, ◌+◌, ◌-◌, ◌*◌, ◌≤◌, List, Option, None}
 use Rattle.at_ledger.specs.Account.{slots_of}
 use Rattle.at_ledger.specs.Book.{BookTerms, account_of}
 use Rattle.at_history.specs.Publications.{IsPrefix}
@@ -18,8 +18,8 @@ use Rattle.at_shared.specs.Helpings.{IsHelping, decides_on, heard_on}
 use Rattle.at_shared.specs.Settling.{StandsAfter, StandsInRound, round_steps}
 use Rattle.at_shared.specs.declared.helping.HelpTurn.{HelpTurn}
 use Rattle.at_snapshot.specs.Snapshots.{snapshot_steps}
-use Rattle.at_machines.specs.Deciding.{MakesRoundStep, exchanges_in}
-use Rattle.at_machines.specs.Looking.{MakesLookLoad, look_turns_left}
+use Rattle.at_machines.specs.Deciding.{MakesRoundStep, exchanges_in, publishes_in}
+use Rattle.at_machines.specs.Looking.{MakesLookLoad, length_at, look_turns_left}
 use Rattle.at_calling.specs.declared.turn_stage.TurnStage.{TurnStage}
 use Rattle.at_calling.specs.declared.turn_stage.TurnStage.TheVariants.{Decide, Found, Look}
 
@@ -62,6 +62,18 @@ abbrev pub exchanges_at : TurnStage → ℕ
 exchanges_at (Look l) = 0
 exchanges_at (Decide d) = exchanges_in d.next
 exchanges_at Found = 0
+
+-- one record is published in the round's last step, and in no other
+abbrev pub publishes_at : BookTerms → TurnStage → ℕ
+publishes_at b (Look l) = 0
+publishes_at b (Decide d) = publishes_in b d.next
+publishes_at b Found = 0
+
+-- the process whose length the next turn loads, if it loads one
+abbrev pub help_length_at : TurnStage → Option ℕ
+help_length_at (Look l) = length_at l.stage
+help_length_at (Decide d) = None
+help_length_at Found = None
 
 -- the most steps of a turn of helping, beside the loads of records: those of a snapshot, and of so many rounds
 abbrev pub help_steps : ℕ → ℕ → ℕ

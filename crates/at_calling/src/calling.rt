@@ -17,7 +17,7 @@ ghost use Rattle.at_calling.specs.PayingAlone.{PayingAloneTerms};
 ghost use Rattle.at_calling.specs.PayingShared.{PayingSharedTerms};
 ghost use Rattle.at_calling.specs.Reading.{ReadingTerms};
 ghost use Rattle.at_object.specs.CallCounts.{with_one_call};
-ghost use Rattle.at_calling.specs.Calling.{IsCallWithin, IsWay, MakesCallStep, call_turns_left, exchanges_made, exchanges_of, pass_before, steps_made, steps_of};
+ghost use Rattle.at_calling.specs.Calling.{IsCallWithin, IsWay, MakesCallStep, StartsFrom, call_turns_left, exchanges_made, exchanges_of, pass_before, steps_made, steps_of};
 ghost use Rattle.at_object.specs.Calls.{CallMade, StaysWithin};
 
 use crate::call_stage::CallStage;
@@ -69,6 +69,7 @@ impl Calling {
         ensures mark { result.mark ≡ seat.now }
         ensures rest { result.rest ≡ rest.now }
         ensures way { IsWay board.now.book (pass_of seat.now rest.now) call result.stage }
+        ensures starts { StartsFrom seat.now.knows rest.now.totals result.stage }
         ensures turns { steps_made result.stage ≡ 0 }
         ensures exchanges { exchanges_made result.stage ≡ 0 }
         ensures left { 0 < call_turns_left board.now.book result.stage }

@@ -1,5 +1,5 @@
 -- Appends that are made one store a turn.
-use Rattle.std.specs.Prelude.{ℕ, ◌+◌, slice_index}
+use Rattle.std.specs.Prelude.{ℕ, ◌+◌, ◌==◌, slice_index, if◌then◌else◌}
 use Rattle.at_history.specs.declared.publication.Publication.{Publication}
 use Rattle.at_board.specs.declared.knowledge.Knowledge.{Knowledge}
 use Rattle.at_board.specs.Steps.StoreRecordWord.{StoresWord}
@@ -24,6 +24,10 @@ appending_after a v = record { start = a.start; mark = v; rec = a.rec; stored = 
 -- what it publishes
 abbrev pub publication_of : AppendingTerms → Publication
 publication_of a = published_by a.start.first a.rec
+
+-- how many records the next store publishes, of a record with so many words of which so many are stored: one after the last word
+abbrev pub published_after : ℕ → ℕ → ℕ
+published_after width stored = if stored == width then 1 else 0
 
 -- the seat has then stored the next word of the record, and nothing else
 abbrev pub StoresNextWord : AppendingTerms → Knowledge → Type 0

@@ -1,7 +1,9 @@
 -- Asking that is made one store a turn.
 use Rattle.std.specs.Prelude.{ℕ, ◌+◌, List, slice_index}
+use Rattle.at_ledger.specs.Book.{BookTerms, HasSlot}
 use Rattle.at_ledger.specs.Call.{TargetPair}
 use Rattle.at_history.specs.declared.request.Request.{Request}
+use Rattle.at_board.specs.Steps.Announce.{Announces}
 use Rattle.at_board.specs.Steps.StoreRequestWord.{StoresRequestWord}
 use Rattle.at_board.specs.Words.Packed.{request_words}
 use Rattle.at_board.specs.declared.knowledge.Knowledge.{Knowledge}
@@ -31,3 +33,7 @@ request_asked a = asked_for a.targets a.since
 -- the seat has then stored the next word of the request, and nothing else
 abbrev pub StoresNextRequestWord : AskingTerms → Knowledge → Type 0
 StoresNextRequestWord a v = StoresRequestWord a.mark v a.account a.stored (slice_index (request_words (request_asked a)) a.stored)
+
+-- the seat has then announced the request in the slot of its process, and nothing else
+abbrev pub AnnouncesAsked : BookTerms → AskingTerms → Knowledge → Type 0
+AnnouncesAsked b a v = (slot : ℕ) × HasSlot b a.mark.first a.account slot × Announces b a.mark v a.account slot (request_asked a)

@@ -1,5 +1,5 @@
 -- Rounds of shared payments that are decided and published one step a turn.
-use Rattle.std.specs.Prelude.{◌≡◌, ℕ, ◌+◌, ◌-◌, ◌<◌, List}
+use Rattle.std.specs.Prelude.{◌≡◌, ℕ, ◌+◌, ◌-◌, ◌<◌, ◌≤◌, List}
 use Rattle.at_base.specs.declared.decision.Decision.{Decision}
 use Rattle.at_ledger.specs.Book.{BookTerms}
 use Rattle.at_history.specs.Fronts.{prefix_of}
@@ -15,6 +15,7 @@ use Rattle.at_fold.specs.Sums.{TotalSums}
 use Rattle.at_rounds.specs.Answers.{DecidesAs}
 use Rattle.at_shared.specs.HelpingTerms.{HelpingTerms}
 use Rattle.at_shared.specs.Settling.{round_steps}
+use Rattle.at_machines.specs.Appending.{published_after}
 use Rattle.at_machines.specs.declared.round_stage.RoundStage.{RoundStage}
 use Rattle.at_machines.specs.declared.round_stage.RoundStage.TheVariants.{Proposing, Loading, Publishing, Ended}
 
@@ -74,6 +75,13 @@ exchanges_in (request_word d word) = 0
 exchanges_in (record_word d word) = 0
 exchanges_in nothing = 0
 
+-- and one record is published in the last step, and in no other
+abbrev pub publishes_in : BookTerms → NextOfRound → ℕ
+publishes_in b exchange = 0
+publishes_in b (request_word d word) = 0
+publishes_in b (record_word d word) = published_after (record_width b) word
+publishes_in b nothing = 0
+
 -- the round that is decided: the next one of the account at the front
 abbrev pub round_in : DecidingTerms → ℕ
 round_in c = rounds c.helping.account (prefix_of c.front c.start.seen)
@@ -84,8 +92,8 @@ MakesStep b c v exchange next =
     (d proposal : Decision) × DecidesAs b c.mark v c.helping.account (round_in c) proposal d × (next ≡ request_word d 0)
 MakesStep b c v (request_word d word) next = ((n : ℕ) × LoadsRequestWord b c.mark v c.helping.account d.slot d.number word n)
     × (word + 1 < REQUEST_WORDS → next ≡ request_word d (word + 1)) × (word + 1 ≡ REQUEST_WORDS → next ≡ record_word d 0)
-MakesStep b c v (record_word d word) next =
-    (word < record_width b → ((n : ℕ) × StoresWord c.mark v word n) × (next ≡ record_word d (word + 1)))
+MakesStep b c v (record_word d word) next = (word ≤ record_width b)
+    × (word < record_width b → ((n : ℕ) × StoresWord c.mark v word n) × (next ≡ record_word d (word + 1)))
     × (word ≡ record_width b → ((x : Publication) × Publishes b c.mark v x) × (next ≡ nothing))
 MakesStep b c v nothing next = ⊥
 

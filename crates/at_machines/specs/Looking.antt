@@ -1,14 +1,15 @@
 -- Looks that are made one load a turn: a snapshot, and then the records that it counts and the totals don't.
-use Rattle.std.specs.Prelude.{ℕ, ◌+◌, ◌-◌, ◌*◌, ◌<◌, ◌≤◌, sum}
+use Rattle.std.specs.Prelude.{◌≡◌, ℕ, ◌+◌, ◌-◌, ◌*◌, ◌<◌, ◌≤◌, sum, Option, None}
 use Rattle.at_ledger.specs.Book.{BookTerms}
 use Rattle.at_history.specs.Fronts.{places_max}
+use Rattle.at_board.specs.Counting.{stepped}
 use Rattle.at_board.specs.Knowledge.Seats.{SeatTerms}
 use Rattle.at_board.specs.declared.knowledge.Knowledge.{Knowledge}
 use Rattle.at_board.specs.declared.words.TheConstants.{RECORD_WORDS}
 use Rattle.at_fold.specs.Sums.{TotalSums}
 use Rattle.at_snapshot.specs.Snapshots.{snapshot_steps}
 use Rattle.at_machines.specs.CatchingUp.{LoadsNextWord, loads_left}
-use Rattle.at_machines.specs.Snapping.{MakesLoad}
+use Rattle.at_machines.specs.Snapping.{MakesLoad, length_in}
 use Rattle.at_machines.specs.declared.look_stage.LookStage.{LookStage}
 use Rattle.at_machines.specs.declared.look_stage.LookStage.TheVariants.{CatchUp, Snap}
 
@@ -28,10 +29,15 @@ abbrev pub look_turns_left : LookStage → ℕ
 look_turns_left (Snap s) = s.left + RECORD_WORDS * places_max
 look_turns_left (CatchUp c) = loads_left c
 
--- just the load was made that came next
+-- just the load was made that came next. A word of a record tells the seat nothing new
 abbrev pub MakesLookLoad : BookTerms → LookStage → SeatTerms → SeatTerms → TotalSums → Type 0
 MakesLookLoad b (Snap s) before after now = MakesLoad b s.next before after
-MakesLookLoad b (CatchUp c) before after now = LoadsNextWord c now
+MakesLookLoad b (CatchUp c) before after now = (after ≡ stepped before 1) × LoadsNextWord c now
+
+-- the process whose length the next turn loads, if it loads one
+abbrev pub length_at : LookStage → Option ℕ
+length_at (Snap s) = length_in s.next
+length_at (CatchUp c) = None
 
 -- so many turns are at most those of a snapshot, and of the loads of the records that are among so many and weren't counted before
 abbrev pub IsWithin : ℕ → TotalSums → ℕ → ℕ → Type 0

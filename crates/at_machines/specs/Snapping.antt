@@ -1,5 +1,5 @@
 -- Snapshots that are made one load a turn.
-use Rattle.std.specs.Prelude.{◌≡◌, ℕ, ◌+◌, ◌-◌, ◌*◌, ◌<◌}
+use Rattle.std.specs.Prelude.{◌≡◌, ℕ, ◌+◌, ◌-◌, ◌*◌, ◌<◌, Option, None, Some}
 use Rattle.at_ledger.specs.Book.{BookTerms}
 use Rattle.at_board.specs.Counting.{stepped}
 use Rattle.at_board.specs.Knowledge.Seats.{SeatTerms}
@@ -26,6 +26,12 @@ abbrev pub MakesLoad : BookTerms → NextLoad → SeatTerms → SeatTerms → Ty
 MakesLoad b (length_of p) before after = LoadsLengthOf b before.knows after.knows p
 MakesLoad b (view_word k) before after = after ≡ stepped before 1
 MakesLoad b nothing before after = ⊥
+
+-- the process whose length that is, if it is one
+abbrev pub length_in : NextLoad → Option ℕ
+length_in (length_of p) = Some p
+length_in (view_word k) = None
+length_in nothing = None
 
 -- a collect or a view begins, or nothing is left
 abbrev pub BeginsAnew : NextLoad → Type 0

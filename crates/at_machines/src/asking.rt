@@ -8,7 +8,7 @@ ghost use Rattle.at_board.specs.Steps.Announce.{Announces};
 ghost use Rattle.at_board.specs.declared.words.TheConstants.{REQUEST_WORDS};
 ghost use Rattle.at_ledger.specs.Book.{HasSlot};
 ghost use Rattle.at_rows.specs.Asks.{HasAsked, HasLoadedNothing, MayAskFor, asked_for, opened};
-ghost use Rattle.at_machines.specs.Asking.{StoresNextRequestWord, asking_after, request_asked, starting_to_ask};
+ghost use Rattle.at_machines.specs.Asking.{AnnouncesAsked, StoresNextRequestWord, asking_after, request_asked, starting_to_ask};
 
 use at_board::{Board, BoardSeat, REQUEST_WORDS};
 use at_ledger::Targets;
@@ -81,6 +81,8 @@ impl Asking {
         ensures word { self.old.stored < REQUEST_WORDS
             → StoresNextRequestWord self.old seat.new.knows }
         ensures ends { IsSome result ↔ (self.old.stored ≡ REQUEST_WORDS) }
+        ensures announces { IfSome result (λ number. AnnouncesAsked board.now.book self.old
+            seat.new.knows) }
         ensures announced { IfSome result (λ number. (slot : ℕ)
             → HasSlot board.now.book self.old.start.first self.old.account slot
             → Announces board.now.book self.old.start seat.new.knows self.old.account slot

@@ -105,7 +105,8 @@ returns-then-not-is_published-clause-turned c =
     let stored : StoresWord t.mark w a.stored (slice_index (record_words (publication_of a)) a.stored) =
     subst (λ (v : Knowledge). StoresWord v w a.stored (slice_index (record_words (publication_of a)) a.stored)) (appends at).mark_is word in
     let same_totals : t.totals ≡ c.args.totals.now = ap (λ (s : PayingAloneTerms). s.totals) c.self.view_is ∙ sym c.requires.totals in
-    let step : MakesPayStep b (Append a) c.args.seat.now c.turn-is_published.new.seat c.args.totals.now = (λ inside. word, λ all. absurd (other all)) in
+    let step : MakesPayStep b (Append a) c.args.seat.now c.turn-is_published.new.seat c.args.totals.now =
+    ((appends at).mark_is ∙ sym (known at), few at, λ inside. word, λ all. absurd (other all)) in
     let unpublished : (own_part w).published ≡ (own_part t.mark).published =
     ap (λ (v : Knowledge). (own_part v).published) stored
     ∙ published-with_part t.mark (with_word (own_part t.mark) a.stored (slice_index (record_words (publication_of a)) a.stored)) refl in
@@ -191,7 +192,7 @@ returns-clause-turned c =
     subst (λ (v : Knowledge). Publishes b v x (publication_of a)) (appends at).mark_is (told.publishes done) in
     let more = length-Publishes-lt b t.mark x (publication_of a) publishes in
     turned at now c.of.result.value c.of.ensures c.of-2.result.value c.of-2.ensures (Some r)
-    (λ inside. absurd (omega (arith, inside, all)), λ full. told.published done)
+    ((appends at).mark_is ∙ sym (known at), few at, λ inside. absurd (omega (arith, inside, all)), λ full. told.publishes done)
     (omega (arith, more, one, (appends at).unpublished))
     (IsPrefix-Publishes b t.mark x (publication_of a) publishes)
     (omega (arith, leaves.few))

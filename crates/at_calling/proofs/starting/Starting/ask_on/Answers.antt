@@ -33,6 +33,10 @@ book c = sym c.requires.board.book ∙ (ap (λ (v : Knowledge). v.book) (known_b
 asks : (c : After-turn-announced) → IsAskingThen (the_view c.self.inside) c.in-Ask.asking
 asks c = subst (IsStartStageSo (the_view c.self.inside)) c.in-Ask.is c.self.invariant.stage_so
 
+-- what asking noted last is what the seat knew
+mark_known : (c : After-turn-announced) → c.in-Ask.asking.mark ≡ c.args.seat.now.knows
+mark_known c = (asks c).mark_is ∙ sym (known_before (goal.at.After-turn-announced c).After-self)
+
 -- the slot is the seat's on the board
 slot_there : (c : After-turn-announced)
     → HasSlot c.args.board.now.book c.in-Ask.asking.start.first c.in-Ask.asking.account (slot_of_start (the_view c.self.inside) c.self.invariant)
@@ -186,7 +190,7 @@ returns-in_err-number-clause-turned c =
     c.turn-announced.new.seat c.args.self.now.totals) (sym c.from_residual.ensures)
     (turned at c.of.result.value c.of.ensures (HasSameCounts-word t c.self.invariant a (asks at) c.turn-announced.new.seat.knows (told.word left))
     (IsPrefix-word t c.self.invariant a (asks at) c.turn-announced.new.seat.knows (told.word left)) next
-    (omega (arith, stored)) (λ inside. told.word inside, λ all. absurd (other all)) (omega (arith, stored, left, some_slot at))
+    (omega (arith, stored)) (mark_known at, (asks at).left, λ inside. told.word inside, λ all. absurd (other all)) (omega (arith, stored, left, some_slot at))
     (omega (arith, stored, left, some_slot at)))
 
 pub returns-clause-turned : goal.returns-clause-turned
@@ -204,4 +208,4 @@ returns-clause-turned c =
     c.turn-announced.new.seat c.args.self.now.totals None) (sym (rows_next next))
     (turned at c.of.result.value c.of.ensures
     (HasSameCounts-announced t c.self.invariant a (asks at) c.turn-announced.new.seat.knows (announced slot_found)) (announced slot_found).more stage (omega (arith, all))
-    (λ inside. absurd (omega (arith, inside, all)), λ full. told.announced) (omega (arith, some_slot at)) (omega (arith, all, some_slot at)))
+    (mark_known at, (asks at).left, λ inside. absurd (omega (arith, inside, all)), λ full. told.announces) (omega (arith, some_slot at)) (omega (arith, all, some_slot at)))

@@ -113,7 +113,9 @@ turned c mark mark_is answer ends starts leaves =
     subst (λ (s : StartingTerms). TakesStartTurn b s (start_after t (Collect next) mark.knows) c.args.seat.now after s.totals answer) c.self.view_is
     (TakesStartTurn-collect b t c.self.invariant (sym (book (goal.at.After-turn-collected c).After-self)) c.args.seat.now after mark.knows
     (ap (λ (m : SeatTerms). m.knows) mark_is) r next c.in-Collect.is (goes c) (ap (λ (x : CollectingRowsTerms). x.made) told.after) (same_counts c) (more_rows c)
-    (rows_so c).stage_so.left answer (next.slot, next.next, subst (MakesNextLoad b r) told.after told.load) ends starts leaves)
+    (rows_so c).stage_so.left answer
+    ((collects c).mark_is ∙ sym (known_before (goal.at.After-turn-collected c).After-self), (next.slot, next.next, subst (MakesNextLoad b r) told.after told.load))
+    ends starts leaves)
 
 pub returns-in_err-asked-clause-turned : goal.returns-in_err-asked-clause-turned
 returns-in_err-asked-clause-turned c =

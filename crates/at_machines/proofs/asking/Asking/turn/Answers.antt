@@ -9,7 +9,7 @@ use Rattle.at_board.specs.Steps.StoreRequestWord.{StoresRequestWord}
 use Rattle.at_board.specs.Words.Packed.{request_words}
 use Rattle.at_board.specs.declared.knowledge.Knowledge.{Knowledge}
 use Rattle.at_board.specs.declared.words.TheConstants.{REQUEST_WORDS}
-use Rattle.at_machines.proofs.AskingLaws.{Announces-IsAskingSo, HasAsked-IsAskingSo, HasLoadedNothing-IsAskingSo, HasSlot-IsAskingSo, IsAskingSo-announced, IsAskingSo-word, MayAnnounce-IsAskingSo, announced-IsAskingSo}
+use Rattle.at_machines.proofs.AskingLaws.{Announces-IsAskingSo, HasAsked-IsAskingSo, HasLoadedNothing-IsAskingSo, HasSlot-IsAskingSo, IsAskingSo-announced, IsAskingSo-word, MayAnnounce-IsAskingSo, MayStoreRequest-IsAskingSo, announced-IsAskingSo}
 use Rattle.at_machines.specs.Asking.{AskingTerms, asking_after, request_asked}
 use Rattle.at_machines.specs.KeptAsking.{IsAskingSo}
 use Rattle.at_machines.proofs.asking.Asking.turn.Goals.{After-announce, After-announced-number, After-self}
@@ -116,6 +116,18 @@ invariant_of-self-else-self-lt-REQUEST_WORDS c =
 pub returns-else-self-lt-REQUEST_WORDS-clause-announced : goal.returns-else-self-lt-REQUEST_WORDS-clause-announced
 returns-else-self-lt-REQUEST_WORDS-clause-announced c =
     from_start (goal.at.returns-else-self-lt-REQUEST_WORDS-clause-announced c).After-announce
+
+-- by what was known before this turn
+pub returns-else-self-lt-REQUEST_WORDS-clause-announces : goal.returns-else-self-lt-REQUEST_WORDS-clause-announces
+returns-else-self-lt-REQUEST_WORDS-clause-announces c =
+    let done = (goal.at.returns-else-self-lt-REQUEST_WORDS-clause-announces c).After-announce in
+    let at = (goal.at.After-announce done).After-announced-number in
+    let first = (goal.at.After-announced-number at).After-self in
+    let slot = (before first).may.0 in (
+      slot,
+      (MayStoreRequest-IsAskingSo c.args.board.now.book c.args.self.now (book first) (omega (arith, all at)) (before first)).slot_in,
+      told done slot (mine first),
+    )
 
 -- how many were announced before
 counted : (c : After-announced-number)

@@ -1,12 +1,14 @@
-use Rattle.std.proofs.Common.{◌≡◌, ◌≢◌, false, get_or, true, refl, sym, ap, subst, ◌∙◌, arith}
+use Rattle.std.proofs.Common.{◌≡◌, ◌≢◌, ◌≤◌, ℕ, ◌+◌, false, get_or, true, refl, sym, ap, subst, ◌∙◌, arith}
 use Rattle.std.proofs.lemmas.Grind.{common_steps}
-use Rattle.std.specs.Prelude.{slice_set}
+use Rattle.std.specs.Prelude.{slice_index, slice_set}
 use Rattle.at_board.specs.Knowledge.Parts.{SeesDecision, own_part}
 use Rattle.at_board.specs.Knowledge.Seats.{SeatTerms}
 use Rattle.at_log.specs.LastRecord.{IsLast}
 use Rattle.at_ledger.specs.Book.{BookTerms}
 use Rattle.at_board.specs.Steps.Publish.{Publishes}
+use Rattle.at_board.specs.Steps.StoreRecordWord.{StoresWord}
 use Rattle.at_board.specs.Words.Addresses.{record_width}
+use Rattle.at_board.specs.Words.Packed.{record_words}
 use Rattle.at_board.specs.declared.knowledge.Knowledge.{Knowledge}
 use Rattle.at_fold.specs.HasCounted.{HasCounted}
 use Rattle.at_fold.specs.Sums.{TotalSums}
@@ -16,7 +18,7 @@ use Rattle.at_rounds.specs.Answers.{DecidesAs}
 use Rattle.at_shared.specs.HelpTurns.{DecidesNext}
 use Rattle.at_machines.proofs.DecidingLaws.{DecidesNext-HasLoadedDecided, HasCounted-Publishes, HasLoadedDecided-LoadsRequest, MayAppend-HasLoadedDecided, book-HasLoadedDecided, own-HasLoadedDecided, process-HasLoadedDecided}
 use Rattle.at_machines.specs.Appending.{AppendingTerms, publication_of}
-use Rattle.at_machines.specs.Deciding.{DecidingTerms, MakesRoundStep, MakesStep, nothing, request_word, next_of_round, round_in}
+use Rattle.at_machines.specs.Deciding.{DecidingTerms, MakesRoundStep, MakesStep, NextOfRound, nothing, record_word, request_word, next_of_round, round_in}
 use Rattle.at_machines.specs.KeptDeciding.{HasDecided, HasLoadedDecided, IsDecidingSo}
 use Rattle.at_machines.specs.LoadingRequest.{LoadingRequestTerms}
 use Rattle.at_machines.specs.contracts.deciding.Deciding.{the_view}
@@ -128,7 +130,28 @@ returns-else-not-published-clause-step c =
     subst (λ (v : Knowledge). Publishes b v w (publication_of a)) (before at (Publishing d a) c.in-Publishing.is).stage_so.0 (c.if-not-published.ensures.publishes refl) in
     subst (λ (t : DecidingTerms). MakesRoundStep b t w nothing) c.self.view_is
     (subst (λ (s : RoundStage). MakesStep b old w (next_of_round s) nothing) (sym c.in-Publishing.is)
-    (λ less. absurd (omega (arith, less, all)), λ last. ((publication_of a, told), refl)))
+    (omega (arith, all), λ less. absurd (omega (arith, less, all)), λ last. ((publication_of a, told), refl)))
+
+pub returns-then-not-published-clause-step : goal.returns-then-not-published-clause-step
+returns-then-not-published-clause-step c =
+    let at = (goal.at.returns-then-not-published-clause-step c).After-self in
+    let i = c.self.inside in
+    let b : BookTerms = c.args.board.now.book in
+    let d = c.in-Publishing.decision in
+    let a : AppendingTerms = c.in-Publishing.appending in
+    let w : Knowledge = c.turn-published.new.seat.knows in
+    let old : DecidingTerms = the_view i in
+    let so = (before at (Publishing d a) c.in-Publishing.is).stage_so in
+    let other : a.stored ≢ record_width b = λ full. let wrong : false ≡ true = c.if-not-published.ensures.ends.1 full in absurd (cc wrong) in
+    let few : a.stored ≤ record_width b = omega (arith, so.1, ap record_width (book at)) in
+    let n : ℕ = slice_index (record_words (publication_of a)) a.stored in
+    let told : StoresWord old.mark w a.stored n =
+    subst (λ (v : Knowledge). StoresWord v w a.stored n) so.0 (c.turn-published.ensures.word (omega (arith, few, other))) in
+    let next : NextOfRound = record_word d c.turn-published.new.self.stored in
+    let goes : next ≡ record_word d (a.stored + 1) = ap (λ (t : AppendingTerms). record_word d t.stored) c.turn-published.ensures.after in
+    subst (λ (t : DecidingTerms). MakesRoundStep b t w next) c.self.view_is
+    (subst (λ (s : RoundStage). MakesStep b old w (next_of_round s) next) (sym c.in-Publishing.is)
+    (few, λ inside. ((n, told), goes), λ full. absurd (other full)))
 
 pub returns-else-not-published-clause-decided : goal.returns-else-not-published-clause-decided
 returns-else-not-published-clause-decided c =

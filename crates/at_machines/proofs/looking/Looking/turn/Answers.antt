@@ -16,7 +16,8 @@ use Rattle.at_machines.proofs.Laws.Snapshots.{snapshot_steps-le}
 use Rattle.at_machines.proofs.LookingLaws.{HasLooked-snapped, StaysCounted-HasLoaded, few-IsSnapped, sum-IsSnapped}
 use Rattle.at_machines.specs.KeptLooking.{IsLookingSo}
 use Rattle.at_machines.specs.KeptSnapshots.{IsSnapped}
-use Rattle.at_machines.specs.Looking.{LookingTerms, look_turns_left}
+use Rattle.at_machines.specs.Looking.{LookingTerms, MakesLookLoad, look_turns_left}
+use Rattle.at_machines.specs.declared.look_stage.LookStage.{LookStage}
 use Rattle.at_machines.specs.declared.look_stage.LookStage.TheVariants.{CatchUp, Snap}
 use Rattle.at_machines.proofs.looking.Looking.turn.Goals.{After-copy, After-turn-caught, After-turn-snapped, then-is_ended, else-is_ended}
 use Rattle.at_machines.proofs.looking.Looking.turn.Goals as goal
@@ -142,6 +143,11 @@ before_catching c =
     subst (IsLookingSo s.start s.mark s.was s.totals s.turns) (catches c)
     (subst (λ (t : LookingTerms). IsLookingSo t.start t.mark t.was t.totals t.turns t.stage) c.self.view_is c.self.invariant)
 
+pub returns-in-CatchUp-clause-load : goal.returns-in-CatchUp-clause-load
+returns-in-CatchUp-clause-load c =
+    subst (λ (s : LookStage). MakesLookLoad c.args.board.now.book s c.args.seat.now c.turn-caught.new.seat c.turn-caught.new.totals)
+    (sym (catches (goal.at.returns-in-CatchUp-clause-load c).After-turn-caught)) (c.turn-caught.ensures.same, c.turn-caught.ensures.word)
+
 pub overflow_add-self-in-CatchUp : goal.overflow_add-self-in-CatchUp
 overflow_add-self-in-CatchUp c =
     let at = (goal.at.overflow_add-self-in-CatchUp c).After-turn-caught in
@@ -247,9 +253,6 @@ returns-in-CatchUp-clause-start c = grind (arith, common_steps)
 
 pub returns-in-CatchUp-clause-ends : goal.returns-in-CatchUp-clause-ends
 returns-in-CatchUp-clause-ends c = grind (arith, common_steps)
-
-pub returns-in-CatchUp-clause-load : goal.returns-in-CatchUp-clause-load
-returns-in-CatchUp-clause-load c = grind (arith, common_steps)
 
 pub returns-in_err-front-in-Snap-clause-loads : goal.returns-in_err-front-in-Snap-clause-loads
 returns-in_err-front-in-Snap-clause-loads c = grind (arith, common_steps)
