@@ -9,6 +9,7 @@ use Rattle.at_ledger.specs.declared.call.Reply.{Reply}
 use Rattle.at_history.proofs.Laws.Prefixes.{IsPrefix-refl}
 use Rattle.at_history.specs.Moves.{AreRuns}
 use Rattle.at_history.specs.Publications.{IsPrefix}
+use Rattle.at_history.specs.declared.publication.Publication.{Publication}
 use Rattle.at_board.specs.Counting.{raised}
 use Rattle.at_board.specs.Knowledge.Seats.{BoardTerms, IsKept, IsOf, SeatTerms}
 use Rattle.at_board.specs.Words.Addresses.{record_width}
@@ -340,16 +341,16 @@ if_some P Q all None holds = tt
 if_some P Q all (Some r) holds = all r holds
 
 -- what a turn leaves, from one stage to the next
-pub TakesCallTurn-stages : (b : BookTerms) (t : CallingTerms) (before after mark : SeatTerms) → mark ≡ after → (now rest : Rest) → rest ≡ now
+pub TakesCallTurn-stages : (b : BookTerms) (seen : List Publication) (t : CallingTerms) (before after mark : SeatTerms) → mark ≡ after → (now rest : Rest) → rest ≡ now
     → (old next : CallStage) → t.stage ≡ old → (answer : Option Receipt) → steps_made next ≡ steps_made old + steps_of old
-    → MakesCallStep b old before after now.totals → call_turns_left b next < call_turns_left b old
+    → MakesCallStep b seen old before after now.totals → call_turns_left b next < call_turns_left b old
     → IsCallWithin b (pass_before t) t.call after.knows now.totals.upto (steps_made next) (exchanges_made next)
     → (IsSome answer ↔ (call_turns_left b next ≡ 0)) → IsPrefix t.start.knows.seen after.knows.seen → AreRuns b after.knows.seen
     → exchanges_made next ≡ exchanges_made old + exchanges_of old
     → IfSome answer (Leaves b t after now (steps_made next) (exchanges_made next)) → IfSome answer (λ r. now.calls ≡ with_one_call t.was.calls)
     → after.steps ≡ raised t.start.steps (steps_made next) → after.exchanges ≡ raised t.start.exchanges (exchanges_made next)
-    → TakesCallTurn b t (calling_next t next mark rest) before after now answer
-TakesCallTurn-stages b t before after mark mark_is now rest rest_is old next is answer turns step left so_far ends begins runs exchanges leaves calls made exchanged =
+    → TakesCallTurn b seen t (calling_next t next mark rest) before after now answer
+TakesCallTurn-stages b seen t before after mark mark_is now rest rest_is old next is answer turns step left so_far ends begins runs exchanges leaves calls made exchanged =
     let all : PassTerms = pass_of after now in
     record {
       call_is = refl;
@@ -358,7 +359,7 @@ TakesCallTurn-stages b t before after mark mark_is now rest rest_is old next is 
       mark_is = mark_is;
       rest_is = rest_is;
       turns = turns ∙ sym (ap (λ (k : CallStage). steps_made k + steps_of k) is);
-      step = subst (λ (k : CallStage). MakesCallStep b k before after now.totals) (sym is) step;
+      step = subst (λ (k : CallStage). MakesCallStep b seen k before after now.totals) (sym is) step;
       left = subst (λ (k : CallStage). call_turns_left b next < call_turns_left b k) (sym is) left;
       so_far = so_far;
       ends = ends;

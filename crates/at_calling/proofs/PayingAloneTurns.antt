@@ -1,9 +1,10 @@
 -- What a turn of a payment from a single account leaves of it.
-use Rattle.std.proofs.Common.{◌≡◌, ℕ, ◌+◌, ◌-◌, ◌<◌, ◌≤◌, ◌↔◌, IfSome, IsSome, Option, length, refl, sym, ap, subst, ◌∙◌, arith}
+use Rattle.std.proofs.Common.{◌≡◌, ℕ, ◌+◌, ◌-◌, ◌<◌, ◌≤◌, ◌↔◌, List, IfSome, IsSome, Option, length, refl, sym, ap, subst, ◌∙◌, arith}
 use Rattle.std.specs.List.{sum}
 use Rattle.at_ledger.specs.Book.{BookTerms}
 use Rattle.at_history.proofs.Laws.Prefixes.{IsPrefix-length, IsPrefix-trans}
 use Rattle.at_history.specs.Publications.{IsPrefix}
+use Rattle.at_history.specs.declared.publication.Publication.{Publication}
 use Rattle.at_board.specs.Knowledge.Parts.{own_part}
 use Rattle.at_board.specs.Knowledge.Seats.{SeatTerms}
 use Rattle.at_board.specs.Words.Addresses.{record_width}
@@ -25,10 +26,10 @@ use Rattle.at_calling.specs.declared.pay_stage.PayStage.TheVariants.{Append, Loo
 use Rattle.at_machines.specs.Appending.{AppendingTerms, appending_after}
 use Rattle.at_machines.specs.Looking.{IsWithin, IsWithinOneMore, LookingTerms, MakesLookLoad}
 
-module _ (b : BookTerms) (t : PayingAloneTerms) (so : IsPayingAloneSo t) (book : t.start.book ≡ b) (before after : SeatTerms) (now : TotalSums)
+module _ (b : BookTerms) (seen : List Publication) (t : PayingAloneTerms) (so : IsPayingAloneSo t) (book : t.start.book ≡ b) (before after : SeatTerms) (now : TotalSums)
     (mark : Knowledge) (mark_is : mark ≡ after.knows) (totals : TotalSums) (totals_are : totals ≡ now) where
   -- a turn of the look
-  module _ (l : LookingTerms) (is : t.stage ≡ Look l) (turns : ℕ) (made : turns ≡ l.turns + 1) (load : MakesLookLoad b l.stage before after now)
+  module _ (l : LookingTerms) (is : t.stage ≡ Look l) (turns : ℕ) (made : turns ≡ l.turns + 1) (load : MakesLookLoad b seen l.stage before after now)
       (loads : HasLoaded b l.start after.knows) (so_far : IsWithin b.processes l.was (length after.knows.seen) turns)
       (so_counted : IsWithinOneMore (snapshot_steps b.processes) (sum now.upto - sum l.was.upto) turns) where
     looks : IsLookingFirst t l
@@ -58,7 +59,7 @@ module _ (b : BookTerms) (t : PayingAloneTerms) (so : IsPayingAloneSo t) (book :
         → (IsSome answer ↔ (pay_turns_left (record_width b) stage ≡ 0)) → IfSome answer (AnswersAlone b t.start after.knows t.from t.targets)
         → IfSome answer (λ r. StaysCounted now b after.knows.seen)
         → IfSome answer (λ r. LeavesTotals b t.start after.knows t.was now (append_steps (record_width b) r.0) turns)
-        → TakesPayTurn b t (paying_next t stage turns mark totals) before after now answer
+        → TakesPayTurn b seen t (paying_next t stage turns mark totals) before after now answer
     TakesPayTurn-look stage answer same left ends pays counted leaves = record {
       from_is = refl;
       targets_are = refl;
@@ -67,7 +68,7 @@ module _ (b : BookTerms) (t : PayingAloneTerms) (so : IsPayingAloneSo t) (book :
       was_is = refl;
       totals_are = totals_are;
       turns = same ∙ (made ∙ ap (λ n. n + 1) (sym (ap (turns_in t.looked) is)));
-      step = subst (λ (k : PayStage). MakesPayStep b k before after now) (sym is) load;
+      step = subst (λ (k : PayStage). MakesPayStep b seen k before after now) (sym is) load;
       left = subst (λ (k : PayStage). pay_turns_left (record_width b) stage < pay_turns_left (record_width b) k) (sym is) left;
       ends = ends;
       so_far = subst (IsPayWithin b.processes (newly_seen t.start after.knows t.was.upto)) (sym same) within;
@@ -81,7 +82,7 @@ module _ (b : BookTerms) (t : PayingAloneTerms) (so : IsPayingAloneSo t) (book :
 
   -- a turn of the append
   module _ (a next : AppendingTerms) (is : t.stage ≡ Append a) (after_is : next ≡ appending_after a after.knows) (few : a.stored ≤ record_width b)
-      (step : MakesPayStep b (Append a) before after now) where
+      (step : MakesPayStep b seen (Append a) before after now) where
     appends : IsAppendingThen t a
     appends = subst (IsPayStageSo t) is so.stage_so (omega (arith, few, ap record_width book))
 
@@ -116,7 +117,7 @@ module _ (b : BookTerms) (t : PayingAloneTerms) (so : IsPayingAloneSo t) (book :
         → (IsSome answer ↔ (a.stored ≡ record_width b)) → HasSameAsking t.mark after.knows
         → IfSome answer (AnswersAlone b t.start after.knows t.from t.targets) → IfSome answer (λ r. StaysCounted now b after.knows.seen)
         → IfSome answer (λ r. LeavesTotals b t.start after.knows t.was now (append_steps (record_width b) r.0) (t.looked + next.stored))
-        → TakesPayTurn b t (paying_next t (Append next) t.looked mark totals) before after now answer
+        → TakesPayTurn b seen t (paying_next t (Append next) t.looked mark totals) before after now answer
     TakesPayTurn-append answer others more counting ends asks pays counted leaves = record {
       from_is = refl;
       targets_are = refl;
@@ -125,7 +126,7 @@ module _ (b : BookTerms) (t : PayingAloneTerms) (so : IsPayingAloneSo t) (book :
       was_is = refl;
       totals_are = totals_are;
       turns = omega (arith, stored, ap (turns_in t.looked) is);
-      step = subst (λ (k : PayStage). MakesPayStep b k before after now) (sym is) step;
+      step = subst (λ (k : PayStage). MakesPayStep b seen k before after now) (sym is) step;
       left = omega (arith, stored, few, ap (pay_turns_left (record_width b)) is);
       ends = (
         λ some. let all = ends.0 some in omega (arith, all, stored),

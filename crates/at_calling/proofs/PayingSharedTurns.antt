@@ -1,9 +1,10 @@
 -- What a turn of a payment from a shared account leaves of it.
-use Rattle.std.proofs.Common.{◌≡◌, ℕ, ◌+◌, ◌-◌, ◌<◌, ◌≤◌, None, Some, false, true, refl, ap, arith}
+use Rattle.std.proofs.Common.{◌≡◌, ℕ, ◌+◌, ◌-◌, ◌<◌, ◌≤◌, None, Some, false, true, List, refl, ap, arith}
 use Rattle.at_ledger.specs.Account.{slots_of}
 use Rattle.at_ledger.specs.Book.{BookTerms, account_of}
 use Rattle.at_history.specs.Fronts.{places_max}
 use Rattle.at_history.specs.Publications.{IsPrefix}
+use Rattle.at_history.specs.declared.publication.Publication.{Publication}
 use Rattle.at_board.specs.Knowledge.Seats.{SeatTerms}
 use Rattle.at_board.specs.declared.knowledge.Knowledge.{Knowledge}
 use Rattle.at_fold.specs.HasCounted.{HasCounted}
@@ -35,8 +36,8 @@ unless_settled-some most (Start s) some = refl
 unless_settled-some most (Help h u) some = refl
 unless_settled-some most Ended some = absurd (omega (arith, some))
 
-module _ (b : BookTerms) (t : PayingSharedTerms) (before after : SeatTerms) (now : TotalSums) (mark : Knowledge) (mark_is : mark ≡ after.knows)
-    (totals : TotalSums) (totals_are : totals ≡ now) (some : 0 < share_turns_left b t) (step : MakesShareStep b t.stage before after now)
+module _ (b : BookTerms) (seen : List Publication) (t : PayingSharedTerms) (before after : SeatTerms) (now : TotalSums) (mark : Knowledge) (mark_is : mark ≡ after.knows)
+    (totals : TotalSums) (totals_are : totals ≡ now) (some : 0 < share_turns_left b t) (step : MakesShareStep b seen t.stage before after now)
     (within : t.turns + 1 ≤ share_turns_most b t.account (newly_seen t.start after.knows t.was.upto))
     (counting : IsWithinOneMore (share_steps b t.account) (counted_so_far t.start after.knows t.was.upto now.upto) (t.turns + 1))
     (begins : IsPrefix t.start.seen after.knows.seen) where
@@ -61,7 +62,7 @@ module _ (b : BookTerms) (t : PayingSharedTerms) (before after : SeatTerms) (now
       → unless_starting (decides_made t.account t.start mark) stage ≡ share_exchanges_made t + share_exchanges_at t.stage
       → unless_starting (decides_made t.account t.start mark) stage ≡ decides_made t.account t.start after.knows
       → unless_starting (decides_made t.account t.start mark) stage ≤ slots_of (account_of b t.account)
-      → TakesShareTurn b t (share_next t stage mark totals) before after now None
+      → TakesShareTurn b seen t (share_next t stage mark totals) before after now None
   TakesShareTurn-on stage goes few decides decided exchanges_few = record {
     account_is = refl;
     targets_are = refl;
@@ -95,7 +96,7 @@ module _ (b : BookTerms) (t : PayingSharedTerms) (before after : SeatTerms) (now
       → DecidesFew b t.start after.knows t.account → HasCounted now b after.knows.seen
       → LeavesTotals b t.start after.knows t.was now (settling_steps b t.account) (t.turns + 1)
       → decides_made t.account t.start mark ≡ share_exchanges_made t + share_exchanges_at t.stage
-      → TakesShareTurn b t (share_next t Ended mark totals) before after now (Some r)
+      → TakesShareTurn b seen t (share_next t Ended mark totals) before after now (Some r)
   TakesShareTurn-settled r pays settles few counted leaves decides = record {
     account_is = refl;
     targets_are = refl;

@@ -1,9 +1,10 @@
 -- What a turn of a start leaves of it.
-use Rattle.std.proofs.Common.{◌≡◌, ◌≢◌, ℕ, ◌+◌, ◌-◌, ◌<◌, ◌≤◌, ◌↔◌, IfSome, IsSome, Option, None, length, false, true, refl, sym, ap, subst, ◌∙◌, arith}
+use Rattle.std.proofs.Common.{◌≡◌, ◌≢◌, ℕ, ◌+◌, ◌-◌, ◌<◌, ◌≤◌, ◌↔◌, List, IfSome, IsSome, Option, None, length, false, true, refl, sym, ap, subst, ◌∙◌, arith}
 use Rattle.std.specs.List.{sum}
 use Rattle.at_ledger.specs.Book.{BookTerms}
 use Rattle.at_history.proofs.Laws.Prefixes.{IsPrefix-trans}
 use Rattle.at_history.specs.Publications.{IsPrefix}
+use Rattle.at_history.specs.declared.publication.Publication.{Publication}
 use Rattle.at_board.specs.Knowledge.Seats.{SeatTerms}
 use Rattle.at_board.specs.declared.knowledge.Asking.{Asking}
 use Rattle.at_board.specs.declared.knowledge.Knowledge.{Knowledge}
@@ -46,14 +47,14 @@ unless_ended-none most announced_word some none = absurd (omega (arith, some, no
 unless_ended-none most (request_word number word) some none = absurd (omega (arith, some, none))
 unless_ended-none most nothing some none = refl
 
-module _ (b : BookTerms) (t : StartingTerms) (so : IsStartingSo t) (book : t.start.book ≡ b) (before after : SeatTerms) (mark : Knowledge)
+module _ (b : BookTerms) (seen : List Publication) (t : StartingTerms) (so : IsStartingSo t) (book : t.start.book ≡ b) (before after : SeatTerms) (mark : Knowledge)
     (mark_is : mark ≡ after.knows) where
   abbrev most : ℕ
   most = asking_steps_of b t
 
   -- a turn of the look
   module _ (now totals : TotalSums) (totals_are : totals ≡ now) (l : LookingTerms) (is : t.stage ≡ Look l) (turns : ℕ) (made : turns ≡ l.turns + 1)
-      (load : MakesLookLoad b l.stage before after now) (loads : HasLoaded b l.start after.knows) (counted : StaysCounted now b after.knows.seen)
+      (load : MakesLookLoad b seen l.stage before after now) (loads : HasLoaded b l.start after.knows) (counted : StaysCounted now b after.knows.seen)
       (so_far : IsWithin b.processes l.was (length after.knows.seen) turns)
       (so_counted : IsWithinOneMore (snapshot_steps b.processes) (sum now.upto - sum l.was.upto) turns) where
     looks : IsLookingToAsk t l
@@ -79,7 +80,7 @@ module _ (b : BookTerms) (t : StartingTerms) (so : IsStartingSo t) (book : t.sta
 
     pub TakesStartTurn-look : (stage : StartStage) → start_turns_in turns stage ≡ turns → 0 < start_turns_after most stage
         → start_turns_after most stage < start_turns_after most (Look l)
-        → TakesStartTurn b t (start_after_look t stage mark totals turns) before after now None
+        → TakesStartTurn b seen t (start_after_look t stage mark totals turns) before after now None
     TakesStartTurn-look stage same some left = record {
       account_is = refl;
       targets_are = refl;
@@ -88,7 +89,7 @@ module _ (b : BookTerms) (t : StartingTerms) (so : IsStartingSo t) (book : t.sta
       was_is = refl;
       totals_are = totals_are;
       turns = same ∙ (made ∙ ap (λ n. n + 1) (sym (ap (start_turns_in t.looked) is)));
-      step = subst (λ (k : StartStage). MakesStartStep b k before after now) (sym is) load;
+      step = subst (λ (k : StartStage). MakesStartStep b seen k before after now) (sym is) load;
       counted = counted;
       left = subst (λ (k : StartStage). start_turns_after most stage < start_turns_after most k) (sym is) left;
       so_far = within stage same;
@@ -107,9 +108,9 @@ module _ (b : BookTerms) (t : StartingTerms) (so : IsStartingSo t) (book : t.sta
     asks = subst (IsStartStageSo t) is so.stage_so
 
     pub TakesStartTurn-ask : (stage : StartStage) → start_turns_in t.looked stage ≡ t.looked + a.stored + 1
-        → MakesStartStep b (Ask a) before after t.totals → 0 < start_turns_after most stage
+        → MakesStartStep b seen (Ask a) before after t.totals → 0 < start_turns_after most stage
         → start_turns_after most stage < start_turns_after most (Ask a)
-        → TakesStartTurn b t (start_after t stage mark) before after t.totals None
+        → TakesStartTurn b seen t (start_after t stage mark) before after t.totals None
     TakesStartTurn-ask stage same step some left = record {
       account_is = refl;
       targets_are = refl;
@@ -118,7 +119,7 @@ module _ (b : BookTerms) (t : StartingTerms) (so : IsStartingSo t) (book : t.sta
       was_is = refl;
       totals_are = refl;
       turns = same ∙ ap (λ n. n + 1) (sym (ap (start_turns_in t.looked) is));
-      step = subst (λ (k : StartStage). MakesStartStep b k before after t.totals) (sym is) step;
+      step = subst (λ (k : StartStage). MakesStartStep b seen k before after t.totals) (sym is) step;
       counted = subst (λ (k : BookTerms). StaysCounted t.totals k after.knows.seen) book
           (StaysCounted-HasLookedToAsk t so a.start a.account a.targets a.since asks.to_ask after.knows same_counts more);
       left = subst (λ (k : StartStage). start_turns_after most stage < start_turns_after most k) (sym is) left;
@@ -158,10 +159,10 @@ module _ (b : BookTerms) (t : StartingTerms) (so : IsStartingSo t) (book : t.sta
           few_on,
         )
 
-    pub TakesStartTurn-collect : (answer : Option HelpingTerms) → MakesStartStep b (Collect c) before after t.totals
+    pub TakesStartTurn-collect : (answer : Option HelpingTerms) → MakesStartStep b seen (Collect c) before after t.totals
         → (IsSome answer ↔ (next.next ≡ nothing)) → IfSome answer (IsStartOf b t.start after.knows t.account t.targets)
         → IfSome answer (λ h. LeavesTotals b t.start after.knows t.was t.totals most (start_turns_in t.looked (Collect next)))
-        → TakesStartTurn b t (start_after t (Collect next) mark) before after t.totals answer
+        → TakesStartTurn b seen t (start_after t (Collect next) mark) before after t.totals answer
     TakesStartTurn-collect answer step ends starts leaves = record {
       account_is = refl;
       targets_are = refl;
@@ -170,7 +171,7 @@ module _ (b : BookTerms) (t : StartingTerms) (so : IsStartingSo t) (book : t.sta
       was_is = refl;
       totals_are = refl;
       turns = omega (arith, made, ap (start_turns_in t.looked) is);
-      step = subst (λ (k : StartStage). MakesStartStep b k before after t.totals) (sym is) step;
+      step = subst (λ (k : StartStage). MakesStartStep b seen k before after t.totals) (sym is) step;
       counted = subst (λ (k : BookTerms). StaysCounted t.totals k after.knows.seen) book (StaysCounted-IsCollectingThen t so c collects after.knows same_counts more);
       left = subst (λ (k : StartStage). start_turns_after most (Collect next) < start_turns_after most k) (sym is) less;
       so_far = subst (λ (k : BookTerms). IsStartWithin k (start_after t (Collect next) after.knows) (newly_seen t.start after.knows t.was.upto)) book

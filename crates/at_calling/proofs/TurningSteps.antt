@@ -1,8 +1,9 @@
 -- What a step of a turn of helping leaves of it.
-use Rattle.std.proofs.Common.{◌≡◌, ℕ, ◌+◌, ◌-◌, ◌*◌, ◌<◌, ◌≤◌, ◌↔◌, IfSome, IsSome, Option, None, length, refl, sym, ap, subst, ◌∙◌, arith}
+use Rattle.std.proofs.Common.{◌≡◌, ℕ, ◌+◌, ◌-◌, ◌*◌, ◌<◌, ◌≤◌, ◌↔◌, List, IfSome, IsSome, Option, None, length, refl, sym, ap, subst, ◌∙◌, arith}
 use Rattle.std.specs.List.{sum}
 use Rattle.at_ledger.specs.Book.{BookTerms}
 use Rattle.at_history.proofs.Laws.Prefixes.{IsPrefix-length}
+use Rattle.at_history.specs.declared.publication.Publication.{Publication}
 use Rattle.at_board.specs.Knowledge.Parts.{own_part}
 use Rattle.at_board.specs.Knowledge.Seats.{SeatTerms}
 use Rattle.at_board.specs.declared.knowledge.Asking.{Asking}
@@ -55,7 +56,7 @@ exchanges_in-le (request_word d word) = omega arith
 exchanges_in-le (record_word d word) = omega arith
 exchanges_in-le nothing = omega arith
 
-module _ (b : BookTerms) (t : TurningTerms) (so : IsTurningSo t) (book : t.start.book ≡ b) (before after : SeatTerms) (now : TotalSums)
+module _ (b : BookTerms) (seen : List Publication) (t : TurningTerms) (so : IsTurningSo t) (book : t.start.book ≡ b) (before after : SeatTerms) (now : TotalSums)
     (mark : Knowledge) (mark_is : mark ≡ after.knows) (totals : TotalSums) (totals_are : totals ≡ now) where
   abbrev a : ℕ
   a = t.helping.account
@@ -64,7 +65,7 @@ module _ (b : BookTerms) (t : TurningTerms) (so : IsTurningSo t) (book : t.start
   w = after.knows
 
   -- a step of the look
-  module _ (l : LookingTerms) (is : t.stage ≡ Look l) (turns : ℕ) (made : turns ≡ l.turns + 1) (load : MakesLookLoad b l.stage before after now)
+  module _ (l : LookingTerms) (is : t.stage ≡ Look l) (turns : ℕ) (made : turns ≡ l.turns + 1) (load : MakesLookLoad b seen l.stage before after now)
       (loads : HasLoaded b l.start w) (so_far : IsWithin b.processes l.was (length w.seen) turns)
       (so_counted : IsWithinOneMore (snapshot_steps b.processes) (sum now.upto - sum l.was.upto) turns) (more : sum l.was.upto ≤ sum now.upto) where
     looks : IsLookingStill t l
@@ -94,7 +95,7 @@ module _ (b : BookTerms) (t : TurningTerms) (so : IsTurningSo t) (book : t.start
         → IfSome answer (λ h. h ≡ More → WaitsOn b t.start w t.helping) → IfSome answer (λ h. LeavesSeat t.start w a)
         → IfSome answer (λ h. HasCounted now b w.seen)
         → IfSome answer (λ h. LeavesTotals b t.start w t.was now (round_steps b.processes * decides_made a t.start w) turns)
-        → TakesHelpStep b t (record t { stage = stage; looked = turns; mark = mark; totals = totals }) before after now answer
+        → TakesHelpStep b seen t (record t { stage = stage; looked = turns; mark = mark; totals = totals }) before after now answer
     TakesHelpStep-look stage answer same left ends help waits seat counted leaves = record {
       helping_is = refl;
       start_is = refl;
@@ -102,7 +103,7 @@ module _ (b : BookTerms) (t : TurningTerms) (so : IsTurningSo t) (book : t.start
       was_is = refl;
       totals_are = totals_are;
       turns = same ∙ (made ∙ ap (λ n. n + 1) (sym (ap (help_turns_in t.looked) is)));
-      step = subst (λ (k : TurnStage). MakesTurnStep b k stage before after now) (sym is) load;
+      step = subst (λ (k : TurnStage). MakesTurnStep b seen k stage before after now) (sym is) load;
       left = subst (λ (k : TurnStage). help_turns_left b.processes stage < help_turns_left b.processes k) (sym is) left;
       ends = ends;
       so_far = subst (IsHelpWithin b.processes (decides_made a t.start w) (newly_seen t.start w t.was.upto)) (sym same) within;
@@ -140,7 +141,7 @@ module _ (b : BookTerms) (t : TurningTerms) (so : IsTurningSo t) (book : t.start
         → IfSome answer (λ h. HasCounted now b w.seen)
         → IfSome answer (λ h. LeavesTotals b t.start w t.was now (round_steps b.processes * decides_made a t.start w)
         (t.looked + (round_steps e.start.book.processes - e.left)))
-        → TakesHelpStep b t (record t { stage = Decide e; mark = mark; totals = totals }) before after now answer
+        → TakesHelpStep b seen t (record t { stage = Decide e; mark = mark; totals = totals }) before after now answer
     TakesHelpStep-decide answer counting counts_others more ends help waits seat counted leaves = record {
       helping_is = refl;
       start_is = refl;
@@ -155,7 +156,7 @@ module _ (b : BookTerms) (t : TurningTerms) (so : IsTurningSo t) (book : t.start
         ap (λ (c : DecidingTerms). round_steps c.start.book.processes) after_is,
         ap (help_turns_in t.looked) is,
       );
-      step = subst (λ (k : TurnStage). MakesTurnStep b k (Decide e) before after now) (sym is) (decides-decide.mark_is ∙ sym known, step);
+      step = subst (λ (k : TurnStage). MakesTurnStep b seen k (Decide e) before after now) (sym is) (decides-decide.mark_is ∙ sym known, step);
       left = omega (arith, less, ap (help_turns_left b.processes) is);
       ends = ends;
       so_far = IsHelpWithin-step b t d e w book decides-decide has some after_is less step;

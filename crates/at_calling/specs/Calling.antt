@@ -10,6 +10,7 @@ use Rattle.at_board.specs.declared.knowledge.Knowledge.{Knowledge}
 use Rattle.at_board.specs.declared.words.TheConstants.{RECORD_WORDS}
 use Rattle.at_fold.specs.Sums.{TotalSums}
 use Rattle.at_ledger.specs.Call.{first_account, payout_of}
+use Rattle.at_history.specs.declared.publication.Publication.{Publication}
 use Rattle.at_object.specs.Calls.{call_steps, may_exchange}
 use Rattle.at_object.specs.Parted.{pass_of}
 use Rattle.at_object.specs.Passes.{PassTerms}
@@ -124,12 +125,12 @@ length_loaded (PayAlone p) = pay_length_at p.stage
 length_loaded (PayShared p) = share_length_at p.stage
 
 -- just the step was made that came next: none of a call that is refused
-abbrev pub MakesCallStep : BookTerms → CallStage → SeatTerms → SeatTerms → TotalSums → Type 0
-MakesCallStep b (Refuse reply) before after now = after ≡ before
-MakesCallStep b Refused before after now = ⊥
-MakesCallStep b (Read r) before after now = MakesLookLoad b r.looking.stage before after now
-MakesCallStep b (PayAlone p) before after now = MakesPayStep b p.stage before after now
-MakesCallStep b (PayShared p) before after now = MakesShareStep b p.stage before after now
+abbrev pub MakesCallStep : BookTerms → List Publication → CallStage → SeatTerms → SeatTerms → TotalSums → Type 0
+MakesCallStep b seen (Refuse reply) before after now = after ≡ before
+MakesCallStep b seen Refused before after now = ⊥
+MakesCallStep b seen (Read r) before after now = MakesLookLoad b seen r.looking.stage before after now
+MakesCallStep b seen (PayAlone p) before after now = MakesPayStep b seen p.stage before after now
+MakesCallStep b seen (PayShared p) before after now = MakesShareStep b seen p.stage before after now
 
 -- so many steps and exchanges are within the bounds of a call of this pass so far, with this known and counted. The records that were seen
 -- or counted anew are those of others: what the call itself has published took no load. The steps are fewer, too, than with those that were

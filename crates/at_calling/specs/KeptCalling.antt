@@ -4,6 +4,7 @@ use Rattle.at_ledger.specs.Book.{BookTerms}
 use Rattle.at_ledger.specs.Call.{IsCallOn}
 use Rattle.at_history.specs.Moves.{AreRuns}
 use Rattle.at_history.specs.Publications.{IsPrefix}
+use Rattle.at_history.specs.declared.publication.Publication.{Publication}
 use Rattle.at_board.specs.Counting.{raised}
 use Rattle.at_board.specs.Knowledge.Seats.{IsKept, SeatTerms}
 use Rattle.at_board.specs.Words.Addresses.{record_width}
@@ -66,14 +67,14 @@ pub record IsCallingSo (t : CallingTerms) : Type 0 where
   pub stage_so : IsCallStageSo t t.stage
 
 -- what a turn leaves of the call, in whichever stage it was: all but the stage, and what the seat and the rest of its pass are, is as it was
-pub record TakesCallTurn (b : BookTerms) (t u : CallingTerms) (before after : SeatTerms) (now : Rest) (answer : Option Receipt) : Type 0 where
+pub record TakesCallTurn (b : BookTerms) (seen : List Publication) (t u : CallingTerms) (before after : SeatTerms) (now : Rest) (answer : Option Receipt) : Type 0 where
   pub call_is : u.call ≡ t.call
   pub start_is : u.start ≡ t.start
   pub was_is : u.was ≡ t.was
   pub mark_is : u.mark ≡ after
   pub rest_is : u.rest ≡ now
   pub turns : steps_made u.stage ≡ steps_made t.stage + steps_of t.stage
-  pub step : MakesCallStep b t.stage before after now.totals
+  pub step : MakesCallStep b seen t.stage before after now.totals
   pub left : call_turns_left b u.stage < call_turns_left b t.stage
   pub so_far : IsCallWithin b (pass_before t) t.call after.knows now.totals.upto (steps_made u.stage) (exchanges_made u.stage)
   pub ends : IsSome answer ↔ (call_turns_left b u.stage ≡ 0)

@@ -1,5 +1,5 @@
 -- What the type of a payment in the making keeps of its fields, which no caller sees.
-use Rattle.std.specs.Prelude.{◌≡◌, ◌+◌, ◌<◌, ◌≤◌, ◌↔◌, IfSome, IsSome, Option, length, sum}
+use Rattle.std.specs.Prelude.{◌≡◌, ◌+◌, ◌<◌, ◌≤◌, ◌↔◌, List, IfSome, IsSome, Option, length, sum}
 use Rattle.at_ledger.specs.Book.{BookTerms}
 use Rattle.at_ledger.specs.Call.{amount_of}
 use Rattle.at_history.specs.Balances.{balance_after}
@@ -7,6 +7,7 @@ use Rattle.at_history.specs.Fronts.{prefix_of}
 use Rattle.at_history.specs.Publications.{IsPrefix}
 use Rattle.at_history.specs.Rounds.{owns_of}
 use Rattle.at_history.specs.Sound.{AreTargets}
+use Rattle.at_history.specs.declared.publication.Publication.{Publication}
 use Rattle.at_history.specs.declared.publication.Entry.{Entry}
 use Rattle.at_board.specs.Knowledge.Parts.{own_part}
 use Rattle.at_board.specs.Knowledge.Seats.{IsKept, SeatTerms}
@@ -76,7 +77,7 @@ pub record IsPayingAloneSo (t : PayingAloneTerms) : Type 0 where
 
 -- what a turn leaves of the payment, in whichever stage it was: all but the stage, and what the seat knows and the totals have counted, is
 -- as it was
-pub record TakesPayTurn (b : BookTerms) (t u : PayingAloneTerms) (before after : SeatTerms) (now : TotalSums) (answer : Option (Reply × At)) : Type 0 where
+pub record TakesPayTurn (b : BookTerms) (seen : List Publication) (t u : PayingAloneTerms) (before after : SeatTerms) (now : TotalSums) (answer : Option (Reply × At)) : Type 0 where
   pub from_is : u.from ≡ t.from
   pub targets_are : u.targets ≡ t.targets
   pub start_is : u.start ≡ t.start
@@ -84,7 +85,7 @@ pub record TakesPayTurn (b : BookTerms) (t u : PayingAloneTerms) (before after :
   pub was_is : u.was ≡ t.was
   pub totals_are : u.totals ≡ now
   pub turns : turns_made u ≡ turns_made t + 1
-  pub step : MakesPayStep b t.stage before after now
+  pub step : MakesPayStep b seen t.stage before after now
   pub left : pay_turns_left (record_width b) u.stage < pay_turns_left (record_width b) t.stage
   pub ends : IsSome answer ↔ (pay_turns_left (record_width b) u.stage ≡ 0)
   pub so_far : IsPayWithin b.processes (newly_seen t.start after.knows t.was.upto) (turns_made u)

@@ -6,6 +6,7 @@ use Rattle.at_ledger.specs.Call.{TargetPair}
 use Rattle.at_ledger.specs.declared.call.Reply.{Reply}
 use Rattle.at_history.specs.Publications.{IsPrefix}
 use Rattle.at_history.specs.Rounds.{rounds}
+use Rattle.at_history.specs.declared.publication.Publication.{Publication}
 use Rattle.at_board.specs.Knowledge.Parts.{own_part}
 use Rattle.at_board.specs.Knowledge.Seats.{IsKept, SeatTerms}
 use Rattle.at_board.specs.declared.knowledge.Knowledge.{Knowledge}
@@ -103,7 +104,7 @@ pub record IsPayingSharedSo (t : PayingSharedTerms) : Type 0 where
 
 -- what a turn leaves of the payment, in whichever stage it was: all but the stage and the count of turns, and what the seat knows and the
 -- totals have counted, is as it was
-pub record TakesShareTurn (b : BookTerms) (t u : PayingSharedTerms) (before after : SeatTerms) (now : TotalSums) (answer : Option (Reply × At)) : Type 0 where
+pub record TakesShareTurn (b : BookTerms) (seen : List Publication) (t u : PayingSharedTerms) (before after : SeatTerms) (now : TotalSums) (answer : Option (Reply × At)) : Type 0 where
   pub account_is : u.account ≡ t.account
   pub targets_are : u.targets ≡ t.targets
   pub start_is : u.start ≡ t.start
@@ -111,7 +112,7 @@ pub record TakesShareTurn (b : BookTerms) (t u : PayingSharedTerms) (before afte
   pub was_is : u.was ≡ t.was
   pub totals_are : u.totals ≡ now
   pub turns : u.turns ≡ t.turns + 1
-  pub step : MakesShareStep b t.stage before after now
+  pub step : MakesShareStep b seen t.stage before after now
   pub left : share_turns_left b u < share_turns_left b t
   pub so_far : IsShareWithin b u (newly_seen t.start after.knows t.was.upto)
   pub counting : IsWithinOneMore (share_steps b t.account) (counted_so_far t.start after.knows t.was.upto now.upto) u.turns

@@ -5,6 +5,7 @@ use Rattle.at_ledger.specs.Call.{TargetPair}
 use Rattle.at_history.specs.Fronts.{place}
 use Rattle.at_history.specs.Publications.{IsPrefix}
 use Rattle.at_history.specs.Sound.{AreTargets}
+use Rattle.at_history.specs.declared.publication.Publication.{Publication}
 use Rattle.at_board.specs.Knowledge.Parts.{asking_on, own_part}
 use Rattle.at_board.specs.Knowledge.Seats.{IsKept, SeatTerms}
 use Rattle.at_board.specs.Steps.Announce.{Announces}
@@ -93,7 +94,7 @@ pub record IsStartingSo (t : StartingTerms) : Type 0 where
 
 -- what a turn leaves of the start, in whichever stage it was: all but the stage, and what the seat knows and the totals have counted, is as it
 -- was
-pub record TakesStartTurn (b : BookTerms) (t u : StartingTerms) (before after : SeatTerms) (now : TotalSums) (answer : Option HelpingTerms) : Type 0 where
+pub record TakesStartTurn (b : BookTerms) (seen : List Publication) (t u : StartingTerms) (before after : SeatTerms) (now : TotalSums) (answer : Option HelpingTerms) : Type 0 where
   pub account_is : u.account ≡ t.account
   pub targets_are : u.targets ≡ t.targets
   pub start_is : u.start ≡ t.start
@@ -101,7 +102,7 @@ pub record TakesStartTurn (b : BookTerms) (t u : StartingTerms) (before after : 
   pub was_is : u.was ≡ t.was
   pub totals_are : u.totals ≡ now
   pub turns : start_turns_made u ≡ start_turns_made t + 1
-  pub step : MakesStartStep b t.stage before after now
+  pub step : MakesStartStep b seen t.stage before after now
   pub counted : StaysCounted now b after.knows.seen
   pub left : start_turns_left b u < start_turns_left b t
   pub so_far : IsStartWithin b u (newly_seen t.start after.knows t.was.upto)

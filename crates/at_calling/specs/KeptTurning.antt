@@ -1,7 +1,8 @@
 -- What the type of a turn of helping in the making keeps of its fields, which no caller sees.
-use Rattle.std.specs.Prelude.{◌≡◌, ◌+◌, ◌*◌, ◌<◌, ◌≤◌, ◌↔◌, IfSome, IsSome, Option, length, sum}
+use Rattle.std.specs.Prelude.{◌≡◌, ◌+◌, ◌*◌, ◌<◌, ◌≤◌, ◌↔◌, List, IfSome, IsSome, Option, length, sum}
 use Rattle.at_ledger.specs.Book.{BookTerms}
 use Rattle.at_history.specs.Publications.{IsPrefix}
+use Rattle.at_history.specs.declared.publication.Publication.{Publication}
 use Rattle.at_board.specs.Knowledge.Parts.{own_part}
 use Rattle.at_board.specs.Knowledge.Seats.{IsKept, SeatTerms}
 use Rattle.at_fold.specs.HasCounted.{HasCounted}
@@ -68,14 +69,14 @@ pub record IsTurningSo (t : TurningTerms) : Type 0 where
 
 -- what a step leaves of the turn of helping, in whichever stage it was: all but the stage, and what the seat knows and the totals have
 -- counted, is as it was
-pub record TakesHelpStep (b : BookTerms) (t u : TurningTerms) (before after : SeatTerms) (now : TotalSums) (answer : Option HelpTurn) : Type 0 where
+pub record TakesHelpStep (b : BookTerms) (all_seen : List Publication) (t u : TurningTerms) (before after : SeatTerms) (now : TotalSums) (answer : Option HelpTurn) : Type 0 where
   pub helping_is : u.helping ≡ t.helping
   pub start_is : u.start ≡ t.start
   pub mark_is : u.mark ≡ after.knows
   pub was_is : u.was ≡ t.was
   pub totals_are : u.totals ≡ now
   pub turns : help_turns_made u ≡ help_turns_made t + 1
-  pub step : MakesTurnStep b t.stage u.stage before after now
+  pub step : MakesTurnStep b all_seen t.stage u.stage before after now
   pub left : help_turns_left b.processes u.stage < help_turns_left b.processes t.stage
   pub ends : IsSome answer ↔ (help_turns_left b.processes u.stage ≡ 0)
   pub so_far : IsHelpWithin b.processes (decides_made t.helping.account t.start after.knows) (newly_seen t.start after.knows t.was.upto) (help_turns_made u)

@@ -4,6 +4,7 @@ use Rattle.at_ledger.specs.Book.{BookTerms}
 use Rattle.at_ledger.specs.Call.{TargetPair}
 use Rattle.at_ledger.specs.declared.call.Reply.{Reply}
 use Rattle.at_ledger.specs.declared.call.Reply.TheVariants.{Balance, Done, Full, NotOwner}
+use Rattle.at_history.specs.declared.publication.Publication.{Publication}
 use Rattle.at_board.specs.Knowledge.Parts.{asking_on, own_part}
 use Rattle.at_board.specs.Knowledge.Seats.{SeatTerms}
 use Rattle.at_board.specs.Steps.Publish.{Publishes}
@@ -48,13 +49,13 @@ pay_turns_left width (Append a) = width + 1 - a.stored
 pay_turns_left width Short = 0
 
 -- just the step was made that came next: of the look, or of the append, by what the seat knew before it
-abbrev pub MakesPayStep : BookTerms → PayStage → SeatTerms → SeatTerms → TotalSums → Type 0
-MakesPayStep b (Look l) before after now = MakesLookLoad b l.stage before after now
-MakesPayStep b (Append a) before after now =
+abbrev pub MakesPayStep : BookTerms → List Publication → PayStage → SeatTerms → SeatTerms → TotalSums → Type 0
+MakesPayStep b seen (Look l) before after now = MakesLookLoad b seen l.stage before after now
+MakesPayStep b seen (Append a) before after now =
     (a.mark ≡ before.knows) × (a.stored ≤ record_width b)
     × (a.stored < record_width b → StoresNextWord a after.knows)
     × (a.stored ≡ record_width b → Publishes b a.mark after.knows (publication_of a))
-MakesPayStep b Short before after now = ⊥
+MakesPayStep b seen Short before after now = ⊥
 
 -- how many records the next turn publishes: one where the record's words are stored, and else none
 abbrev pub pay_publishes_at : BookTerms → PayStage → ℕ

@@ -5,6 +5,7 @@ use Rattle.at_ledger.specs.Book.{BookTerms, account_of}
 use Rattle.at_ledger.specs.Call.{TargetPair}
 use Rattle.at_ledger.specs.declared.call.Reply.{Reply}
 use Rattle.at_history.specs.Fronts.{places_max}
+use Rattle.at_history.specs.declared.publication.Publication.{Publication}
 use Rattle.at_board.specs.Knowledge.Seats.{SeatTerms}
 use Rattle.at_board.specs.declared.knowledge.Knowledge.{Knowledge}
 use Rattle.at_board.specs.declared.words.TheConstants.{RECORD_WORDS}
@@ -60,10 +61,10 @@ abbrev pub IsShareWithin : BookTerms → PayingSharedTerms → ℕ → Type 0
 IsShareWithin b t records = t.turns ≤ share_turns_most b t.account records
 
 -- just the step was made that came next: of the start, or of the turn of helping
-abbrev pub MakesShareStep : BookTerms → ShareStage → SeatTerms → SeatTerms → TotalSums → Type 0
-MakesShareStep b (Start s) before after now = MakesStartStep b s.stage before after now
-MakesShareStep b (Help h u) before after now = (next : TurnStage) × MakesTurnStep b u.stage next before after now
-MakesShareStep b Ended before after now = ⊥
+abbrev pub MakesShareStep : BookTerms → List Publication → ShareStage → SeatTerms → SeatTerms → TotalSums → Type 0
+MakesShareStep b seen (Start s) before after now = MakesStartStep b seen s.stage before after now
+MakesShareStep b seen (Help h u) before after now = (next : TurnStage) × MakesTurnStep b seen u.stage next before after now
+MakesShareStep b seen Ended before after now = ⊥
 
 -- one exchange is made in the first step of each round, and in no other
 abbrev pub share_exchanges_at : ShareStage → ℕ

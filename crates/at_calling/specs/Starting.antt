@@ -4,6 +4,7 @@ use Rattle.at_ledger.specs.Account.{slots_of}
 use Rattle.at_ledger.specs.Book.{BookTerms, account_of}
 use Rattle.at_ledger.specs.Call.{TargetPair}
 use Rattle.at_history.specs.Publications.{IsPrefix}
+use Rattle.at_history.specs.declared.publication.Publication.{Publication}
 use Rattle.at_board.specs.Knowledge.Parts.{asking_on, own_part}
 use Rattle.at_board.specs.Knowledge.Seats.{SeatTerms}
 use Rattle.at_board.specs.declared.knowledge.Knowledge.{Knowledge}
@@ -79,13 +80,13 @@ abbrev pub MakesRowsLoad : BookTerms → CollectingRowsTerms → Knowledge → T
 MakesRowsLoad b c v = (slot : ℕ) × (next : NextRowLoad) × MakesNextLoad b c (rows_after c v slot next)
 
 -- just the step was made that came next: of the look, of asking, or of the rows, by what the seat knew before it
-abbrev pub MakesStartStep : BookTerms → StartStage → SeatTerms → SeatTerms → TotalSums → Type 0
-MakesStartStep b (Look l) before after now = MakesLookLoad b l.stage before after now
-MakesStartStep b (Ask a) before after now =
+abbrev pub MakesStartStep : BookTerms → List Publication → StartStage → SeatTerms → SeatTerms → TotalSums → Type 0
+MakesStartStep b seen (Look l) before after now = MakesLookLoad b seen l.stage before after now
+MakesStartStep b seen (Ask a) before after now =
     (a.mark ≡ before.knows) × (a.stored ≤ REQUEST_WORDS)
     × (a.stored < REQUEST_WORDS → StoresNextRequestWord a after.knows)
     × (a.stored ≡ REQUEST_WORDS → AnnouncesAsked b a after.knows)
-MakesStartStep b (Collect c) before after now = (c.mark ≡ before.knows) × MakesRowsLoad b c after.knows
+MakesStartStep b seen (Collect c) before after now = (c.mark ≡ before.knows) × MakesRowsLoad b c after.knows
 
 -- the process whose length the next turn loads, if it loads one
 abbrev pub start_length_at : StartStage → Option ℕ

@@ -4,6 +4,7 @@ use Rattle.at_ledger.specs.Account.{slots_of}
 use Rattle.at_ledger.specs.Book.{BookTerms, account_of}
 use Rattle.at_history.specs.Publications.{IsPrefix}
 use Rattle.at_history.specs.Rounds.{rounds}
+use Rattle.at_history.specs.declared.publication.Publication.{Publication}
 use Rattle.at_board.specs.Knowledge.Parts.{own_part}
 use Rattle.at_board.specs.Knowledge.Seats.{SeatTerms}
 use Rattle.at_board.specs.declared.knowledge.Knowledge.{Knowledge}
@@ -50,12 +51,12 @@ help_turns_left n (Decide d) = d.left
 help_turns_left n Found = 0
 
 -- just the step was made that came next: of the look, or of the round, which goes on
-abbrev pub MakesTurnStep : BookTerms → TurnStage → TurnStage → SeatTerms → SeatTerms → TotalSums → Type 0
-MakesTurnStep b (Look l) next before after now = MakesLookLoad b l.stage before after now
-MakesTurnStep b (Decide d) (Decide e) before after now = (d.mark ≡ before.knows) × MakesRoundStep b d after.knows e.next
-MakesTurnStep b (Decide d) (Look l) before after now = ⊥
-MakesTurnStep b (Decide d) Found before after now = ⊥
-MakesTurnStep b Found next before after now = ⊥
+abbrev pub MakesTurnStep : BookTerms → List Publication → TurnStage → TurnStage → SeatTerms → SeatTerms → TotalSums → Type 0
+MakesTurnStep b seen (Look l) next before after now = MakesLookLoad b seen l.stage before after now
+MakesTurnStep b seen (Decide d) (Decide e) before after now = (d.mark ≡ before.knows) × MakesRoundStep b d after.knows e.next
+MakesTurnStep b seen (Decide d) (Look l) before after now = ⊥
+MakesTurnStep b seen (Decide d) Found before after now = ⊥
+MakesTurnStep b seen Found next before after now = ⊥
 
 -- one exchange is made in the round's first step, and in no other
 abbrev pub exchanges_at : TurnStage → ℕ

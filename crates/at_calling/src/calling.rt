@@ -2,9 +2,11 @@
 
 ghost use Rattle.std.specs.Prelude.{◌≡◌, ℕ, ◌+◌, ◌++◌, ◌<◌, ◌↔◌, List, [], ◌∷◌, IfSome, IsSome, Some, length};
 ghost use Rattle.at_board.specs.Counting.{raised};
+ghost use Rattle.at_board.specs.Knowledge.Overviews.{IsOverviewOf};
 ghost use Rattle.at_board.specs.Knowledge.Seats.{IsOf};
 ghost use Rattle.at_history.specs.Moves.{AreRuns};
 ghost use Rattle.at_history.specs.Publications.{IsPrefix};
+ghost use Rattle.at_history.specs.declared.publication.Publication.{Publication};
 ghost use Rattle.at_ledger.specs.Call.{IsCallOn};
 ghost use Rattle.at_log.specs.Placed.{IsPlaced};
 ghost use Rattle.at_log.specs.declared.receipt.At.{At};
@@ -21,7 +23,7 @@ ghost use Rattle.at_calling.specs.Calling.{IsCallWithin, IsWay, MakesCallStep, S
 ghost use Rattle.at_object.specs.Calls.{CallMade, StaysWithin};
 
 use crate::call_stage::CallStage;
-use at_board::{Board, BoardSeat};
+use at_board::{Board, BoardSeat, Overview};
 use at_ledger::{Call, Reply};
 use at_log::{At, Receipt};
 use at_machines::become_next;
@@ -87,8 +89,15 @@ impl Calling {
 
     /// Makes the next step of the call. The last turn answers its receipt, and leaves the seat and the rest of one pass. A call that
     /// is refused is answered by its only turn, which makes no step.
-    pub fn turn(&mut self, board: &Board, seat: &mut BoardSeat, rest: &mut Rest) -> Option<Receipt>
+    pub fn turn(
+        &mut self,
+        board: &Board,
+        seat: &mut BoardSeat,
+        overview: &mut Overview,
+        rest: &mut Rest,
+    ) -> Option<Receipt>
         requires board { IsOf seat.old board.now }
+        requires overview { IsOverviewOf overview.old board.now }
         requires mark { seat.old ≡ self.old.mark }
         requires rest { rest.old ≡ self.old.rest }
         requires left { 0 < call_turns_left board.now.book self.old.stage }
@@ -99,7 +108,7 @@ impl Calling {
         ensures rest { self.new.rest ≡ rest.new }
         ensures turns { steps_made self.new.stage
             ≡ steps_made self.old.stage + steps_of self.old.stage }
-        ensures step { MakesCallStep board.now.book self.old.stage seat.old seat.new
+        ensures step { MakesCallStep board.now.book overview.old.seen self.old.stage seat.old seat.new
             rest.new.totals }
         ensures left { call_turns_left board.now.book self.new.stage
             < call_turns_left board.now.book self.old.stage }
@@ -127,6 +136,7 @@ impl Calling {
         ensures steps { seat.new.steps ≡ raised seat.old.steps (steps_of self.old.stage) }
         ensures exchanges { seat.new.exchanges
             ≡ raised seat.old.exchanges (exchanges_of self.old.stage) }
+        ensures overview { overview.new ≡ overview.old }
         ensures exchanges_made { exchanges_made self.new.stage
             ≡ exchanges_made self.old.stage + exchanges_of self.old.stage }
     {
@@ -135,9 +145,9 @@ impl Calling {
                 let reply = *reply;
                 Some(self.refuse(board, seat, rest, reply))
             }
-            CallStage::Read(_) => self.read_on(board, seat, rest),
-            CallStage::PayAlone(_) => self.pay_alone_on(board, seat, rest),
-            CallStage::PayShared(_) => self.pay_shared_on(board, seat, rest),
+            CallStage::Read(_) => self.read_on(board, seat, overview, rest),
+            CallStage::PayAlone(_) => self.pay_alone_on(board, seat, overview, rest),
+            CallStage::PayShared(_) => self.pay_shared_on(board, seat, overview, rest),
             // Some turn is left, and after a refusal none is.
             CallStage::Refused => unreachable!(),
         }
@@ -149,7 +159,8 @@ impl Calling {
         requires mark { seat.now ≡ self.old.mark }
         requires rest { rest.old ≡ self.old.rest }
         requires stage { self.old.stage ≡ CallStage.Refuse reply }
-        ensures { TakesCallTurn board.now.book self.old self.new seat.now seat.now rest.new
+        ensures { (seen : List Publication)
+            → TakesCallTurn board.now.book seen self.old self.new seat.now seat.now rest.new
             (Some result) }
     {
         seat.known();
@@ -160,22 +171,30 @@ impl Calling {
     }
 
     /// Makes the next step of the read. The last one answers its receipt.
-    fn read_on(&mut self, board: &Board, seat: &mut BoardSeat, rest: &mut Rest) -> Option<Receipt>
+    fn read_on(
+        &mut self,
+        board: &Board,
+        seat: &mut BoardSeat,
+        overview: &mut Overview,
+        rest: &mut Rest,
+    ) -> Option<Receipt>
         requires board { IsOf seat.old board.now }
+        requires overview { IsOverviewOf overview.old board.now }
         requires mark { seat.old ≡ self.old.mark }
         requires rest { rest.old ≡ self.old.rest }
         requires stage { (r : ReadingTerms) × (self.old.stage ≡ CallStage.Read r) }
         requires left { 0 < call_turns_left board.now.book self.old.stage }
-        ensures turned { TakesCallTurn board.now.book self.old self.new seat.old seat.new rest.new
+        ensures turned { TakesCallTurn board.now.book overview.old.seen self.old self.new seat.old seat.new rest.new
             result }
         ensures board { IsOf seat.new board.now }
         ensures steps { seat.new.steps ≡ raised seat.old.steps 1 }
         ensures exchanges { seat.new.exchanges ≡ seat.old.exchanges }
+        ensures overview { overview.new ≡ overview.old }
     {
         let CallStage::Read(reading) = &mut self.stage else {
             unreachable!()
         };
-        let read = reading.turn(board, seat, &mut rest.totals);
+        let read = reading.turn(board, seat, overview, &mut rest.totals);
         seat.known();
         self.mark = Snapshot::of(seat);
         self.rest = Snapshot::of(rest);
@@ -190,23 +209,26 @@ impl Calling {
         &mut self,
         board: &Board,
         seat: &mut BoardSeat,
+        overview: &mut Overview,
         rest: &mut Rest,
     ) -> Option<Receipt>
         requires board { IsOf seat.old board.now }
+        requires overview { IsOverviewOf overview.old board.now }
         requires mark { seat.old ≡ self.old.mark }
         requires rest { rest.old ≡ self.old.rest }
         requires stage { (p : PayingAloneTerms) × (self.old.stage ≡ CallStage.PayAlone p) }
         requires left { 0 < call_turns_left board.now.book self.old.stage }
-        ensures turned { TakesCallTurn board.now.book self.old self.new seat.old seat.new rest.new
+        ensures turned { TakesCallTurn board.now.book overview.old.seen self.old self.new seat.old seat.new rest.new
             result }
         ensures board { IsOf seat.new board.now }
         ensures steps { seat.new.steps ≡ raised seat.old.steps 1 }
         ensures exchanges { seat.new.exchanges ≡ seat.old.exchanges }
+        ensures overview { overview.new ≡ overview.old }
     {
         let CallStage::PayAlone(paying) = &mut self.stage else {
             unreachable!()
         };
-        let paid = paying.turn(board, seat, &mut rest.totals);
+        let paid = paying.turn(board, seat, overview, &mut rest.totals);
         seat.known();
         self.mark = Snapshot::of(seat);
         self.rest = Snapshot::of(rest);
@@ -222,24 +244,27 @@ impl Calling {
         &mut self,
         board: &Board,
         seat: &mut BoardSeat,
+        overview: &mut Overview,
         rest: &mut Rest,
     ) -> Option<Receipt>
         requires board { IsOf seat.old board.now }
+        requires overview { IsOverviewOf overview.old board.now }
         requires mark { seat.old ≡ self.old.mark }
         requires rest { rest.old ≡ self.old.rest }
         requires stage { (p : PayingSharedTerms) × (self.old.stage ≡ CallStage.PayShared p) }
         requires left { 0 < call_turns_left board.now.book self.old.stage }
-        ensures turned { TakesCallTurn board.now.book self.old self.new seat.old seat.new rest.new
+        ensures turned { TakesCallTurn board.now.book overview.old.seen self.old self.new seat.old seat.new rest.new
             result }
         ensures board { IsOf seat.new board.now }
         ensures steps { seat.new.steps ≡ raised seat.old.steps 1 }
         ensures exchanges { seat.new.exchanges
             ≡ raised seat.old.exchanges (exchanges_of self.old.stage) }
+        ensures overview { overview.new ≡ overview.old }
     {
         let CallStage::PayShared(paying) = &mut self.stage else {
             unreachable!()
         };
-        let paid = paying.turn(board, seat, &mut rest.totals);
+        let paid = paying.turn(board, seat, overview, &mut rest.totals);
         seat.known();
         self.mark = Snapshot::of(seat);
         self.rest = Snapshot::of(rest);

@@ -1,12 +1,14 @@
 //! A payment from a single account, a step a turn.
 
-ghost use Rattle.std.specs.Prelude.{◌≡◌, ◌+◌, ◌<◌, ◌↔◌, IfSome, IsSome, length};
+ghost use Rattle.std.specs.Prelude.{◌≡◌, ◌+◌, ◌<◌, ◌↔◌, List, IfSome, IsSome, length};
 ghost use Rattle.at_board.specs.Counting.{raised};
+ghost use Rattle.at_board.specs.Knowledge.Overviews.{IsOverviewOf};
 ghost use Rattle.at_board.specs.Knowledge.Seats.{IsOf};
 ghost use Rattle.at_board.specs.Words.Addresses.{record_width};
 ghost use Rattle.at_fold.specs.HasCounted.{HasCounted, StaysCounted};
 ghost use Rattle.at_history.specs.Publications.{IsPrefix};
 ghost use Rattle.at_history.specs.Rounds.{owns_of};
+ghost use Rattle.at_history.specs.declared.publication.Publication.{Publication};
 ghost use Rattle.at_ledger.specs.Call.{AreTargetsOn};
 ghost use Rattle.at_machines.specs.Appending.{AppendingTerms};
 ghost use Rattle.at_machines.specs.Looking.{IsWithinOneMore, LookingTerms};
@@ -18,7 +20,7 @@ ghost use Rattle.at_calling.specs.Reading.{LeavesTotals, counted_so_far, newly_s
 
 use crate::pay_stage::PayStage;
 use at_base::Counts;
-use at_board::{Board, BoardSeat, Entry};
+use at_board::{Board, BoardSeat, Entry, Overview};
 use at_fold::Totals;
 use at_ledger::{Reply, Targets};
 use at_log::{At, Record};
@@ -102,9 +104,11 @@ impl PayingAlone {
         &mut self,
         board: &Board,
         seat: &mut BoardSeat,
+        overview: &mut Overview,
         totals: &mut Totals,
     ) -> Option<(Reply, At)>
         requires board { IsOf seat.old board.now }
+        requires overview { IsOverviewOf overview.old board.now }
         requires mark { seat.old.knows ≡ self.old.mark }
         requires totals { totals.old ≡ self.old.totals }
         requires left { 0 < pay_turns_left (record_width board.now.book) self.old.stage }
@@ -115,7 +119,7 @@ impl PayingAlone {
         ensures was { self.new.was ≡ self.old.was }
         ensures totals { self.new.totals ≡ totals.new }
         ensures turns { turns_made self.new ≡ turns_made self.old + 1 }
-        ensures step { MakesPayStep board.now.book self.old.stage seat.old seat.new totals.new }
+        ensures step { MakesPayStep board.now.book overview.old.seen self.old.stage seat.old seat.new totals.new }
         ensures left { pay_turns_left (record_width board.now.book) self.new.stage
             < pay_turns_left (record_width board.now.book) self.old.stage }
         ensures ends { IsSome result ↔ (pay_turns_left (record_width board.now.book) self.new.stage
@@ -137,9 +141,10 @@ impl PayingAlone {
         ensures board { IsOf seat.new board.now }
         ensures steps { seat.new.steps ≡ raised seat.old.steps 1 }
         ensures exchanges { seat.new.exchanges ≡ seat.old.exchanges }
+        ensures overview { overview.new ≡ overview.old }
     {
         match &self.stage {
-            PayStage::Look(_) => self.look_on(board, seat, totals),
+            PayStage::Look(_) => self.look_on(board, seat, overview, totals),
             PayStage::Append(_) => self.append_on(board, seat, totals),
             // Some turn is left, and of a short payment none is.
             PayStage::Short => unreachable!(),
@@ -151,23 +156,26 @@ impl PayingAlone {
         &mut self,
         board: &Board,
         seat: &mut BoardSeat,
+        overview: &mut Overview,
         totals: &mut Totals,
     ) -> Option<(Reply, At)>
         requires board { IsOf seat.old board.now }
+        requires overview { IsOverviewOf overview.old board.now }
         requires mark { seat.old.knows ≡ self.old.mark }
         requires totals { totals.old ≡ self.old.totals }
         requires looks { (l : LookingTerms) × (self.old.stage ≡ PayStage.Look l) }
-        ensures turned { TakesPayTurn board.now.book self.old self.new seat.old seat.new totals.new
+        ensures turned { TakesPayTurn board.now.book overview.old.seen self.old self.new seat.old seat.new totals.new
             result }
         ensures board { IsOf seat.new board.now }
         ensures steps { seat.new.steps ≡ raised seat.old.steps 1 }
         ensures exchanges { seat.new.exchanges ≡ seat.old.exchanges }
+        ensures overview { overview.new ≡ overview.old }
     {
         let PayStage::Look(looking) = &mut self.stage else {
             // The stage is a look, as is asked.
             unreachable!()
         };
-        let looked = looking.turn(board, seat, totals);
+        let looked = looking.turn(board, seat, overview, totals);
         self.looked = looking.turns();
         self.mark = Snapshot::of(seat);
         self.totals = Snapshot::of(totals);
@@ -198,7 +206,8 @@ impl PayingAlone {
         requires totals { totals.old ≡ self.old.totals }
         requires appends { (a : AppendingTerms) × (self.old.stage ≡ PayStage.Append a) }
         requires left { 0 < pay_turns_left (record_width board.now.book) self.old.stage }
-        ensures turned { TakesPayTurn board.now.book self.old self.new seat.old seat.new totals.new
+        ensures turned { (seen : List Publication)
+            → TakesPayTurn board.now.book seen self.old self.new seat.old seat.new totals.new
             result }
         ensures board { IsOf seat.new board.now }
         ensures steps { seat.new.steps ≡ raised seat.old.steps 1 }

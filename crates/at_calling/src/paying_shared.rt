@@ -3,6 +3,7 @@
 ghost use Rattle.std.specs.Prelude.{◌≡◌, ℕ, ◌+◌, ◌<◌, ◌≤◌, ◌↔◌, IfSome, IsSome, None, length};
 ghost use Rattle.at_board.specs.Counting.{raised};
 ghost use Rattle.at_board.specs.Knowledge.Parts.{own_part};
+ghost use Rattle.at_board.specs.Knowledge.Overviews.{IsOverviewOf};
 ghost use Rattle.at_board.specs.Knowledge.Seats.{IsOf};
 ghost use Rattle.at_board.specs.Steps.StoreRequestWord.{MayStoreRequest};
 ghost use Rattle.at_fold.specs.HasCounted.{HasCounted};
@@ -23,7 +24,7 @@ ghost use Rattle.at_calling.specs.Turning.{TurningTerms};
 use crate::share_stage::ShareStage;
 use crate::starting::Starting;
 use crate::turning::Turning;
-use at_board::{Board, BoardSeat};
+use at_board::{Board, BoardSeat, Overview};
 use at_fold::Totals;
 use at_ledger::{Reply, Targets};
 use at_log::At;
@@ -109,9 +110,11 @@ impl PayingShared {
         &mut self,
         board: &Board,
         seat: &mut BoardSeat,
+        overview: &mut Overview,
         totals: &mut Totals,
     ) -> Option<(Reply, At)>
         requires board { IsOf seat.old board.now }
+        requires overview { IsOverviewOf overview.old board.now }
         requires mark { seat.old.knows ≡ self.old.mark }
         requires totals { totals.old ≡ self.old.totals }
         requires left { 0 < share_turns_left board.now.book self.old }
@@ -122,7 +125,7 @@ impl PayingShared {
         ensures was { self.new.was ≡ self.old.was }
         ensures totals { self.new.totals ≡ totals.new }
         ensures turns { self.new.turns ≡ self.old.turns + 1 }
-        ensures step { MakesShareStep board.now.book self.old.stage seat.old seat.new totals.new }
+        ensures step { MakesShareStep board.now.book overview.old.seen self.old.stage seat.old seat.new totals.new }
         ensures left { share_turns_left board.now.book self.new
             < share_turns_left board.now.book self.old }
         ensures so_far { IsShareWithin board.now.book self.new
@@ -147,6 +150,7 @@ impl PayingShared {
         ensures steps { seat.new.steps ≡ raised seat.old.steps 1 }
         ensures exchanges { seat.new.exchanges
             ≡ raised seat.old.exchanges (share_exchanges_at self.old.stage) }
+        ensures overview { overview.new ≡ overview.old }
         // Over all turns the exchanges are those that were decided.
         ensures decides { share_exchanges_made self.new
             ≡ share_exchanges_made self.old + share_exchanges_at self.old.stage }
@@ -157,8 +161,8 @@ impl PayingShared {
             ≤ slots_of (account_of board.now.book self.old.account) }
     {
         match &self.stage {
-            ShareStage::Start(_) => self.start_on(board, seat, totals),
-            ShareStage::Help(..) => self.help_on(board, seat, totals),
+            ShareStage::Start(_) => self.start_on(board, seat, overview, totals),
+            ShareStage::Help(..) => self.help_on(board, seat, overview, totals),
             // Some turn is left, and of a settled request none is.
             ShareStage::Ended => unreachable!(),
         }
@@ -169,24 +173,27 @@ impl PayingShared {
         &mut self,
         board: &Board,
         seat: &mut BoardSeat,
+        overview: &mut Overview,
         totals: &mut Totals,
     ) -> Option<(Reply, At)>
         requires board { IsOf seat.old board.now }
+        requires overview { IsOverviewOf overview.old board.now }
         requires mark { seat.old.knows ≡ self.old.mark }
         requires totals { totals.old ≡ self.old.totals }
         requires starts { (s : StartingTerms) × (self.old.stage ≡ ShareStage.Start s) }
         requires left { 0 < share_turns_left board.now.book self.old }
-        ensures turned { TakesShareTurn board.now.book self.old self.new seat.old seat.new
+        ensures turned { TakesShareTurn board.now.book overview.old.seen self.old self.new seat.old seat.new
             totals.new result }
         ensures board { IsOf seat.new board.now }
         ensures steps { seat.new.steps ≡ raised seat.old.steps 1 }
         ensures exchanges { seat.new.exchanges ≡ seat.old.exchanges }
+        ensures overview { overview.new ≡ overview.old }
     {
         let ShareStage::Start(starting) = &mut self.stage else {
             // The stage is the start, as is asked.
             unreachable!()
         };
-        let started = starting.turn(board, seat, totals);
+        let started = starting.turn(board, seat, overview, totals);
         self.turns += 1;
         self.mark = Snapshot::of(seat);
         self.totals = Snapshot::of(totals);
@@ -202,26 +209,29 @@ impl PayingShared {
         &mut self,
         board: &Board,
         seat: &mut BoardSeat,
+        overview: &mut Overview,
         totals: &mut Totals,
     ) -> Option<(Reply, At)>
         requires board { IsOf seat.old board.now }
+        requires overview { IsOverviewOf overview.old board.now }
         requires mark { seat.old.knows ≡ self.old.mark }
         requires totals { totals.old ≡ self.old.totals }
         requires helps { (h : HelpingTerms) × (u : TurningTerms)
             × (self.old.stage ≡ ShareStage.Help h u) }
         requires left { 0 < share_turns_left board.now.book self.old }
-        ensures turned { TakesShareTurn board.now.book self.old self.new seat.old seat.new
+        ensures turned { TakesShareTurn board.now.book overview.old.seen self.old self.new seat.old seat.new
             totals.new result }
         ensures board { IsOf seat.new board.now }
         ensures steps { seat.new.steps ≡ raised seat.old.steps 1 }
         ensures exchanges { seat.new.exchanges
             ≡ raised seat.old.exchanges (share_exchanges_at self.old.stage) }
+        ensures overview { overview.new ≡ overview.old }
     {
         let ShareStage::Help(helping, turning) = &mut self.stage else {
             // The stage is a turn of helping, as is asked.
             unreachable!()
         };
-        let helped = turning.turn(board, seat, totals, helping);
+        let helped = turning.turn(board, seat, overview, totals, helping);
         self.turns += 1;
         self.mark = Snapshot::of(seat);
         self.totals = Snapshot::of(totals);

@@ -2,6 +2,7 @@
 
 ghost use Rattle.std.specs.Prelude.{◌≡◌, ◌+◌, ◌-◌, ◌<◌, ◌↔◌, IfSome, IsSome, length, sum};
 ghost use Rattle.at_board.specs.Counting.{raised};
+ghost use Rattle.at_board.specs.Knowledge.Overviews.{IsOverviewOf};
 ghost use Rattle.at_board.specs.Knowledge.Seats.{IsOf};
 ghost use Rattle.at_fold.specs.HasCounted.{HasCounted, StaysCounted};
 ghost use Rattle.at_snapshot.specs.Collected.{HasLoaded};
@@ -9,7 +10,7 @@ ghost use Rattle.at_snapshot.specs.Snapshots.{snapshot_steps};
 ghost use Rattle.at_machines.specs.Looking.{IsWithin, IsWithinOneMore, MakesLookLoad, look_turns_left};
 ghost use Rattle.at_calling.specs.Reading.{IsReadOf, LeavesTotals};
 
-use at_board::{Board, BoardSeat};
+use at_board::{Board, BoardSeat, Overview};
 use at_fold::Totals;
 use at_ledger::{Call, Reply};
 use at_log::{At, Receipt};
@@ -59,9 +60,11 @@ impl Reading {
         &mut self,
         board: &Board,
         seat: &mut BoardSeat,
+        overview: &mut Overview,
         totals: &mut Totals,
     ) -> Option<Receipt>
         requires board { IsOf seat.old board.now }
+        requires overview { IsOverviewOf overview.old board.now }
         requires mark { seat.old.knows ≡ self.old.looking.mark }
         requires totals { totals.old ≡ self.old.looking.totals }
         requires left { 0 < look_turns_left self.old.looking.stage }
@@ -71,7 +74,7 @@ impl Reading {
         ensures was { self.new.looking.was ≡ self.old.looking.was }
         ensures totals { self.new.looking.totals ≡ totals.new }
         ensures turns { self.new.looking.turns ≡ self.old.looking.turns + 1 }
-        ensures load { MakesLookLoad board.now.book self.old.looking.stage seat.old seat.new
+        ensures load { MakesLookLoad board.now.book overview.old.seen self.old.looking.stage seat.old seat.new
             totals.new }
         ensures loads { HasLoaded board.now.book self.old.looking.start seat.new.knows }
         ensures counted { StaysCounted totals.new board.now.book seat.new.knows.seen }
@@ -89,8 +92,9 @@ impl Reading {
         ensures board { IsOf seat.new board.now }
         ensures steps { seat.new.steps ≡ raised seat.old.steps 1 }
         ensures exchanges { seat.new.exchanges ≡ seat.old.exchanges }
+        ensures overview { overview.new ≡ overview.old }
     {
-        let front = self.looking.turn(board, seat, totals)?;
+        let front = self.looking.turn(board, seat, overview, totals)?;
         seat.known();
         Some(Receipt {
             call: Call::Read {

@@ -1,13 +1,15 @@
 //! The start of a payment from a shared account, a step a turn.
 
-ghost use Rattle.std.specs.Prelude.{◌≡◌, ℕ, ◌+◌, ◌^◌, ◌<◌, ◌↔◌, IfSome, IsSome, None, length};
+ghost use Rattle.std.specs.Prelude.{◌≡◌, ℕ, ◌+◌, ◌^◌, ◌<◌, ◌↔◌, List, IfSome, IsSome, None, length};
 ghost use Rattle.at_board.specs.Counting.{raised};
 ghost use Rattle.at_board.specs.Knowledge.Parts.{own_part};
+ghost use Rattle.at_board.specs.Knowledge.Overviews.{IsOverviewOf};
 ghost use Rattle.at_board.specs.Knowledge.Seats.{IsOf};
 ghost use Rattle.at_board.specs.Steps.StoreRequestWord.{MayStoreRequest};
 ghost use Rattle.at_fold.specs.HasCounted.{HasCounted, StaysCounted};
 ghost use Rattle.at_history.specs.Fronts.{place};
 ghost use Rattle.at_history.specs.Publications.{IsPrefix};
+ghost use Rattle.at_history.specs.declared.publication.Publication.{Publication};
 ghost use Rattle.at_ledger.specs.Call.{AreTargetsOn};
 ghost use Rattle.at_machines.specs.Asking.{AskingTerms, starting_to_ask};
 ghost use Rattle.at_machines.specs.CollectingRows.{CollectingRowsTerms};
@@ -20,7 +22,7 @@ ghost use Rattle.at_calling.specs.Starting.{IsStartOf, IsStartWithin, MakesStart
 
 use crate::start_stage::StartStage;
 use at_base::Counts;
-use at_board::{Board, BoardSeat};
+use at_board::{Board, BoardSeat, Overview};
 use at_fold::Totals;
 use at_ledger::Targets;
 use at_machines::{Asking, CollectingRows, Looking, become_next};
@@ -102,9 +104,11 @@ impl Starting {
         &mut self,
         board: &Board,
         seat: &mut BoardSeat,
+        overview: &mut Overview,
         totals: &mut Totals,
     ) -> Option<Helping>
         requires board { IsOf seat.old board.now }
+        requires overview { IsOverviewOf overview.old board.now }
         requires mark { seat.old.knows ≡ self.old.mark }
         requires totals { totals.old ≡ self.old.totals }
         requires left { 0 < start_turns_left board.now.book self.old }
@@ -115,7 +119,7 @@ impl Starting {
         ensures was { self.new.was ≡ self.old.was }
         ensures totals { self.new.totals ≡ totals.new }
         ensures turns { start_turns_made self.new ≡ start_turns_made self.old + 1 }
-        ensures step { MakesStartStep board.now.book self.old.stage seat.old seat.new totals.new }
+        ensures step { MakesStartStep board.now.book overview.old.seen self.old.stage seat.old seat.new totals.new }
         ensures counted { StaysCounted totals.new board.now.book seat.new.knows.seen }
         ensures left { start_turns_left board.now.book self.new
             < start_turns_left board.now.book self.old }
@@ -136,9 +140,10 @@ impl Starting {
         ensures board { IsOf seat.new board.now }
         ensures steps { seat.new.steps ≡ raised seat.old.steps 1 }
         ensures exchanges { seat.new.exchanges ≡ seat.old.exchanges }
+        ensures overview { overview.new ≡ overview.old }
     {
         match &self.stage {
-            StartStage::Look(_) => self.look_on(board, seat, totals),
+            StartStage::Look(_) => self.look_on(board, seat, overview, totals),
             StartStage::Ask(_) => self.ask_on(board, seat),
             StartStage::Collect(_) => self.collect_on(board, seat),
         }
@@ -149,23 +154,26 @@ impl Starting {
         &mut self,
         board: &Board,
         seat: &mut BoardSeat,
+        overview: &mut Overview,
         totals: &mut Totals,
     ) -> Option<Helping>
         requires board { IsOf seat.old board.now }
+        requires overview { IsOverviewOf overview.old board.now }
         requires mark { seat.old.knows ≡ self.old.mark }
         requires totals { totals.old ≡ self.old.totals }
         requires looks { (l : LookingTerms) × (self.old.stage ≡ StartStage.Look l) }
-        ensures turned { TakesStartTurn board.now.book self.old self.new seat.old seat.new
+        ensures turned { TakesStartTurn board.now.book overview.old.seen self.old self.new seat.old seat.new
             totals.new result }
         ensures board { IsOf seat.new board.now }
         ensures steps { seat.new.steps ≡ raised seat.old.steps 1 }
         ensures exchanges { seat.new.exchanges ≡ seat.old.exchanges }
+        ensures overview { overview.new ≡ overview.old }
     {
         let StartStage::Look(looking) = &mut self.stage else {
             // The stage is a look, as is asked.
             unreachable!()
         };
-        let looked = looking.turn(board, seat, totals);
+        let looked = looking.turn(board, seat, overview, totals);
         self.looked = looking.turns();
         self.mark = Snapshot::of(seat);
         self.totals = Snapshot::of(totals);
@@ -182,7 +190,8 @@ impl Starting {
         requires board { IsOf seat.old board.now }
         requires mark { seat.old.knows ≡ self.old.mark }
         requires asks { (a : AskingTerms) × (self.old.stage ≡ StartStage.Ask a) }
-        ensures turned { TakesStartTurn board.now.book self.old self.new seat.old seat.new
+        ensures turned { (seen : List Publication)
+            → TakesStartTurn board.now.book seen self.old self.new seat.old seat.new
             self.old.totals result }
         ensures board { IsOf seat.new board.now }
         ensures steps { seat.new.steps ≡ raised seat.old.steps 1 }
@@ -209,7 +218,8 @@ impl Starting {
         requires mark { seat.old.knows ≡ self.old.mark }
         requires collects { (c : CollectingRowsTerms) × (self.old.stage ≡ StartStage.Collect c) }
         requires left { 0 < start_turns_left board.now.book self.old }
-        ensures turned { TakesStartTurn board.now.book self.old self.new seat.old seat.new
+        ensures turned { (seen : List Publication)
+            → TakesStartTurn board.now.book seen self.old self.new seat.old seat.new
             self.old.totals result }
         ensures board { IsOf seat.new board.now }
         ensures steps { seat.new.steps ≡ raised seat.old.steps 1 }

@@ -1,13 +1,15 @@
 //! One turn of helping, a step a turn.
 
-ghost use Rattle.std.specs.Prelude.{◌≡◌, ◌+◌, ◌*◌, ◌<◌, ◌≤◌, ◌↔◌, IfSome, IsSome, length};
+ghost use Rattle.std.specs.Prelude.{◌≡◌, ◌+◌, ◌*◌, ◌<◌, ◌≤◌, ◌↔◌, List, IfSome, IsSome, length};
 ghost use Rattle.at_board.specs.Counting.{raised};
 ghost use Rattle.at_board.specs.Knowledge.Parts.{own_part};
+ghost use Rattle.at_board.specs.Knowledge.Overviews.{IsOverviewOf};
 ghost use Rattle.at_board.specs.Knowledge.Seats.{IsOf};
 ghost use Rattle.at_machines.specs.Deciding.{DecidingTerms};
 ghost use Rattle.at_machines.specs.Looking.{IsWithinOneMore, LookingTerms};
 ghost use Rattle.at_fold.specs.HasCounted.{HasCounted};
 ghost use Rattle.at_history.specs.Publications.{IsPrefix};
+ghost use Rattle.at_history.specs.declared.publication.Publication.{Publication};
 ghost use Rattle.at_shared.specs.Helpings.{IsHelping, decides_made, decides_on};
 ghost use Rattle.at_shared.specs.Settling.{round_steps};
 ghost use Rattle.at_shared.specs.declared.helping.HelpTurn.{HelpTurn};
@@ -17,7 +19,7 @@ ghost use Rattle.at_calling.specs.Turning.{IsHelpOf, IsHelpWithin, LeavesSeat, M
 
 use crate::turn_stage::TurnStage;
 use at_base::Decision;
-use at_board::{Board, BoardSeat};
+use at_board::{Board, BoardSeat, Overview};
 use at_fold::Totals;
 use at_machines::{Deciding, Looking, become_next};
 use at_shared::{HelpTurn, Helping, answer_in};
@@ -86,10 +88,12 @@ impl Turning {
         &mut self,
         board: &Board,
         seat: &mut BoardSeat,
+        overview: &mut Overview,
         totals: &mut Totals,
         helping: &Helping,
     ) -> Option<HelpTurn>
         requires board { IsOf seat.old board.now }
+        requires overview { IsOverviewOf overview.old board.now }
         requires mark { seat.old.knows ≡ self.old.mark }
         requires totals { totals.old ≡ self.old.totals }
         requires helping { helping.now ≡ self.old.helping }
@@ -100,7 +104,7 @@ impl Turning {
         ensures was { self.new.was ≡ self.old.was }
         ensures totals { self.new.totals ≡ totals.new }
         ensures turns { help_turns_made self.new ≡ help_turns_made self.old + 1 }
-        ensures step { MakesTurnStep board.now.book self.old.stage self.new.stage seat.old
+        ensures step { MakesTurnStep board.now.book overview.old.seen self.old.stage self.new.stage seat.old
             seat.new totals.new }
         ensures left { help_turns_left board.now.book.processes self.new.stage
             < help_turns_left board.now.book.processes self.old.stage }
@@ -141,13 +145,14 @@ impl Turning {
         ensures steps { seat.new.steps ≡ raised seat.old.steps 1 }
         ensures exchanges { seat.new.exchanges
             ≡ raised seat.old.exchanges (exchanges_at self.old.stage) }
+        ensures overview { overview.new ≡ overview.old }
         // Over all turns the exchanges are those that were decided.
         ensures decides { decides_made self.old.helping.account self.old.start seat.new.knows
             ≡ decides_made self.old.helping.account self.old.start self.old.mark
             + exchanges_at self.old.stage }
     {
         match &self.stage {
-            TurnStage::Look(_) => self.look_on(board, seat, totals, helping),
+            TurnStage::Look(_) => self.look_on(board, seat, overview, totals, helping),
             TurnStage::Decide(_) => self.decide_on(board, seat, totals, helping),
             // Some step is left, and where the request was found settled none is.
             TurnStage::Found => unreachable!(),
@@ -159,25 +164,28 @@ impl Turning {
         &mut self,
         board: &Board,
         seat: &mut BoardSeat,
+        overview: &mut Overview,
         totals: &mut Totals,
         helping: &Helping,
     ) -> Option<HelpTurn>
         requires board { IsOf seat.old board.now }
+        requires overview { IsOverviewOf overview.old board.now }
         requires mark { seat.old.knows ≡ self.old.mark }
         requires totals { totals.old ≡ self.old.totals }
         requires helping { helping.now ≡ self.old.helping }
         requires looks { (l : LookingTerms) × (self.old.stage ≡ TurnStage.Look l) }
-        ensures stepped { TakesHelpStep board.now.book self.old self.new seat.old seat.new
+        ensures stepped { TakesHelpStep board.now.book overview.old.seen self.old self.new seat.old seat.new
             totals.new result }
         ensures board { IsOf seat.new board.now }
         ensures steps { seat.new.steps ≡ raised seat.old.steps 1 }
         ensures exchanges { seat.new.exchanges ≡ seat.old.exchanges }
+        ensures overview { overview.new ≡ overview.old }
     {
         let TurnStage::Look(looking) = &mut self.stage else {
             // The stage is a look, as is asked.
             unreachable!()
         };
-        let looked = looking.turn(board, seat, totals);
+        let looked = looking.turn(board, seat, overview, totals);
         self.looked = looking.turns();
         self.mark = Snapshot::of(seat);
         self.totals = Snapshot::of(totals);
@@ -207,7 +215,8 @@ impl Turning {
         requires helping { helping.now ≡ self.old.helping }
         requires decides { (d : DecidingTerms) × (self.old.stage ≡ TurnStage.Decide d) }
         requires left { 0 < help_turns_left board.now.book.processes self.old.stage }
-        ensures stepped { TakesHelpStep board.now.book self.old self.new seat.old seat.new
+        ensures stepped { (seen : List Publication)
+            → TakesHelpStep board.now.book seen self.old self.new seat.old seat.new
             totals.new result }
         ensures board { IsOf seat.new board.now }
         ensures steps { seat.new.steps ≡ raised seat.old.steps 1 }

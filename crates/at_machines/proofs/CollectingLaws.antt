@@ -2,6 +2,9 @@
 use Rattle.std.proofs.Common.{◌≡◌, ℕ, ◌<◌, List, length, set, refl, sym, ap, subst, ◌∙◌, arith, inl, inr}
 use Rattle.std.proofs.lemmas.Bool.{cases_lt}
 use Rattle.at_ledger.specs.Book.{BookTerms}
+use Rattle.at_history.proofs.Laws.Prefixes.{IsPrefix-trans}
+use Rattle.at_history.specs.declared.publication.Publication.{Publication}
+use Rattle.at_board.specs.Knowledge.Overviews.{LearnsOverview}
 use Rattle.at_board.specs.declared.knowledge.Loads.{Loads}
 use Rattle.at_board.specs.declared.knowledge.Knowledge.{Knowledge}
 use Rattle.at_board.specs.Steps.LoadLength.{LoadsLength}
@@ -62,3 +65,18 @@ pub LoadsLengthOf-LoadsLength : (b : BookTerms) (v w : Knowledge) (p n : ℕ) �
     → LoadsLengthOf b v w p
 LoadsLengthOf-LoadsLength b v w p n part within told =
     subst (LoadsLength b v w p) (sym (ap (λ (l : Loads). l.last) (loads_of-same b v w p n part within told))) told
+
+-- a seat that learns what an overview has, and then loads a length, has loaded that length just so
+pub LoadsLength-LearnsOverview : (b : BookTerms) (v u w : Knowledge) (seen : List Publication) (p n : ℕ) → LearnsOverview b v seen u → LoadsLength b u w p n
+    → LoadsLength b v w p n
+LoadsLength-LearnsOverview b v u w seen p n learned told =
+    let here = subst (λ (k : Knowledge). LoadsLength b k w p n) learned.same told in
+    record {
+      same = here.same;
+      lengths = here.lengths;
+      more = IsPrefix-trans v.seen u.seen w.seen learned.more told.more;
+      counted = here.counted;
+      own = here.own;
+      history = here.history;
+      agrees = here.agrees;
+    }

@@ -3,7 +3,8 @@ use Rattle.std.proofs.Common.{◌≡◌, ℕ, suc, ◌+◌, ◌-◌, ◌*◌, �
 use Rattle.std.proofs.Math.Nat.{suc-mul}
 use Rattle.at_history.proofs.Laws.Prefixes.{IsPrefix-refl}
 use Rattle.at_history.specs.BoardState.{publication_at}
-use Rattle.at_history.specs.Publications.{publications_of}
+use Rattle.at_history.specs.Publications.{IsPrefix, publications_of}
+use Rattle.at_history.specs.declared.publication.Publication.{Publication}
 use Rattle.at_board.specs.declared.knowledge.Knowledge.{Knowledge}
 use Rattle.at_board.specs.Knowledge.Parts.{loads_of, own_part}
 use Rattle.at_board.specs.Knowledge.Seats.{IsKept, SeatTerms}
@@ -163,15 +164,15 @@ left_of-Undecided start mark w collects collected c so last told is =
     left_after start.book.processes collected c.loaded (few_collected start mark w collects collected c so told is) last
 
 -- a turn that leaves a collect unfinished
-pub TurnsStage-load : (start : Knowledge) (before after : SeatTerms) (collects : Option Collects) (collected : ℕ) (c : CollectingTerms)
+pub TurnsStage-load : (seen : List Publication) (start : Knowledge) (before after : SeatTerms) (collects : Option Collects) (collected : ℕ) (c : CollectingTerms)
     → IsSnappingSo start before.knows collects collected (Collect c) → after.knows.book ≡ start.book → c.loaded + 1 < start.book.processes
-    → LoadsLengthOf start.book before.knows after.knows c.loaded
-    → TurnsStage start.book start before after collected (Collect c) collects collected (Collect (collecting_after c after.knows)) None
-TurnsStage-load start before after collects collected c so book left load =
+    → LoadsLengthOf start.book before.knows after.knows c.loaded → IsPrefix seen after.knows.seen
+    → TurnsStage start.book seen start before after collected (Collect c) collects collected (Collect (collecting_after c after.knows)) None
+TurnsStage-load seen start before after collects collected c so book left load more =
     let loads = HasLoaded-IsSnappingSo start.book start before.knows after.knows collects collected c so refl load in
     record {
       so = IsSnappingSo-load start before.knows after.knows collects collected c so book left loads;
-      load = load;
+      load = (load, more);
       loads = loads;
       follows = (λ more. refl, λ whole. absurd (omega (arith, whole, left)));
       left = omega (arith, left);
@@ -180,45 +181,46 @@ TurnsStage-load start before after collects collected c so book left load =
     }
 
 -- a turn that ends one, by what that says
-pub TurnsStage-judge : (start : Knowledge) (before after : SeatTerms) (collects more : Option Collects) (collected : ℕ) (c : CollectingTerms) (verdict : Verdict)
+pub TurnsStage-judge : (seen : List Publication) (start : Knowledge) (before after : SeatTerms) (collects more : Option Collects) (collected : ℕ) (c : CollectingTerms) (verdict : Verdict)
     (next : Stage) (counts : Option (List ℕ)) → IsSnappingSo start before.knows collects collected (Collect c) → after.knows.book ≡ start.book
-    → c.loaded + 1 ≡ start.book.processes → LoadsLengthOf start.book before.knows after.knows c.loaded → IsCollect start.book c.start after.knows
+    → c.loaded + 1 ≡ start.book.processes → LoadsLengthOf start.book before.knows after.knows c.loaded → IsPrefix seen after.knows.seen
+    → IsCollect start.book c.start after.knows
     → IsVerdictOn collects after.knows.first (collect_of after.knows) verdict → LeadsTo after.knows (collect_of after.knows) collects verdict more next counts
-    → TurnsStage start.book start before after collected (Collect c) more (collected + 1) next counts
-TurnsStage-judge start before after collects more collected c Repeated next counts so book last load told is (ended, answered) =
-    subst (λ (stage : Stage). TurnsStage start.book start before after collected (Collect c) more (collected + 1) stage counts) (sym ended)
-    (subst (λ (answer : Option (List ℕ)). TurnsStage start.book start before after collected (Collect c) more (collected + 1) Ended answer) (sym answered)
+    → TurnsStage start.book seen start before after collected (Collect c) more (collected + 1) next counts
+TurnsStage-judge seen start before after collects more collected c Repeated next counts so book last load after_seen told is (ended, answered) =
+    subst (λ (stage : Stage). TurnsStage start.book seen start before after collected (Collect c) more (collected + 1) stage counts) (sym ended)
+    (subst (λ (answer : Option (List ℕ)). TurnsStage start.book seen start before after collected (Collect c) more (collected + 1) Ended answer) (sym answered)
     (record {
       so = record { kept = so.kept; book = book; stage_so = tt };
-      load = load;
+      load = (load, after_seen);
       loads = HasLoaded-IsSnappingSo start.book start before.knows after.knows collects collected c so refl load;
       follows = (λ less. absurd (omega (arith, less, last)), λ whole. tt);
       left = omega (arith, last);
       ends = (λ some. refl, λ none. refl);
       snapped = IsSnapped-Repeated start before.knows after.knows collects collected c so told is;
     }))
-TurnsStage-judge start before after collects more collected c (Lent p) next counts so book last load told is (ended, answered) =
+TurnsStage-judge seen start before after collects more collected c (Lent p) next counts so book last load after_seen told is (ended, answered) =
     let lent = IsSnappingSo-Lent start before.knows after.knows collects collected c p so book told is in
     let view : Stage = Borrow (starting_loading after.knows p (get_or (collect_of after.knows) p 0 - 1)) in
-    subst (λ (stage : Stage). TurnsStage start.book start before after collected (Collect c) more (collected + 1) stage counts) (sym ended)
-    (subst (λ (answer : Option (List ℕ)). TurnsStage start.book start before after collected (Collect c) more (collected + 1) view answer) (sym answered)
+    subst (λ (stage : Stage). TurnsStage start.book seen start before after collected (Collect c) more (collected + 1) stage counts) (sym ended)
+    (subst (λ (answer : Option (List ℕ)). TurnsStage start.book seen start before after collected (Collect c) more (collected + 1) view answer) (sym answered)
     (record {
       so = record { kept = lent.kept; book = lent.book; stage_so = lent.stage_so };
-      load = load;
+      load = (load, after_seen);
       loads = HasLoaded-IsSnappingSo start.book start before.knows after.knows collects collected c so refl load;
       follows = (λ less. absurd (omega (arith, less, last)), λ whole. refl);
       left = omega (arith, last);
       ends = (λ some. absurd (cc some), λ none. absurd (omega (arith, none, last)));
       snapped = tt;
     }))
-TurnsStage-judge start before after collects more collected c Undecided next counts so book last load told is (ended, answered, kept) =
-    subst (λ (stage : Stage). TurnsStage start.book start before after collected (Collect c) more (collected + 1) stage counts) (sym ended)
-    (subst (λ (answer : Option (List ℕ)). TurnsStage start.book start before after collected (Collect c) more (collected + 1) (Collect (starting_collecting after.knows)) answer)
+TurnsStage-judge seen start before after collects more collected c Undecided next counts so book last load after_seen told is (ended, answered, kept) =
+    subst (λ (stage : Stage). TurnsStage start.book seen start before after collected (Collect c) more (collected + 1) stage counts) (sym ended)
+    (subst (λ (answer : Option (List ℕ)). TurnsStage start.book seen start before after collected (Collect c) more (collected + 1) (Collect (starting_collecting after.knows)) answer)
     (sym answered)
-    (subst (λ (k : Option Collects). TurnsStage start.book start before after collected (Collect c) k (collected + 1) (Collect (starting_collecting after.knows)) None) (sym kept)
+    (subst (λ (k : Option Collects). TurnsStage start.book seen start before after collected (Collect c) k (collected + 1) (Collect (starting_collecting after.knows)) None) (sym kept)
     (record {
       so = IsSnappingSo-Undecided start before.knows after.knows collects collected c so book told is;
-      load = load;
+      load = (load, after_seen);
       loads = HasLoaded-IsSnappingSo start.book start before.knows after.knows collects collected c so refl load;
       follows = (λ less. absurd (omega (arith, less, last)), λ whole. refl);
       left = left_of-Undecided start before.knows after.knows collects collected c so last told is;

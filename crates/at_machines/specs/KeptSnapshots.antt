@@ -3,6 +3,7 @@ use Rattle.std.specs.Prelude.{◌≡◌, ◌↔◌, ℕ, ◌+◌, ◌-◌, ◌<�
 use Rattle.at_ledger.specs.Book.{BookTerms}
 use Rattle.at_history.specs.BoardState.{publication_at}
 use Rattle.at_history.specs.Publications.{publications_of}
+use Rattle.at_history.specs.declared.publication.Publication.{Publication}
 use Rattle.at_board.specs.declared.knowledge.Knowledge.{Knowledge}
 use Rattle.at_board.specs.Knowledge.Seats.{IsKept, SeatTerms}
 use Rattle.at_snapshot.specs.declared.collects.Collects.{Collects}
@@ -55,10 +56,10 @@ LeadsTo v now collects Undecided after stage counts =
     (stage ≡ Collect (starting_collecting v)) × (counts ≡ None) × (after ≡ Some (collects_after collects now))
 
 -- a turn has made the next load of a stage, so many collects being whole, and leaves these collects, so many, and this stage
-pub record TurnsStage (b : BookTerms) (start : Knowledge) (before after : SeatTerms) (collected : ℕ) (stage : Stage) (collects : Option Collects)
+pub record TurnsStage (b : BookTerms) (seen : List Publication) (start : Knowledge) (before after : SeatTerms) (collected : ℕ) (stage : Stage) (collects : Option Collects)
     (whole : ℕ) (next : Stage) (counts : Option (List ℕ)) : Type 0 where
   pub so : IsSnappingSo start after.knows collects whole next
-  pub load : MakesLoad b (next_of stage) before after
+  pub load : MakesLoad b seen (next_of stage) before after
   pub loads : HasLoaded b start after.knows
   pub follows : MayFollow b.processes (next_of stage) (next_of next)
   pub left : left_of b.processes whole next < left_of b.processes collected stage

@@ -1,7 +1,8 @@
 -- Looks that are made one load a turn: a snapshot, and then the records that it counts and the totals don't.
-use Rattle.std.specs.Prelude.{◌≡◌, ℕ, ◌+◌, ◌-◌, ◌*◌, ◌<◌, ◌≤◌, sum, Option, None}
+use Rattle.std.specs.Prelude.{◌≡◌, ℕ, ◌+◌, ◌-◌, ◌*◌, ◌<◌, ◌≤◌, List, sum, Option, None}
 use Rattle.at_ledger.specs.Book.{BookTerms}
 use Rattle.at_history.specs.Fronts.{places_max}
+use Rattle.at_history.specs.declared.publication.Publication.{Publication}
 use Rattle.at_board.specs.Counting.{stepped}
 use Rattle.at_board.specs.Knowledge.Seats.{SeatTerms}
 use Rattle.at_board.specs.declared.knowledge.Knowledge.{Knowledge}
@@ -29,10 +30,10 @@ abbrev pub look_turns_left : LookStage → ℕ
 look_turns_left (Snap s) = s.left + RECORD_WORDS * places_max
 look_turns_left (CatchUp c) = loads_left c
 
--- just the load was made that came next. A word of a record tells the seat nothing new
-abbrev pub MakesLookLoad : BookTerms → LookStage → SeatTerms → SeatTerms → TotalSums → Type 0
-MakesLookLoad b (Snap s) before after now = MakesLoad b s.next before after
-MakesLookLoad b (CatchUp c) before after now = (after ≡ stepped before 1) × LoadsNextWord c now
+-- just the load was made that came next, where the seats of the caller had seen this. A word of a record tells the seat nothing new
+abbrev pub MakesLookLoad : BookTerms → List Publication → LookStage → SeatTerms → SeatTerms → TotalSums → Type 0
+MakesLookLoad b seen (Snap s) before after now = MakesLoad b seen s.next before after
+MakesLookLoad b seen (CatchUp c) before after now = (after ≡ stepped before 1) × LoadsNextWord c now
 
 -- the process whose length the next turn loads, if it loads one
 abbrev pub length_at : LookStage → Option ℕ

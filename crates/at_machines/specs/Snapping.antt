@@ -1,6 +1,8 @@
 -- Snapshots that are made one load a turn.
-use Rattle.std.specs.Prelude.{◌≡◌, ℕ, ◌+◌, ◌-◌, ◌*◌, ◌<◌, Option, None, Some}
+use Rattle.std.specs.Prelude.{◌≡◌, ℕ, ◌+◌, ◌-◌, ◌*◌, ◌<◌, List, Option, None, Some}
 use Rattle.at_ledger.specs.Book.{BookTerms}
+use Rattle.at_history.specs.Publications.{IsPrefix}
+use Rattle.at_history.specs.declared.publication.Publication.{Publication}
 use Rattle.at_board.specs.Counting.{stepped}
 use Rattle.at_board.specs.Knowledge.Seats.{SeatTerms}
 use Rattle.at_board.specs.declared.knowledge.Knowledge.{Knowledge}
@@ -21,11 +23,12 @@ pub record SnappingTerms : Type 0 where
   pub next : NextLoad
   pub left : ℕ
 
--- just this load was made. A word of a view tells the seat nothing new
-abbrev pub MakesLoad : BookTerms → NextLoad → SeatTerms → SeatTerms → Type 0
-MakesLoad b (length_of p) before after = LoadsLengthOf b before.knows after.knows p
-MakesLoad b (view_word k) before after = after ≡ stepped before 1
-MakesLoad b nothing before after = ⊥
+-- just this load was made. With a length the seat has seen all that the seats of its caller had seen before; a word of a view tells it
+-- nothing new
+abbrev pub MakesLoad : BookTerms → List Publication → NextLoad → SeatTerms → SeatTerms → Type 0
+MakesLoad b seen (length_of p) before after = LoadsLengthOf b before.knows after.knows p × IsPrefix seen after.knows.seen
+MakesLoad b seen (view_word k) before after = after ≡ stepped before 1
+MakesLoad b seen nothing before after = ⊥
 
 -- the process whose length that is, if it is one
 abbrev pub length_in : NextLoad → Option ℕ

@@ -2,12 +2,15 @@
 
 ghost use Rattle.std.specs.Prelude.{◌≡◌, ◌+◌, ◌<◌, ◌↔◌, IfSome, IsSome};
 ghost use Rattle.at_board.specs.Counting.{raised};
+ghost use Rattle.at_board.specs.Knowledge.Overviews.{IsOverviewOf};
 ghost use Rattle.at_board.specs.Knowledge.Seats.{IsOf};
+ghost use Rattle.at_board.specs.Steps.LoadLength.{LoadsLength};
+ghost use Rattle.at_history.specs.Publications.{IsPrefix};
 ghost use Rattle.at_snapshot.specs.Collected.{IsCollect, collect_of};
 ghost use Rattle.at_machines.specs.Collecting.{LoadsLengthOf, collecting_after, starting_collecting};
 
 use at_base::Counts;
-use at_board::{Board, BoardSeat};
+use at_board::{Board, BoardSeat, Overview};
 use std::marker::Model;
 use std::snapshot::Snapshot;
 
@@ -50,13 +53,21 @@ impl Collecting {
         }
     }
 
-    /// Loads the length of the next process, in one step. After the last one it answers the counts.
-    pub fn turn(&mut self, board: &Board, seat: &mut BoardSeat) -> Option<Counts>
+    /// Loads the length of the next process, in one step, after it has taken in what the overview has. After the last one it answers
+    /// the counts.
+    pub fn turn(
+        &mut self,
+        board: &Board,
+        seat: &mut BoardSeat,
+        overview: &mut Overview,
+    ) -> Option<Counts>
         requires board { IsOf seat.old board.now }
+        requires overview { IsOverviewOf overview.old board.now }
         requires mark { seat.old.knows ≡ self.old.mark }
         requires left { self.old.loaded < board.now.book.processes }
         ensures after { self.new ≡ collecting_after self.old seat.new.knows }
         ensures load { LoadsLengthOf board.now.book seat.old.knows seat.new.knows self.old.loaded }
+        ensures told { IsPrefix overview.old.seen seat.new.knows.seen }
         ensures ends { IsSome result ↔ (self.new.loaded ≡ board.now.book.processes) }
         ensures collect { IfSome result (λ counts. IsCollect board.now.book self.old.start
             seat.new.knows) }
@@ -64,10 +75,11 @@ impl Collecting {
         ensures board { IsOf seat.new board.now }
         ensures steps { seat.new.steps ≡ raised seat.old.steps 1 }
         ensures exchanges { seat.new.exchanges ≡ seat.old.exchanges }
+        ensures overview { overview.new ≡ overview.old }
     {
         board.book().known();
         seat.known();
-        let count = board.load_length(seat, self.loaded);
+        let count = load_after(board, seat, overview, self.loaded);
         self.counts.set(self.loaded, count);
         self.loaded += 1;
         self.mark = Snapshot::of(seat);
@@ -76,4 +88,21 @@ impl Collecting {
         }
         Some(self.counts.copy())
     }
+}
+
+/// Loads the length of a process, in one step. The seat belongs to a caller that has all seats, and loads a length only after it
+/// knows what they have seen: so no one can tell that the load came before what another of them did.
+fn load_after(board: &Board, seat: &mut BoardSeat, overview: &mut Overview, process: u32) -> u32
+    requires board { IsOf seat.old board.now }
+    requires overview { IsOverviewOf overview.old board.now }
+    requires process { process < board.now.book.processes }
+    ensures told { LoadsLength board.now.book seat.old.knows seat.new.knows process result }
+    ensures more { IsPrefix overview.old.seen seat.new.knows.seen }
+    ensures board { seat.new.board ≡ seat.old.board }
+    ensures steps { seat.new.steps ≡ raised seat.old.steps 1 }
+    ensures exchanges { seat.new.exchanges ≡ seat.old.exchanges }
+    ensures overview { overview.new ≡ overview.old }
+{
+    board.learn_overview(seat, overview);
+    board.load_length(seat, process)
 }

@@ -2,6 +2,7 @@
 
 ghost use Rattle.std.specs.Prelude.{◌≡◌, ◌+◌, ◌-◌, ◌<◌, ◌≤◌, ◌↔◌, IfSome, IsSome, length, sum};
 ghost use Rattle.at_board.specs.Counting.{raised};
+ghost use Rattle.at_board.specs.Knowledge.Overviews.{IsOverviewOf};
 ghost use Rattle.at_board.specs.Knowledge.Seats.{IsOf};
 ghost use Rattle.at_fold.specs.HasCounted.{HasCounted, StaysCounted};
 ghost use Rattle.at_single.specs.Looks.{HasLooked};
@@ -14,7 +15,7 @@ use crate::look_stage::LookStage;
 use crate::next_stage::become_next;
 use crate::snapping::Snapping;
 use at_base::Counts;
-use at_board::{Board, BoardSeat};
+use at_board::{Board, BoardSeat, Overview};
 use at_fold::Totals;
 use std::marker::Model;
 use std::snapshot::Snapshot;
@@ -90,9 +91,11 @@ impl Looking {
         &mut self,
         board: &Board,
         seat: &mut BoardSeat,
+        overview: &mut Overview,
         totals: &mut Totals,
     ) -> Option<Counts>
         requires board { IsOf seat.old board.now }
+        requires overview { IsOverviewOf overview.old board.now }
         requires mark { seat.old.knows ≡ self.old.mark }
         requires totals { totals.old ≡ self.old.totals }
         requires left { 0 < look_turns_left self.old.stage }
@@ -101,7 +104,7 @@ impl Looking {
         ensures was { self.new.was ≡ self.old.was }
         ensures totals { self.new.totals ≡ totals.new }
         ensures turns { self.new.turns ≡ self.old.turns + 1 }
-        ensures load { MakesLookLoad board.now.book self.old.stage seat.old seat.new totals.new }
+        ensures load { MakesLookLoad board.now.book overview.old.seen self.old.stage seat.old seat.new totals.new }
         ensures loads { HasLoaded board.now.book self.old.start seat.new.knows }
         ensures counted { StaysCounted totals.new board.now.book seat.new.knows.seen }
         ensures left { look_turns_left self.new.stage < look_turns_left self.old.stage }
@@ -119,11 +122,12 @@ impl Looking {
         ensures board { IsOf seat.new board.now }
         ensures steps { seat.new.steps ≡ raised seat.old.steps 1 }
         ensures exchanges { seat.new.exchanges ≡ seat.old.exchanges }
+        ensures overview { overview.new ≡ overview.old }
     {
         seat.known();
         match &mut self.stage {
             LookStage::Snap(snapping) => {
-                let snapped = snapping.turn(board, seat);
+                let snapped = snapping.turn(board, seat, overview);
                 self.turns += 1;
                 self.mark = Snapshot::of(seat);
                 let front = snapped?;

@@ -2,6 +2,7 @@
 
 ghost use Rattle.std.specs.Prelude.{◌≡◌, ◌+◌, ◌<◌, ◌↔◌, IfSome, IsSome};
 ghost use Rattle.at_board.specs.Counting.{raised};
+ghost use Rattle.at_board.specs.Knowledge.Overviews.{IsOverviewOf};
 ghost use Rattle.at_board.specs.Knowledge.Seats.{IsOf};
 ghost use Rattle.at_snapshot.specs.Collected.{HasLoaded};
 ghost use Rattle.at_snapshot.specs.Snapshots.{HasCollected, IsSnapshot, snapshot_steps};
@@ -10,7 +11,7 @@ ghost use Rattle.at_machines.specs.Snapping.{MakesLoad, MayFollow, length_of};
 use crate::collecting::Collecting;
 use crate::stage::Stage;
 use at_base::Counts;
-use at_board::{Board, BoardSeat};
+use at_board::{Board, BoardSeat, Overview};
 use at_snapshot::Collects;
 use std::marker::Model;
 use std::snapshot::Snapshot;
@@ -67,13 +68,19 @@ impl Snapping {
     }
 
     /// Makes the next load of the snapshot, in one step. After the last one it answers the counts.
-    pub fn turn(&mut self, board: &Board, seat: &mut BoardSeat) -> Option<Counts>
+    pub fn turn(
+        &mut self,
+        board: &Board,
+        seat: &mut BoardSeat,
+        overview: &mut Overview,
+    ) -> Option<Counts>
         requires board { IsOf seat.old board.now }
+        requires overview { IsOverviewOf overview.old board.now }
         requires mark { seat.old.knows ≡ self.old.mark }
         requires left { 0 < self.old.left }
         ensures start { self.new.start ≡ self.old.start }
         ensures mark { self.new.mark ≡ seat.new.knows }
-        ensures load { MakesLoad board.now.book self.old.next seat.old seat.new }
+        ensures load { MakesLoad board.now.book overview.old.seen self.old.next seat.old seat.new }
         ensures loads { HasLoaded board.now.book self.old.start seat.new.knows }
         ensures next { MayFollow board.now.book.processes self.old.next self.new.next }
         ensures left { self.new.left < self.old.left }
@@ -84,11 +91,16 @@ impl Snapping {
         ensures board { IsOf seat.new board.now }
         ensures steps { seat.new.steps ≡ raised seat.old.steps 1 }
         ensures exchanges { seat.new.exchanges ≡ seat.old.exchanges }
+        ensures overview { overview.new ≡ overview.old }
     {
         seat.known();
-        let counts = self
-            .stage
-            .turn(board, seat, &mut self.collects, &mut self.collected);
+        let counts = self.stage.turn(
+            board,
+            seat,
+            overview,
+            &mut self.collects,
+            &mut self.collected,
+        );
         self.mark = Snapshot::of(seat);
         counts
     }

@@ -2,6 +2,7 @@
 
 ghost use Rattle.std.specs.Prelude.{◌≡◌, ℕ, ◌+◌, ◌<◌, ◌≤◌, length, slice_index};
 ghost use Rattle.at_board.specs.Counting.{raised};
+ghost use Rattle.at_board.specs.Knowledge.Overviews.{IsOverviewOf};
 ghost use Rattle.at_board.specs.Knowledge.Seats.{IsOf};
 ghost use Rattle.at_board.specs.declared.knowledge.Knowledge.{Knowledge};
 ghost use Rattle.at_history.specs.Publications.{count_of};
@@ -13,7 +14,7 @@ ghost use Rattle.at_machines.specs.Snapping.{left_of};
 use crate::collecting::Collecting;
 use crate::loading_view::LoadingView;
 use at_base::Counts;
-use at_board::{Board, BoardSeat};
+use at_board::{Board, BoardSeat, Overview};
 use at_snapshot::{Collects, Verdict, add_collect, compare};
 
 /// What a snapshot's next turn goes on with.
@@ -34,24 +35,27 @@ impl Stage {
         &mut self,
         board: &Board,
         seat: &mut BoardSeat,
+        overview: &mut Overview,
         collects: &mut Option<Collects>,
         collected: &mut u32,
     ) -> Option<Counts>
         requires board { IsOf seat.old board.now }
+        requires overview { IsOverviewOf overview.old board.now }
         requires so { (start : Knowledge)
             × IsSnappingSo start seat.old.knows collects.old collected.old self.old }
         requires left { 0 < left_of board.now.book.processes collected.old self.old }
         ensures turns { (start : Knowledge)
             → IsSnappingSo start seat.old.knows collects.old collected.old self.old
-            → TurnsStage board.now.book start seat.old seat.new collected.old self.old
+            → TurnsStage board.now.book overview.old.seen start seat.old seat.new collected.old self.old
             collects.new collected.new self.new result }
         ensures board { IsOf seat.new board.now }
         ensures steps { seat.new.steps ≡ raised seat.old.steps 1 }
         ensures exchanges { seat.new.exchanges ≡ seat.old.exchanges }
+        ensures overview { overview.new ≡ overview.old }
     {
         match self {
             Stage::Collect(collecting) => {
-                let now = collecting.turn(board, seat)?;
+                let now = collecting.turn(board, seat, overview)?;
                 *collected += 1;
                 self.judge(board, seat, collects, now)
             }

@@ -1,5 +1,5 @@
 -- How many records each step of a call publishes: what its process has published rises by so many.
-use Rattle.std.proofs.Common.{◌≡◌, ℕ, ◌+◌, ◌<◌, ◌≤◌, length, if◌then◌else◌, refl, sym, ap, subst, arith, inl, inr}
+use Rattle.std.proofs.Common.{◌≡◌, ℕ, ◌+◌, ◌<◌, ◌≤◌, List, length, if◌then◌else◌, refl, sym, ap, subst, arith, inl, inr}
 use Rattle.std.proofs.lemmas.Bool.{cases_lt, eq-eqb, ne_eqb}
 use Rattle.at_base.specs.Decision.{word_of}
 use Rattle.at_ledger.specs.Book.{BookTerms}
@@ -61,18 +61,18 @@ published-Publishes : (b : BookTerms) (v w : Knowledge) (x : Publication) → 0 
 published-Publishes b v w x part told = ap (λ (q : Part). q.published) (own_part-Publishes b v w x part told)
 
 -- loads publish nothing
-published-MakesLoad : (b : BookTerms) (next : NextLoad) (before after : SeatTerms) → MakesLoad b next before after → PublishesSo before.knows after.knows 0
-published-MakesLoad b (NextLoad.length_of p) before after told =
+published-MakesLoad : (b : BookTerms) (seen : List Publication) (next : NextLoad) (before after : SeatTerms) → MakesLoad b seen next before after → PublishesSo before.knows after.knows 0
+published-MakesLoad b seen (NextLoad.length_of p) before after (told, more) =
     let v : Knowledge = record before.knows { seen = after.knows.seen } in
     let last : ℕ = (loads_of (own_part after.knows) p).last in
     omega (arith, ap (λ (k : Knowledge). (own_part k).published) told.same, published-with_part v (with_load (own_part before.knows) p last) refl)
-published-MakesLoad b (NextLoad.view_word k) before after same = omega (arith, ap (λ (s : SeatTerms). (own_part s.knows).published) same)
-published-MakesLoad b NextLoad.nothing before after none = absurd none
+published-MakesLoad b seen (NextLoad.view_word k) before after same = omega (arith, ap (λ (s : SeatTerms). (own_part s.knows).published) same)
+published-MakesLoad b seen NextLoad.nothing before after none = absurd none
 
-published-MakesLookLoad : (b : BookTerms) (stage : LookStage) (before after : SeatTerms) (now : TotalSums) → MakesLookLoad b stage before after now
+published-MakesLookLoad : (b : BookTerms) (seen : List Publication) (stage : LookStage) (before after : SeatTerms) (now : TotalSums) → MakesLookLoad b seen stage before after now
     → PublishesSo before.knows after.knows 0
-published-MakesLookLoad b (LookStage.Snap s) before after now told = published-MakesLoad b s.next before after told
-published-MakesLookLoad b (LookStage.CatchUp c) before after now (same, word) = omega (arith, ap (λ (s : SeatTerms). (own_part s.knows).published) same)
+published-MakesLookLoad b seen (LookStage.Snap s) before after now told = published-MakesLoad b seen s.next before after told
+published-MakesLookLoad b seen (LookStage.CatchUp c) before after now (same, word) = omega (arith, ap (λ (s : SeatTerms). (own_part s.knows).published) same)
 
 -- of a round the last step publishes one
 published-MakesStep : (b : BookTerms) (c : DecidingTerms) (v : Knowledge) (step next : NextOfRound) → 0 < length c.mark.parts → MakesStep b c v step next
@@ -96,45 +96,45 @@ published-ask b a w few stores announces =
           omega (arith, (HasSameCounts-Announces b a.mark w a.account slot (request_asked a) told).published)
     ]
 
-published-MakesPayStep : (b : BookTerms) (stage : PayStage) (before after : SeatTerms) (now : TotalSums) → 0 < length before.knows.parts
-    → MakesPayStep b stage before after now → PublishesSo before.knows after.knows (pay_publishes_at b stage)
-published-MakesPayStep b (PayStage.Look l) before after now part told = published-MakesLookLoad b l.stage before after now told
-published-MakesPayStep b (PayStage.Append a) before after now part (mark, few, stores, publishes) =
+published-MakesPayStep : (b : BookTerms) (seen : List Publication) (stage : PayStage) (before after : SeatTerms) (now : TotalSums) → 0 < length before.knows.parts
+    → MakesPayStep b seen stage before after now → PublishesSo before.knows after.knows (pay_publishes_at b stage)
+published-MakesPayStep b seen (PayStage.Look l) before after now part told = published-MakesLookLoad b seen l.stage before after now told
+published-MakesPayStep b seen (PayStage.Append a) before after now part (mark, few, stores, publishes) =
     let at : 0 < length a.mark.parts = subst (λ (v : Knowledge). 0 < length v.parts) (sym mark) part in
     subst (λ (v : Knowledge). PublishesSo v after.knows (pay_publishes_at b (PayStage.Append a))) mark
     (published-append b a.mark after.knows a.stored few (λ inside. (_, stores inside)) (λ all. published-Publishes b a.mark after.knows _ at (publishes all)))
-published-MakesPayStep b PayStage.Short before after now part none = absurd none
+published-MakesPayStep b seen PayStage.Short before after now part none = absurd none
 
-published-MakesStartStep : (b : BookTerms) (stage : StartStage) (before after : SeatTerms) (now : TotalSums) → MakesStartStep b stage before after now
+published-MakesStartStep : (b : BookTerms) (seen : List Publication) (stage : StartStage) (before after : SeatTerms) (now : TotalSums) → MakesStartStep b seen stage before after now
     → PublishesSo before.knows after.knows 0
-published-MakesStartStep b (StartStage.Look l) before after now told = published-MakesLookLoad b l.stage before after now told
-published-MakesStartStep b (StartStage.Ask a) before after now (mark, few, stores, announces) =
+published-MakesStartStep b seen (StartStage.Look l) before after now told = published-MakesLookLoad b seen l.stage before after now told
+published-MakesStartStep b seen (StartStage.Ask a) before after now (mark, few, stores, announces) =
     subst (λ (v : Knowledge). PublishesSo v after.knows 0) mark (published-ask b a after.knows few stores announces)
-published-MakesStartStep b (StartStage.Collect c) before after now (mark, (slot, next, told)) =
+published-MakesStartStep b seen (StartStage.Collect c) before after now (mark, (slot, next, told)) =
     subst (λ (v : Knowledge). PublishesSo v after.knows 0) mark
     (omega (arith, (HasSameCounts-MakesNextLoad b c (rows_after c after.knows slot next) told).published))
 
-published-MakesTurnStep : (b : BookTerms) (stage next : TurnStage) (before after : SeatTerms) (now : TotalSums) → 0 < length before.knows.parts
-    → MakesTurnStep b stage next before after now → PublishesSo before.knows after.knows (publishes_at b stage)
-published-MakesTurnStep b (TurnStage.Look l) next before after now part told = published-MakesLookLoad b l.stage before after now told
-published-MakesTurnStep b (TurnStage.Decide d) (TurnStage.Decide e) before after now part (mark, told) =
+published-MakesTurnStep : (b : BookTerms) (seen : List Publication) (stage next : TurnStage) (before after : SeatTerms) (now : TotalSums) → 0 < length before.knows.parts
+    → MakesTurnStep b seen stage next before after now → PublishesSo before.knows after.knows (publishes_at b stage)
+published-MakesTurnStep b seen (TurnStage.Look l) next before after now part told = published-MakesLookLoad b seen l.stage before after now told
+published-MakesTurnStep b seen (TurnStage.Decide d) (TurnStage.Decide e) before after now part (mark, told) =
     subst (λ (v : Knowledge). PublishesSo v after.knows (publishes_in b d.next)) mark
     (published-MakesStep b d after.knows d.next e.next (subst (λ (v : Knowledge). 0 < length v.parts) (sym mark) part) told)
-published-MakesTurnStep b (TurnStage.Decide d) (TurnStage.Look l) before after now part none = absurd none
-published-MakesTurnStep b (TurnStage.Decide d) TurnStage.Found before after now part none = absurd none
-published-MakesTurnStep b TurnStage.Found next before after now part none = absurd none
+published-MakesTurnStep b seen (TurnStage.Decide d) (TurnStage.Look l) before after now part none = absurd none
+published-MakesTurnStep b seen (TurnStage.Decide d) TurnStage.Found before after now part none = absurd none
+published-MakesTurnStep b seen TurnStage.Found next before after now part none = absurd none
 
-published-MakesShareStep : (b : BookTerms) (stage : ShareStage) (before after : SeatTerms) (now : TotalSums) → 0 < length before.knows.parts
-    → MakesShareStep b stage before after now → PublishesSo before.knows after.knows (share_publishes_at b stage)
-published-MakesShareStep b (ShareStage.Start s) before after now part told = published-MakesStartStep b s.stage before after now told
-published-MakesShareStep b (ShareStage.Help h u) before after now part (next, told) = published-MakesTurnStep b u.stage next before after now part told
-published-MakesShareStep b ShareStage.Ended before after now part none = absurd none
+published-MakesShareStep : (b : BookTerms) (seen : List Publication) (stage : ShareStage) (before after : SeatTerms) (now : TotalSums) → 0 < length before.knows.parts
+    → MakesShareStep b seen stage before after now → PublishesSo before.knows after.knows (share_publishes_at b stage)
+published-MakesShareStep b seen (ShareStage.Start s) before after now part told = published-MakesStartStep b seen s.stage before after now told
+published-MakesShareStep b seen (ShareStage.Help h u) before after now part (next, told) = published-MakesTurnStep b seen u.stage next before after now part told
+published-MakesShareStep b seen ShareStage.Ended before after now part none = absurd none
 
 -- what a process has published rises by what the step of its call publishes
-pub published-MakesCallStep : (b : BookTerms) (stage : CallStage) (before after : SeatTerms) (now : TotalSums) → 0 < length before.knows.parts
-    → MakesCallStep b stage before after now → (own_part after.knows).published ≡ (own_part before.knows).published + publishes_of b stage
-published-MakesCallStep b (CallStage.Refuse reply) before after now part same = omega (arith, ap (λ (s : SeatTerms). (own_part s.knows).published) same)
-published-MakesCallStep b CallStage.Refused before after now part none = absurd none
-published-MakesCallStep b (CallStage.Read r) before after now part told = published-MakesLookLoad b r.looking.stage before after now told
-published-MakesCallStep b (CallStage.PayAlone p) before after now part told = published-MakesPayStep b p.stage before after now part told
-published-MakesCallStep b (CallStage.PayShared p) before after now part told = published-MakesShareStep b p.stage before after now part told
+pub published-MakesCallStep : (b : BookTerms) (seen : List Publication) (stage : CallStage) (before after : SeatTerms) (now : TotalSums) → 0 < length before.knows.parts
+    → MakesCallStep b seen stage before after now → (own_part after.knows).published ≡ (own_part before.knows).published + publishes_of b stage
+published-MakesCallStep b seen (CallStage.Refuse reply) before after now part same = omega (arith, ap (λ (s : SeatTerms). (own_part s.knows).published) same)
+published-MakesCallStep b seen CallStage.Refused before after now part none = absurd none
+published-MakesCallStep b seen (CallStage.Read r) before after now part told = published-MakesLookLoad b seen r.looking.stage before after now told
+published-MakesCallStep b seen (CallStage.PayAlone p) before after now part told = published-MakesPayStep b seen p.stage before after now part told
+published-MakesCallStep b seen (CallStage.PayShared p) before after now part told = published-MakesShareStep b seen p.stage before after now part told

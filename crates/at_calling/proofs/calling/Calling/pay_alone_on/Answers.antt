@@ -58,7 +58,7 @@ turned : (c : After-known) (mark : SeatTerms) → mark ≡ c.turn-paid.new.seat 
     → (IsSome answer ↔ (call_turns_left c.args.board.now.book (PayAlone c.turn-paid.new.self) ≡ 0))
     → IfSome answer (Leaves c.args.board.now.book c.args.self.now c.turn-paid.new.seat now (turns_made c.turn-paid.new.self) 0)
     → IfSome answer (λ r. now.calls ≡ with_one_call c.args.self.now.was.calls)
-    → TakesCallTurn c.args.board.now.book c.args.self.now (calling_next (calling_of c.self.inside)
+    → TakesCallTurn c.args.board.now.book c.args.overview.now.seen c.args.self.now (calling_next (calling_of c.self.inside)
     (PayAlone c.turn-paid.new.self) mark rest) c.args.seat.now c.turn-paid.new.seat now answer
 turned c mark mark_is now totals_are rest rest_is answer ends leaves calls =
     let first = (goal.at.After-known c).After-self in
@@ -68,9 +68,9 @@ turned c mark mark_is now totals_are rest rest_is answer ends leaves calls =
     let next : CallStage = PayAlone c.turn-paid.new.self in
     let after : SeatTerms = c.turn-paid.new.seat in
     let told = c.turn-paid.ensures in
-    subst (λ (s : CallingTerms). TakesCallTurn b t (calling_next s next mark rest) c.args.seat.now after now answer) (sym c.self.view_is)
-    (TakesCallTurn-stages b t c.args.seat.now after mark mark_is now rest rest_is (PayAlone p) next (stage_is c) answer told.turns
-    (subst (λ (s : TotalSums). MakesCallStep b (PayAlone p) c.args.seat.now after s) (sym totals_are) told.step) told.left
+    subst (λ (s : CallingTerms). TakesCallTurn b c.args.overview.now.seen t (calling_next s next mark rest) c.args.seat.now after now answer) (sym c.self.view_is)
+    (TakesCallTurn-stages b c.args.overview.now.seen t c.args.seat.now after mark mark_is now rest rest_is (PayAlone p) next (stage_is c) answer told.turns
+    (subst (λ (s : TotalSums). MakesCallStep b c.args.overview.now.seen (PayAlone p) c.args.seat.now after s) (sym totals_are) told.step) told.left
     (few-alone c.args.board.now t (so first) c.args.seat.now c.requires.mark c.requires.board after told.board p (stage_is c) (left c)
     now.totals (turns_made c.turn-paid.new.self) told.so_far (omega (arith, told.counting, ap (λ (s : TotalSums). sum s.upto) totals_are)) told.asks)
     ends (begins c) (runs c) refl leaves calls (steps c) (exchanges c))
@@ -79,7 +79,7 @@ pub returns-in_err-answer-clause-turned : goal.returns-in_err-answer-clause-turn
 returns-in_err-answer-clause-turned c =
     let known = (goal.at.returns-in_err-answer-clause-turned c).After-known in
     let now : Rest = record c.args.rest.now { totals = c.turn-paid.new.totals } in
-    subst (TakesCallTurn c.args.board.now.book c.args.self.now (calling_next (calling_of c.self.inside)
+    subst (TakesCallTurn c.args.board.now.book c.args.overview.now.seen c.args.self.now (calling_next (calling_of c.self.inside)
     (PayAlone c.turn-paid.new.self) c.of.result.value c.of-2.result.value) c.args.seat.now c.turn-paid.new.seat now) (sym c.from_residual.ensures)
     (turned known c.of.result.value c.of.ensures now refl c.of-2.result.value c.of-2.ensures None (
       λ some. let wrong : false ≡ true = some in absurd (cc wrong),
@@ -144,6 +144,6 @@ returns-clause-turned c =
     let same : c.receipt_of.result ≡ receipt ended =
     c.receipt_of.ensures
     ∙ ap (λ (s : CallingTerms). let r : Receipt = record { call = s.call; reply = c.in_ok-answer.answer.0; at = c.in_ok-answer.answer.1 } in r) c.self.view_is in
-    subst (λ (r : Receipt). TakesCallTurn b c.args.self.now next c.args.seat.now c.turn-paid.new.seat (rest_after ended) (Some r)) (sym same)
+    subst (λ (r : Receipt). TakesCallTurn b c.args.overview.now.seen c.args.self.now next c.args.seat.now c.turn-paid.new.seat (rest_after ended) (Some r)) (sym same)
     (turned known c.of.result.value c.of.ensures (rest_after ended) refl c.of-3.result.value c.of-3.ensures (Some (receipt ended))
     (λ some. c.in_ok-answer.ensures.ends.0 refl, λ none. refl) (leaves ended) (calls_after ended))

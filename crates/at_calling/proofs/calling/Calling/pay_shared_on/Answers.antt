@@ -67,7 +67,7 @@ turned : (c : After-known) (mark : SeatTerms) → mark ≡ c.turn-paid.new.seat 
     → (IsSome answer ↔ (call_turns_left c.args.board.now.book (PayShared c.turn-paid.new.self) ≡ 0))
     → IfSome answer (Leaves c.args.board.now.book c.args.self.now c.turn-paid.new.seat now c.turn-paid.new.self.turns (share_exchanges_made c.turn-paid.new.self))
     → IfSome answer (λ r. now.calls ≡ with_one_call c.args.self.now.was.calls)
-    → TakesCallTurn c.args.board.now.book c.args.self.now (calling_next (calling_of c.self.inside)
+    → TakesCallTurn c.args.board.now.book c.args.overview.now.seen c.args.self.now (calling_next (calling_of c.self.inside)
     (PayShared c.turn-paid.new.self) mark rest) c.args.seat.now c.turn-paid.new.seat now answer
 turned c mark mark_is now totals_are rest rest_is answer ends leaves calls =
     let first = (goal.at.After-known c).After-self in
@@ -77,9 +77,9 @@ turned c mark mark_is now totals_are rest rest_is answer ends leaves calls =
     let next : CallStage = PayShared c.turn-paid.new.self in
     let after : SeatTerms = c.turn-paid.new.seat in
     let told = c.turn-paid.ensures in
-    subst (λ (s : CallingTerms). TakesCallTurn b t (calling_next s next mark rest) c.args.seat.now after now answer) (sym c.self.view_is)
-    (TakesCallTurn-stages b t c.args.seat.now after mark mark_is now rest rest_is (PayShared p) next (stage_is c) answer told.turns
-    (subst (λ (s : TotalSums). MakesCallStep b (PayShared p) c.args.seat.now after s) (sym totals_are) told.step) told.left
+    subst (λ (s : CallingTerms). TakesCallTurn b c.args.overview.now.seen t (calling_next s next mark rest) c.args.seat.now after now answer) (sym c.self.view_is)
+    (TakesCallTurn-stages b c.args.overview.now.seen t c.args.seat.now after mark mark_is now rest rest_is (PayShared p) next (stage_is c) answer told.turns
+    (subst (λ (s : TotalSums). MakesCallStep b c.args.overview.now.seen (PayShared p) c.args.seat.now after s) (sym totals_are) told.step) told.left
     (few-shared c.args.board.now t (so first) c.args.seat.now c.requires.mark c.requires.board after told.board p (stage_is c) (left c)
     now.totals c.turn-paid.new.self.turns (share_exchanges_made c.turn-paid.new.self) (few c)
     (omega (arith, told.counting, ap (λ (s : TotalSums). sum s.upto) totals_are)) told.decided told.exchanges_few) ends (begins c) (runs c) told.decides leaves calls (steps c) (exchanges c))
@@ -88,7 +88,7 @@ pub returns-in_err-answer-clause-turned : goal.returns-in_err-answer-clause-turn
 returns-in_err-answer-clause-turned c =
     let known = (goal.at.returns-in_err-answer-clause-turned c).After-known in
     let now : Rest = record c.args.rest.now { totals = c.turn-paid.new.totals } in
-    subst (TakesCallTurn c.args.board.now.book c.args.self.now (calling_next (calling_of c.self.inside)
+    subst (TakesCallTurn c.args.board.now.book c.args.overview.now.seen c.args.self.now (calling_next (calling_of c.self.inside)
     (PayShared c.turn-paid.new.self) c.of.result.value c.of-2.result.value) c.args.seat.now c.turn-paid.new.seat now) (sym c.from_residual.ensures)
     (turned known c.of.result.value c.of.ensures now refl c.of-2.result.value c.of-2.ensures None (
       λ some. let wrong : false ≡ true = some in absurd (cc wrong),
@@ -177,6 +177,6 @@ returns-clause-turned c =
     let same : c.receipt_of.result ≡ receipt ended =
     c.receipt_of.ensures
     ∙ ap (λ (s : CallingTerms). let r : Receipt = record { call = s.call; reply = c.in_ok-answer.answer.0; at = c.in_ok-answer.answer.1 } in r) c.self.view_is in
-    subst (λ (r : Receipt). TakesCallTurn b c.args.self.now next c.args.seat.now c.turn-paid.new.seat (rest_after ended) (Some r)) (sym same)
+    subst (λ (r : Receipt). TakesCallTurn b c.args.overview.now.seen c.args.self.now next c.args.seat.now c.turn-paid.new.seat (rest_after ended) (Some r)) (sym same)
     (turned known c.of.result.value c.of.ensures (rest_after ended) refl c.of-3.result.value c.of-3.ensures (Some (receipt ended))
     (λ some. c.in_ok-answer.ensures.ends.0 refl, λ none. refl) (leaves ended) (calls_after ended))

@@ -56,7 +56,7 @@ turned : (c : After-known) (mark : SeatTerms) → mark ≡ c.turn-read.new.seat 
     → (IsSome answer ↔ (call_turns_left c.args.board.now.book (Read c.turn-read.new.self) ≡ 0))
     → IfSome answer (Leaves c.args.board.now.book c.args.self.now c.turn-read.new.seat now c.turn-read.new.self.looking.turns 0)
     → IfSome answer (λ r. now.calls ≡ with_one_call c.args.self.now.was.calls)
-    → TakesCallTurn c.args.board.now.book c.args.self.now (calling_next (calling_of c.self.inside)
+    → TakesCallTurn c.args.board.now.book c.args.overview.now.seen c.args.self.now (calling_next (calling_of c.self.inside)
     (Read c.turn-read.new.self) mark rest) c.args.seat.now c.turn-read.new.seat now answer
 turned c mark mark_is now totals_are rest rest_is answer ends leaves calls =
     let first = (goal.at.After-known c).After-self in
@@ -66,9 +66,9 @@ turned c mark mark_is now totals_are rest rest_is answer ends leaves calls =
     let next : CallStage = Read c.turn-read.new.self in
     let after : SeatTerms = c.turn-read.new.seat in
     let told = c.turn-read.ensures in
-    subst (λ (s : CallingTerms). TakesCallTurn b t (calling_next s next mark rest) c.args.seat.now after now answer) (sym c.self.view_is)
-    (TakesCallTurn-stages b t c.args.seat.now after mark mark_is now rest rest_is (Read p) next (stage_is c) answer told.turns
-    (subst (λ (s : TotalSums). MakesCallStep b (Read p) c.args.seat.now after s) (sym totals_are) told.load) told.left
+    subst (λ (s : CallingTerms). TakesCallTurn b c.args.overview.now.seen t (calling_next s next mark rest) c.args.seat.now after now answer) (sym c.self.view_is)
+    (TakesCallTurn-stages b c.args.overview.now.seen t c.args.seat.now after mark mark_is now rest rest_is (Read p) next (stage_is c) answer told.turns
+    (subst (λ (s : TotalSums). MakesCallStep b c.args.overview.now.seen (Read p) c.args.seat.now after s) (sym totals_are) told.load) told.left
     (few-read c.args.board.now t (so first) c.args.seat.now c.requires.mark c.requires.board after told.board p (stage_is c) (left c)
     now.totals c.turn-read.new.self.looking.turns told.so_far (omega (arith, told.counting, ap (λ (s : TotalSums). sum s.upto) totals_are)) told.loads)
     ends (begins c) (runs c) refl leaves calls (steps c) (exchanges c))
@@ -77,7 +77,7 @@ pub returns-in_err-receipt-clause-turned : goal.returns-in_err-receipt-clause-tu
 returns-in_err-receipt-clause-turned c =
     let known = (goal.at.returns-in_err-receipt-clause-turned c).After-known in
     let now : Rest = record c.args.rest.now { totals = c.turn-read.new.totals } in
-    subst (TakesCallTurn c.args.board.now.book c.args.self.now (calling_next (calling_of c.self.inside)
+    subst (TakesCallTurn c.args.board.now.book c.args.overview.now.seen c.args.self.now (calling_next (calling_of c.self.inside)
     (Read c.turn-read.new.self) c.of.result.value c.of-2.result.value) c.args.seat.now c.turn-read.new.seat now) (sym c.from_residual.ensures)
     (turned known c.of.result.value c.of.ensures now refl c.of-2.result.value c.of-2.ensures None (
       λ some. let wrong : false ≡ true = some in absurd (cc wrong),

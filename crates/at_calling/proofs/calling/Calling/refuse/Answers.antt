@@ -17,7 +17,7 @@ use Rattle.at_calling.proofs.calling.Calling.refuse.Goals.{After-self}
 use Rattle.at_calling.proofs.calling.Calling.refuse.Goals as goal
 
 pub returns : goal.returns
-returns c =
+returns c = λ seen.
     let b : BookTerms = c.args.board.now.book in
     let t : CallingTerms = c.args.self.now in
     let seat : SeatTerms = c.args.seat.now in
@@ -35,12 +35,12 @@ returns c =
     subst (λ (q : Rest). Leaves b t seat q 0 0 r) (sym now_is)
     (Leaves-refused c.args.board.now t so seat c.requires.mark c.requires.board c.args.reply c.requires.stage r refl refl refl) in
     let was = was-refused c.args.board.now t so seat c.requires.mark c.requires.board c.args.reply c.requires.stage in
-    subst (λ (x : Receipt). TakesCallTurn b t (calling_next (calling_of c.self.inside) c.become_next.new.stage c.self.inside.mark.value
+    subst (λ (x : Receipt). TakesCallTurn b seen t (calling_next (calling_of c.self.inside) c.become_next.new.stage c.self.inside.mark.value
     c.of.result.value) seat seat now (Some x)) (sym receipt)
-    (subst (λ (k : CallStage). TakesCallTurn b t (calling_next (calling_of c.self.inside) k c.self.inside.mark.value
+    (subst (λ (k : CallStage). TakesCallTurn b seen t (calling_next (calling_of c.self.inside) k c.self.inside.mark.value
     c.of.result.value) seat seat now (Some r)) (sym c.become_next.ensures)
-    (subst (λ (s : CallingTerms). TakesCallTurn b t (calling_next s Refused s.mark c.of.result.value) seat seat now (Some r)) (sym c.self.view_is)
-    (TakesCallTurn-stages b t seat seat t.mark (sym c.requires.mark) now c.of.result.value c.of.ensures (Refuse c.args.reply) Refused c.requires.stage (Some r)
+    (subst (λ (s : CallingTerms). TakesCallTurn b seen t (calling_next s Refused s.mark c.of.result.value) seat seat now (Some r)) (sym c.self.view_is)
+    (TakesCallTurn-stages b seen t seat seat t.mark (sym c.requires.mark) now c.of.result.value c.of.ensures (Refuse c.args.reply) Refused c.requires.stage (Some r)
     refl refl (omega arith) (IsCallWithin-none b (pass_before t) t.call seat.knows now.totals.upto 0
     (undecided-refused c.args.board.now t so seat c.requires.mark c.requires.board c.args.reply c.requires.stage) (omega arith) (omega arith)) (λ some. refl, λ none. refl)
     (begins-refused c.args.board.now t so seat c.requires.mark c.requires.board c.args.reply c.requires.stage)

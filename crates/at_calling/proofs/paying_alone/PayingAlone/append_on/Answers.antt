@@ -65,9 +65,9 @@ parts : (c : After-turn-is_published) → 0 < length (the_view c.self.inside).ma
 parts c = subst (λ (v : Knowledge). 0 < length v.parts) (known c) (omega (arith, c.known.ensures.seat.one_part))
 
 -- what the turn leaves
-turned : (c : After-turn-is_published) (now : TotalSums) (mark : SeatTerms) → mark ≡ c.turn-is_published.new.seat → (totals : TotalSums)
+turned : (c : After-turn-is_published) (seen : List Publication) (now : TotalSums) (mark : SeatTerms) → mark ≡ c.turn-is_published.new.seat → (totals : TotalSums)
     → totals ≡ now → (answer : Option (Reply × At))
-    → MakesPayStep c.args.board.now.book (Append c.in-Append.appending) c.args.seat.now c.turn-is_published.new.seat now
+    → MakesPayStep c.args.board.now.book seen (Append c.in-Append.appending) c.args.seat.now c.turn-is_published.new.seat now
     → SeesOthersStill (the_view c.self.inside).mark c.turn-is_published.new.seat.knows
     → IsPrefix (the_view c.self.inside).mark.seen c.turn-is_published.new.seat.knows.seen
     → IsWithinOneMore (single_steps c.args.board.now.book.processes)
@@ -79,21 +79,21 @@ turned : (c : After-turn-is_published) (now : TotalSums) (mark : SeatTerms) → 
     → IfSome answer (λ r. StaysCounted now c.args.board.now.book c.turn-is_published.new.seat.knows.seen)
     → IfSome answer (λ r. LeavesTotals c.args.board.now.book (the_view c.self.inside).start c.turn-is_published.new.seat.knows (the_view c.self.inside).was now
     (append_steps (record_width c.args.board.now.book) r.0) (c.self.inside.looked + c.turn-is_published.new.self.stored))
-    → TakesPayTurn c.args.board.now.book c.args.self.now
+    → TakesPayTurn c.args.board.now.book seen c.args.self.now
     (paying_next (the_view c.self.inside) (Append c.turn-is_published.new.self) c.self.inside.looked mark.knows totals) c.args.seat.now
     c.turn-is_published.new.seat now answer
-turned c now mark mark_is totals totals_are answer step others more counting ends asks pays counted leaves =
+turned c seen now mark mark_is totals totals_are answer step others more counting ends asks pays counted leaves =
     let b : BookTerms = c.args.board.now.book in
     let t : PayingAloneTerms = the_view c.self.inside in
     let next : AppendingTerms = c.turn-is_published.new.self in
     let after : SeatTerms = c.turn-is_published.new.seat in
-    subst (λ (s : PayingAloneTerms). TakesPayTurn b s (paying_next t (Append next) t.looked mark.knows totals) c.args.seat.now after now answer) c.self.view_is
-    (TakesPayTurn-append b t c.self.invariant (book (goal.at.After-turn-is_published c).After-self) c.args.seat.now after now mark.knows
+    subst (λ (s : PayingAloneTerms). TakesPayTurn b seen s (paying_next t (Append next) t.looked mark.knows totals) c.args.seat.now after now answer) c.self.view_is
+    (TakesPayTurn-append b seen t c.self.invariant (book (goal.at.After-turn-is_published c).After-self) c.args.seat.now after now mark.knows
     (ap (λ (m : SeatTerms). m.knows) mark_is) totals totals_are c.in-Append.appending next c.in-Append.is c.turn-is_published.ensures.after (few c) step
     answer others more counting ends asks pays counted leaves)
 
 pub returns-then-not-is_published-clause-turned : goal.returns-then-not-is_published-clause-turned
-returns-then-not-is_published-clause-turned c =
+returns-then-not-is_published-clause-turned c = λ seen.
     let at = (goal.at.returns-then-not-is_published-clause-turned c).After-turn-is_published in
     let b : BookTerms = c.args.board.now.book in
     let t : PayingAloneTerms = the_view c.self.inside in
@@ -105,15 +105,15 @@ returns-then-not-is_published-clause-turned c =
     let stored : StoresWord t.mark w a.stored (slice_index (record_words (publication_of a)) a.stored) =
     subst (λ (v : Knowledge). StoresWord v w a.stored (slice_index (record_words (publication_of a)) a.stored)) (appends at).mark_is word in
     let same_totals : t.totals ≡ c.args.totals.now = ap (λ (s : PayingAloneTerms). s.totals) c.self.view_is ∙ sym c.requires.totals in
-    let step : MakesPayStep b (Append a) c.args.seat.now c.turn-is_published.new.seat c.args.totals.now =
+    let step : MakesPayStep b seen (Append a) c.args.seat.now c.turn-is_published.new.seat c.args.totals.now =
     ((appends at).mark_is ∙ sym (known at), few at, λ inside. word, λ all. absurd (other all)) in
     let unpublished : (own_part w).published ≡ (own_part t.mark).published =
     ap (λ (v : Knowledge). (own_part v).published) stored
     ∙ published-with_part t.mark (with_word (own_part t.mark) a.stored (slice_index (record_words (publication_of a)) a.stored)) refl in
-    turned at c.args.totals.now c.of.result.value c.of.ensures t.totals same_totals None step
+    turned at seen c.args.totals.now c.of.result.value c.of.ensures t.totals same_totals None step
     (omega (arith, ap (λ (v : Knowledge). length v.seen) stored, unpublished))
     (subst (IsPrefix t.mark.seen) (sym (ap (λ (v : Knowledge). v.seen) stored)) (IsPrefix-refl t.mark.seen))
-    (counting-append b t c.self.invariant (book (goal.at.After-turn-is_published at).After-self) c.args.seat.now c.turn-is_published.new.seat
+    (counting-append b seen t c.self.invariant (book (goal.at.After-turn-is_published at).After-self) c.args.seat.now c.turn-is_published.new.seat
     c.args.totals.now w refl t.totals same_totals a c.turn-is_published.new.self c.in-Append.is told.after (few at) step (sym same_totals) unpublished)
     (λ some. let wrong : false ≡ true = some in absurd (cc wrong), λ all. absurd (other all))
     (HasSameAsking-StoresWord t.mark w a.stored (slice_index (record_words (publication_of a)) a.stored) (parts at) stored) tt tt tt
@@ -154,7 +154,7 @@ count_own-requires-clause-counted c =
     (subst (λ (s : TotalSums). HasCounted s t.start.book x.seen) (ap (λ (s : PayingAloneTerms). s.totals) c.self.view_is ∙ sym c.requires.totals) here)
 
 pub returns-clause-turned : goal.returns-clause-turned
-returns-clause-turned c =
+returns-clause-turned c = λ seen.
     let at = (goal.at.returns-clause-turned c).After-turn-is_published in
     let same = book (goal.at.After-turn-is_published at).After-self in
     let b : BookTerms = c.args.board.now.book in
@@ -191,7 +191,7 @@ returns-clause-turned c =
     let publishes : Publishes b t.mark x (publication_of a) =
     subst (λ (v : Knowledge). Publishes b v x (publication_of a)) (appends at).mark_is (told.publishes done) in
     let more = length-Publishes-lt b t.mark x (publication_of a) publishes in
-    turned at now c.of.result.value c.of.ensures c.of-2.result.value c.of-2.ensures (Some r)
+    turned at seen now c.of.result.value c.of.ensures c.of-2.result.value c.of-2.ensures (Some r)
     ((appends at).mark_is ∙ sym (known at), few at, λ inside. absurd (omega (arith, inside, all)), λ full. told.publishes done)
     (omega (arith, more, one, (appends at).unpublished))
     (IsPrefix-Publishes b t.mark x (publication_of a) publishes)

@@ -52,7 +52,7 @@ turned : (c : After-turn-looked) (turns : ℕ) → turns ≡ c.turn-looked.new.s
     → IfSome answer (λ r. StaysCounted c.turn-looked.new.totals c.args.board.now.book c.turn-looked.new.seat.knows.seen)
     → IfSome answer (λ r. LeavesTotals c.args.board.now.book (the_view c.self.inside).start c.turn-looked.new.seat.knows (the_view c.self.inside).was
     c.turn-looked.new.totals (append_steps (record_width c.args.board.now.book) r.0) turns)
-    → TakesPayTurn c.args.board.now.book c.args.self.now (paying_next (the_view c.self.inside) stage turns mark.knows totals) c.args.seat.now
+    → TakesPayTurn c.args.board.now.book c.args.overview.now.seen c.args.self.now (paying_next (the_view c.self.inside) stage turns mark.knows totals) c.args.seat.now
     c.turn-looked.new.seat c.turn-looked.new.totals answer
 turned c turns turns_are mark mark_is totals totals_are stage answer same left ends pays counted leaves =
     let b : BookTerms = c.args.board.now.book in
@@ -60,8 +60,8 @@ turned c turns turns_are mark mark_is totals totals_are stage answer same left e
     let after : SeatTerms = c.turn-looked.new.seat in
     let now : TotalSums = c.turn-looked.new.totals in
     let told = c.turn-looked.ensures in
-    subst (λ (s : PayingAloneTerms). TakesPayTurn b s (paying_next t stage turns mark.knows totals) c.args.seat.now after now answer) c.self.view_is
-    (TakesPayTurn-look b t c.self.invariant (book (goal.at.After-turn-looked c).After-self) c.args.seat.now after now mark.knows
+    subst (λ (s : PayingAloneTerms). TakesPayTurn b c.args.overview.now.seen s (paying_next t stage turns mark.knows totals) c.args.seat.now after now answer) c.self.view_is
+    (TakesPayTurn-look b c.args.overview.now.seen t c.self.invariant (book (goal.at.After-turn-looked c).After-self) c.args.seat.now after now mark.knows
     (ap (λ (m : SeatTerms). m.knows) mark_is) totals totals_are c.in-Look.looking c.in-Look.is turns (turns_are ∙ told.turns) told.load told.loads
     (subst (IsWithin b.processes c.in-Look.looking.was (length after.knows.seen)) (sym turns_are) told.so_far)
     (omega (arith, told.counting, turns_are)) stage answer same left ends pays counted leaves)
@@ -70,7 +70,7 @@ pub returns-in_err-front-clause-turned : goal.returns-in_err-front-clause-turned
 returns-in_err-front-clause-turned c =
     let at = (goal.at.returns-in_err-front-clause-turned c).After-turn-looked in
     let next : PayStage = Look c.turn-looked.new.self in
-    subst (TakesPayTurn c.args.board.now.book c.args.self.now
+    subst (TakesPayTurn c.args.board.now.book c.args.overview.now.seen c.args.self.now
     (paying_next (the_view c.self.inside) next c.turns-self-inside.result c.of.result.value.knows c.of-2.result.value) c.args.seat.now
     c.turn-looked.new.seat c.turn-looked.new.totals)
     (sym c.from_residual.ensures)
@@ -151,7 +151,7 @@ returns-then-not-covers-clause-turned c =
     let looked_on : HasLooked b t.start w t.was now front = subst (λ (k : BookTerms). HasLooked k t.start w t.was now front) same (looked known) in
     let few : IsWithin b.processes t.was (sum front) c.turn-looked.new.self.turns =
     subst (λ (s : TotalSums). IsWithin b.processes s (sum front) c.turn-looked.new.self.turns) (looks at).was_is c.in_ok-front.ensures.within in
-    subst (λ (k : PayStage). TakesPayTurn b c.args.self.now (paying_next t k c.turns-self-inside.result c.of.result.value.knows c.of-2.result.value) c.args.seat.now
+    subst (λ (k : PayStage). TakesPayTurn b c.args.overview.now.seen c.args.self.now (paying_next t k c.turns-self-inside.result c.of.result.value.knows c.of-2.result.value) c.args.seat.now
     c.turn-looked.new.seat now (Some r)) (sym c.become_next.ensures)
     (turned at c.turns-self-inside.result c.turns-self-inside.ensures c.of.result.value c.of.ensures c.of-2.result.value c.of-2.ensures PayStage.Short (Some r) refl
     (omega arith) (λ some. refl, λ none. refl)
@@ -212,7 +212,7 @@ returns-clause-turned c =
     let at = (goal.at.After-known known).After-turn-looked in
     let t : PayingAloneTerms = the_view c.self.inside in
     let next : PayStage = next_append t c.turn-looked.new.seat.knows c.in_ok-front.front in
-    subst (λ (k : PayStage). TakesPayTurn c.args.board.now.book c.args.self.now
+    subst (λ (k : PayStage). TakesPayTurn c.args.board.now.book c.args.overview.now.seen c.args.self.now
     (paying_next t k c.turns-self-inside.result c.of.result.value.knows c.of-2.result.value) c.args.seat.now c.turn-looked.new.seat c.turn-looked.new.totals None)
     (sym (c.become_next-2.ensures ∙ ap (λ (a : AppendingTerms). Append a) (appends start)))
     (turned at c.turns-self-inside.result c.turns-self-inside.ensures c.of.result.value c.of.ensures c.of-2.result.value c.of-2.ensures next None (omega arith)

@@ -257,15 +257,15 @@ some c = subst (λ (x : PayingSharedTerms). 0 < share_turns_left c.args.board.no
 
 -- the step that was made
 step : (c : After-turn-helped)
-    → MakesShareStep c.args.board.now.book c.self.inside.stage c.args.seat.now c.turn-helped.new.seat c.turn-helped.new.totals
+    → MakesShareStep c.args.board.now.book c.args.overview.now.seen c.self.inside.stage c.args.seat.now c.turn-helped.new.seat c.turn-helped.new.totals
 step c =
-    subst (λ (k : ShareStage). MakesShareStep c.args.board.now.book k c.args.seat.now c.turn-helped.new.seat c.turn-helped.new.totals) (sym c.in-Help.is)
+    subst (λ (k : ShareStage). MakesShareStep c.args.board.now.book c.args.overview.now.seen k c.args.seat.now c.turn-helped.new.seat c.turn-helped.new.totals) (sym c.in-Help.is)
     (c.turn-helped.new.self.stage, c.turn-helped.ensures.step)
 
 -- what the turn leaves where helping goes on
 goes_on : (c : After-known) (mark : SeatTerms) → mark ≡ c.turn-helped.new.seat → (totals : TotalSums) → totals ≡ c.turn-helped.new.totals
     → (u : TurningTerms)
-    → TakesShareTurn c.args.board.now.book c.args.self.now (share_next (the_view c.self.inside) (Help c.in-Help.helping u) mark.knows totals)
+    → TakesShareTurn c.args.board.now.book c.args.overview.now.seen c.args.self.now (share_next (the_view c.self.inside) (Help c.in-Help.helping u) mark.knows totals)
     c.args.seat.now c.turn-helped.new.seat c.turn-helped.new.totals None
 goes_on c mark mark_is totals totals_are u =
     let at = (goal.at.After-known c).After-turn-helped in
@@ -275,15 +275,15 @@ goes_on c mark mark_is totals totals_are u =
     let after : SeatTerms = c.turn-helped.new.seat in
     let now : TotalSums = c.turn-helped.new.totals in
     let stage : ShareStage = Help c.in-Help.helping u in
-    subst (λ (x : PayingSharedTerms). TakesShareTurn b x (share_next t stage mark.knows totals) before after now None) c.self.view_is
-    (TakesShareTurn-on b t before after now mark.knows (ap (λ (m : SeatTerms). m.knows) mark_is) totals totals_are (some at) (step at) (within at)
+    subst (λ (x : PayingSharedTerms). TakesShareTurn b c.args.overview.now.seen x (share_next t stage mark.knows totals) before after now None) c.self.view_is
+    (TakesShareTurn-on b c.args.overview.now.seen t before after now mark.knows (ap (λ (m : SeatTerms). m.knows) mark_is) totals totals_are (some at) (step at) (within at)
     (counting at) (begins at) stage (λ n. refl) (within_all c) (ap (λ (m : SeatTerms). decides_made t.account t.start m.knows) mark_is ∙ made at)
     (ap (λ (m : SeatTerms). decides_made t.account t.start m.knows) mark_is)
     (omega (arith, few_exchanges at, ap (λ (m : SeatTerms). decides_made t.account t.start m.knows) mark_is)))
 
 pub returns-in_err-answer-clause-turned : goal.returns-in_err-answer-clause-turned
 returns-in_err-answer-clause-turned c =
-    subst (TakesShareTurn c.args.board.now.book c.args.self.now
+    subst (TakesShareTurn c.args.board.now.book c.args.overview.now.seen c.args.self.now
     (share_next (the_view c.self.inside) (Help c.in-Help.helping c.turn-helped.new.self) c.of.result.value.knows c.of-2.result.value) c.args.seat.now
     c.turn-helped.new.seat c.turn-helped.new.totals) (sym c.from_residual.ensures)
     (goes_on (goal.at.returns-in_err-answer-clause-turned c).After-known c.of.result.value c.of.ensures c.of-2.result.value c.of-2.ensures
@@ -323,9 +323,9 @@ returns-in-Settled-clause-turned c =
     subst (LeavesTotals v.book v w t.was now (settling_steps v.book t.account)) (turns_now at)
     (LeavesTotals-settled v.book v u.start w t.account t.targets h so.helped seat t.was u.was now so.before (help_turns_made c.turn-helped.new.self) so.counted
     (totals_of at told.leaves)) in
-    subst (λ (k : ShareStage). TakesShareTurn b c.args.self.now (share_next t k mark totals) before after now (Some r)) (sym c.become_next.ensures)
-    (subst (λ (x : PayingSharedTerms). TakesShareTurn b x (share_next t Ended mark totals) before after now (Some r)) c.self.view_is
-    (TakesShareTurn-settled b t before after now mark (ap (λ (m : SeatTerms). m.knows) c.of.ensures) totals c.of-2.ensures (some at) (step at) (within at)
+    subst (λ (k : ShareStage). TakesShareTurn b c.args.overview.now.seen c.args.self.now (share_next t k mark totals) before after now (Some r)) (sym c.become_next.ensures)
+    (subst (λ (x : PayingSharedTerms). TakesShareTurn b c.args.overview.now.seen x (share_next t Ended mark totals) before after now (Some r)) c.self.view_is
+    (TakesShareTurn-settled b c.args.overview.now.seen t before after now mark (ap (λ (m : SeatTerms). m.knows) c.of.ensures) totals c.of-2.ensures (some at) (step at) (within at)
     (counting at) (begins at) r
     (subst (λ (k : BookTerms). AnswersInRound k v w t.account t.targets r) (sym same) pays)
     (subst (λ (k : BookTerms). SettlesInTurns k v w t.account t.targets) (sym same) settles)

@@ -162,7 +162,7 @@ none_decided c =
 turned : (c : After-known) (mark : SeatTerms) → mark ≡ c.turn-started.new.seat → (totals : TotalSums) → totals ≡ c.turn-started.new.totals
     → (stage : ShareStage) → ((n : ℕ) → unless_settled n stage ≡ n)
     → unless_starting (decides_made c.self.inside.account c.self.inside.start.value.knows mark.knows) stage ≡ 0
-    → TakesShareTurn c.args.board.now.book c.args.self.now (share_next (the_view c.self.inside) stage mark.knows totals) c.args.seat.now
+    → TakesShareTurn c.args.board.now.book c.args.overview.now.seen c.args.self.now (share_next (the_view c.self.inside) stage mark.knows totals) c.args.seat.now
     c.turn-started.new.seat c.turn-started.new.totals None
 turned c mark mark_is totals totals_are stage goes decides =
     let at = (goal.at.After-known c).After-turn-started in
@@ -172,10 +172,10 @@ turned c mark mark_is totals totals_are stage goes decides =
     let after : SeatTerms = c.turn-started.new.seat in
     let now : TotalSums = c.turn-started.new.totals in
     let few = within at in
-    subst (λ (x : PayingSharedTerms). TakesShareTurn b x (share_next t stage mark.knows totals) before after now None) c.self.view_is
-    (TakesShareTurn-on b t before after now mark.knows (ap (λ (m : SeatTerms). m.knows) mark_is) totals totals_are
+    subst (λ (x : PayingSharedTerms). TakesShareTurn b c.args.overview.now.seen x (share_next t stage mark.knows totals) before after now None) c.self.view_is
+    (TakesShareTurn-on b c.args.overview.now.seen t before after now mark.knows (ap (λ (m : SeatTerms). m.knows) mark_is) totals totals_are
     (subst (λ (x : PayingSharedTerms). 0 < share_turns_left b x) (sym c.self.view_is) c.requires.left)
-    (subst (λ (k : ShareStage). MakesShareStep b k before after now) (sym c.in-Start.is) c.turn-started.ensures.step) few (counting at)
+    (subst (λ (k : ShareStage). MakesShareStep b c.args.overview.now.seen k before after now) (sym c.in-Start.is) c.turn-started.ensures.step) few (counting at)
     (subst (λ (v : Knowledge). IsPrefix v.seen after.knows.seen) (starts at).start_is c.turn-started.ensures.begins) stage goes
     (omega (arith, few, c.known.ensures.seat.history.few))
     (omega (arith, decides, ap (unless_starting (decides_made t.account t.start t.mark)) c.in-Start.is, ap share_exchanges_at c.in-Start.is))
@@ -185,7 +185,7 @@ pub returns-in_err-helping-clause-turned : goal.returns-in_err-helping-clause-tu
 returns-in_err-helping-clause-turned c =
     let known = (goal.at.returns-in_err-helping-clause-turned c).After-known in
     let next : ShareStage = Start c.turn-started.new.self in
-    subst (TakesShareTurn c.args.board.now.book c.args.self.now (share_next (the_view c.self.inside) next c.of.result.value.knows c.of-2.result.value)
+    subst (TakesShareTurn c.args.board.now.book c.args.overview.now.seen c.args.self.now (share_next (the_view c.self.inside) next c.of.result.value.knows c.of-2.result.value)
     c.args.seat.now c.turn-started.new.seat c.turn-started.new.totals) (sym c.from_residual.ensures)
     (turned known c.of.result.value c.of.ensures c.of-2.result.value c.of-2.ensures next (λ n. refl) refl)
 
@@ -196,7 +196,7 @@ returns-clause-turned c =
     let t : PayingSharedTerms = the_view c.self.inside in
     let w : Knowledge = c.turn-started.new.seat.knows in
     let h : HelpingTerms = c.in_ok-helping.helping in
-    subst (λ (k : ShareStage). TakesShareTurn c.args.board.now.book c.args.self.now (share_next t k c.of.result.value.knows c.of-2.result.value)
+    subst (λ (k : ShareStage). TakesShareTurn c.args.board.now.book c.args.overview.now.seen c.args.self.now (share_next t k c.of.result.value.knows c.of-2.result.value)
     c.args.seat.now c.turn-started.new.seat c.turn-started.new.totals None) (sym c.become_next.ensures)
     (turned known c.of.result.value c.of.ensures c.of-2.result.value c.of-2.ensures (Help h c.start-turning.result) (λ n. refl)
     (ap (λ (m : SeatTerms). decides_made t.account t.start m.knows) c.of.ensures

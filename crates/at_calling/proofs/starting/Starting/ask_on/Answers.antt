@@ -1,7 +1,8 @@
-use Rattle.std.proofs.Common.{None, ◌≡◌, ℕ, ◌+◌, ◌<◌, ◌≤◌, ◌≢◌, IsSome, Some, false, true, refl, sym, ap, subst, ◌∙◌, arith}
+use Rattle.std.proofs.Common.{None, ◌≡◌, ℕ, ◌+◌, ◌<◌, ◌≤◌, ◌≢◌, List, IsSome, Some, false, true, refl, sym, ap, subst, ◌∙◌, arith}
 use Rattle.at_ledger.specs.Account.{slot_in, slots_of}
 use Rattle.at_ledger.specs.Book.{BookTerms, HasSlot, account_of}
 use Rattle.at_history.specs.Publications.{IsPrefix}
+use Rattle.at_history.specs.declared.publication.Publication.{Publication}
 use Rattle.at_board.specs.Knowledge.Seats.{SeatTerms}
 use Rattle.at_board.specs.Steps.Announce.{Announces}
 use Rattle.at_board.specs.declared.knowledge.Knowledge.{Knowledge}
@@ -158,26 +159,26 @@ some_slot c =
     )
 
 -- what the turn leaves, with whichever stage next
-turned : (c : After-turn-announced) (mark : SeatTerms) → mark ≡ c.turn-announced.new.seat
+turned : (c : After-turn-announced) (seen : List Publication) (mark : SeatTerms) → mark ≡ c.turn-announced.new.seat
     → HasSameCounts c.self.inside.start.value.knows c.turn-announced.new.seat.knows c.in-Ask.asking.account
     → IsPrefix c.in-Ask.asking.start.seen c.turn-announced.new.seat.knows.seen → (stage : StartStage)
     → start_turns_in c.self.inside.looked stage ≡ c.self.inside.looked + c.in-Ask.asking.stored + 1
-    → MakesStartStep c.args.board.now.book (Ask c.in-Ask.asking) c.args.seat.now c.turn-announced.new.seat c.self.inside.totals.value
+    → MakesStartStep c.args.board.now.book seen (Ask c.in-Ask.asking) c.args.seat.now c.turn-announced.new.seat c.self.inside.totals.value
     → 0 < start_turns_after (asking_steps_of c.args.board.now.book (the_view c.self.inside)) stage
     → start_turns_after (asking_steps_of c.args.board.now.book (the_view c.self.inside)) stage
     < start_turns_after (asking_steps_of c.args.board.now.book (the_view c.self.inside)) (Ask c.in-Ask.asking)
-    → TakesStartTurn c.args.board.now.book c.args.self.now (start_after (the_view c.self.inside) stage mark.knows) c.args.seat.now
+    → TakesStartTurn c.args.board.now.book seen c.args.self.now (start_after (the_view c.self.inside) stage mark.knows) c.args.seat.now
     c.turn-announced.new.seat c.args.self.now.totals None
-turned c mark mark_is same_counts more stage same step some left =
+turned c seen mark mark_is same_counts more stage same step some left =
     let b : BookTerms = c.args.board.now.book in
     let t : StartingTerms = the_view c.self.inside in
     let after : SeatTerms = c.turn-announced.new.seat in
-    subst (λ (s : StartingTerms). TakesStartTurn b s (start_after t stage mark.knows) c.args.seat.now after s.totals None) c.self.view_is
-    (TakesStartTurn-ask b t c.self.invariant (sym (book (goal.at.After-turn-announced c).After-self)) c.args.seat.now after mark.knows
+    subst (λ (s : StartingTerms). TakesStartTurn b seen s (start_after t stage mark.knows) c.args.seat.now after s.totals None) c.self.view_is
+    (TakesStartTurn-ask b seen t c.self.invariant (sym (book (goal.at.After-turn-announced c).After-self)) c.args.seat.now after mark.knows
     (ap (λ (m : SeatTerms). m.knows) mark_is) c.in-Ask.asking c.in-Ask.is same_counts more stage same step some left)
 
 pub returns-in_err-number-clause-turned : goal.returns-in_err-number-clause-turned
-returns-in_err-number-clause-turned c =
+returns-in_err-number-clause-turned c = λ seen.
     let at = (goal.at.returns-in_err-number-clause-turned c).After-turn-announced in
     let t : StartingTerms = the_view c.self.inside in
     let a : AskingTerms = c.in-Ask.asking in
@@ -186,15 +187,15 @@ returns-in_err-number-clause-turned c =
     let left : a.stored < REQUEST_WORDS = omega (arith, (asks at).left, other) in
     let next : StartStage = Ask c.turn-announced.new.self in
     let stored : c.turn-announced.new.self.stored ≡ a.stored + 1 = ap (λ (x : AskingTerms). x.stored) told.after in
-    subst (TakesStartTurn c.args.board.now.book c.args.self.now (start_after t next c.of.result.value.knows) c.args.seat.now
+    subst (TakesStartTurn c.args.board.now.book seen c.args.self.now (start_after t next c.of.result.value.knows) c.args.seat.now
     c.turn-announced.new.seat c.args.self.now.totals) (sym c.from_residual.ensures)
-    (turned at c.of.result.value c.of.ensures (HasSameCounts-word t c.self.invariant a (asks at) c.turn-announced.new.seat.knows (told.word left))
+    (turned at seen c.of.result.value c.of.ensures (HasSameCounts-word t c.self.invariant a (asks at) c.turn-announced.new.seat.knows (told.word left))
     (IsPrefix-word t c.self.invariant a (asks at) c.turn-announced.new.seat.knows (told.word left)) next
     (omega (arith, stored)) (mark_known at, (asks at).left, λ inside. told.word inside, λ all. absurd (other all)) (omega (arith, stored, left, some_slot at))
     (omega (arith, stored, left, some_slot at)))
 
 pub returns-clause-turned : goal.returns-clause-turned
-returns-clause-turned c =
+returns-clause-turned c = λ seen.
     let next = (goal.at.returns-clause-turned c).After-become_next in
     let slot_found = (goal.at.returns-clause-turned c).After-slot_of in
     let at = (goal.at.returns-clause-turned c).After-turn-announced in
@@ -204,8 +205,8 @@ returns-clause-turned c =
     let all : a.stored ≡ REQUEST_WORDS = told.ends.0 refl in
     let stage : StartStage = Collect (starting_rows c.turn-announced.new.seat.knows a.account
     (opened (slot_of_start t c.self.invariant) c.in_ok-number.number a.targets a.since)) in
-    subst (λ (k : StartStage). TakesStartTurn c.args.board.now.book c.args.self.now (start_after t k c.of.result.value.knows) c.args.seat.now
+    subst (λ (k : StartStage). TakesStartTurn c.args.board.now.book seen c.args.self.now (start_after t k c.of.result.value.knows) c.args.seat.now
     c.turn-announced.new.seat c.args.self.now.totals None) (sym (rows_next next))
-    (turned at c.of.result.value c.of.ensures
+    (turned at seen c.of.result.value c.of.ensures
     (HasSameCounts-announced t c.self.invariant a (asks at) c.turn-announced.new.seat.knows (announced slot_found)) (announced slot_found).more stage (omega (arith, all))
     (mark_known at, (asks at).left, λ inside. absurd (omega (arith, inside, all)), λ full. told.announces) (omega (arith, some_slot at)) (omega (arith, all, some_slot at)))

@@ -2,6 +2,7 @@ use Rattle.std.proofs.Common.{◌↔◌, IfSome, Option, None, ◌≡◌, ℕ, �
 use Rattle.at_ledger.specs.Account.{slots_of}
 use Rattle.at_ledger.specs.Book.{BookTerms, account_of}
 use Rattle.at_history.specs.Publications.{IsPrefix}
+use Rattle.at_history.specs.declared.publication.Publication.{Publication}
 use Rattle.at_board.specs.Knowledge.Candidates.{HasLoadedRows}
 use Rattle.at_board.specs.Knowledge.Seats.{SeatTerms}
 use Rattle.at_board.specs.declared.knowledge.Knowledge.{Knowledge}
@@ -95,38 +96,38 @@ goes c ended =
     ))
 
 -- what the turn leaves
-turned : (c : After-turn-collected) (mark : SeatTerms) → mark ≡ c.turn-collected.new.seat → (answer : Option HelpingTerms)
+turned : (c : After-turn-collected) (seen : List Publication) (mark : SeatTerms) → mark ≡ c.turn-collected.new.seat → (answer : Option HelpingTerms)
     → (IsSome answer ↔ (c.turn-collected.new.self.next ≡ nothing))
     → IfSome answer (IsStartOf c.args.board.now.book c.self.inside.start.value.knows c.turn-collected.new.seat.knows c.self.inside.account c.self.inside.targets)
     → IfSome answer (λ h. LeavesTotals c.args.board.now.book c.self.inside.start.value.knows c.turn-collected.new.seat.knows c.self.inside.was.value
     c.self.inside.totals.value (asking_steps_of c.args.board.now.book (the_view c.self.inside))
     (start_turns_in c.self.inside.looked (Collect c.turn-collected.new.self)))
-    → TakesStartTurn c.args.board.now.book c.args.self.now (start_after (the_view c.self.inside) (Collect c.turn-collected.new.self) mark.knows)
+    → TakesStartTurn c.args.board.now.book seen c.args.self.now (start_after (the_view c.self.inside) (Collect c.turn-collected.new.self) mark.knows)
     c.args.seat.now c.turn-collected.new.seat c.args.self.now.totals answer
-turned c mark mark_is answer ends starts leaves =
+turned c seen mark mark_is answer ends starts leaves =
     let b : BookTerms = c.args.board.now.book in
     let t : StartingTerms = the_view c.self.inside in
     let r : CollectingRowsTerms = c.in-Collect.collecting in
     let next : CollectingRowsTerms = c.turn-collected.new.self in
     let after : SeatTerms = c.turn-collected.new.seat in
     let told = c.turn-collected.ensures in
-    subst (λ (s : StartingTerms). TakesStartTurn b s (start_after t (Collect next) mark.knows) c.args.seat.now after s.totals answer) c.self.view_is
-    (TakesStartTurn-collect b t c.self.invariant (sym (book (goal.at.After-turn-collected c).After-self)) c.args.seat.now after mark.knows
+    subst (λ (s : StartingTerms). TakesStartTurn b seen s (start_after t (Collect next) mark.knows) c.args.seat.now after s.totals answer) c.self.view_is
+    (TakesStartTurn-collect b seen t c.self.invariant (sym (book (goal.at.After-turn-collected c).After-self)) c.args.seat.now after mark.knows
     (ap (λ (m : SeatTerms). m.knows) mark_is) r next c.in-Collect.is (goes c) (ap (λ (x : CollectingRowsTerms). x.made) told.after) (same_counts c) (more_rows c)
     (rows_so c).stage_so.left answer
     ((collects c).mark_is ∙ sym (known_before (goal.at.After-turn-collected c).After-self), (next.slot, next.next, subst (MakesNextLoad b r) told.after told.load))
     ends starts leaves)
 
 pub returns-in_err-asked-clause-turned : goal.returns-in_err-asked-clause-turned
-returns-in_err-asked-clause-turned c =
+returns-in_err-asked-clause-turned c = λ seen.
     let at = (goal.at.returns-in_err-asked-clause-turned c).After-turn-collected in
-    subst (TakesStartTurn c.args.board.now.book c.args.self.now
+    subst (TakesStartTurn c.args.board.now.book seen c.args.self.now
     (start_after (the_view c.self.inside) (Collect c.turn-collected.new.self) c.of.result.value.knows) c.args.seat.now c.turn-collected.new.seat
     c.args.self.now.totals) (sym c.from_residual.ensures)
-    (turned at c.of.result.value c.of.ensures None c.in_err-asked.ensures.ends tt tt)
+    (turned at seen c.of.result.value c.of.ensures None c.in_err-asked.ensures.ends tt tt)
 
 pub returns-clause-turned : goal.returns-clause-turned
-returns-clause-turned c =
+returns-clause-turned c = λ seen.
     let at = (goal.at.returns-clause-turned c).After-turn-collected in
     let same = book (goal.at.After-turn-collected at).After-self in
     let t : StartingTerms = the_view c.self.inside in
@@ -147,6 +148,6 @@ returns-clause-turned c =
     let leaves : LeavesTotals t.start.book t.start w t.was t.totals (asking_steps_of t.start.book t) turns =
     LeavesTotals-CollectsRows t c.self.invariant r (collects at) w asked rows told.candidates collected last turns (asking_steps_of t.start.book t)
     (few_rows at) in
-    turned at c.of.result.value c.of.ensures (Some c.of-2.result) told.ends
+    turned at seen c.of.result.value c.of.ensures (Some c.of-2.result) told.ends
     (subst (λ (k : BookTerms). IsStartOf k t.start w t.account t.targets c.of-2.result) (sym same) starts)
     (subst (λ (k : BookTerms). LeavesTotals k t.start w t.was t.totals (asking_steps_of k t) turns) (sym same) leaves)

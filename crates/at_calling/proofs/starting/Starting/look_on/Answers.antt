@@ -103,7 +103,7 @@ turned : (c : After-turn-looked) (turns : ℕ) → turns ≡ c.turn-looked.new.s
     → 0 < start_turns_after (asking_steps_of c.args.board.now.book (the_view c.self.inside)) stage
     → start_turns_after (asking_steps_of c.args.board.now.book (the_view c.self.inside)) stage
     < start_turns_after (asking_steps_of c.args.board.now.book (the_view c.self.inside)) (Look c.in-Look.looking)
-    → TakesStartTurn c.args.board.now.book c.args.self.now (start_after_look (the_view c.self.inside) stage mark.knows totals turns) c.args.seat.now
+    → TakesStartTurn c.args.board.now.book c.args.overview.now.seen c.args.self.now (start_after_look (the_view c.self.inside) stage mark.knows totals turns) c.args.seat.now
     c.turn-looked.new.seat c.turn-looked.new.totals None
 turned c turns turns_are mark mark_is totals totals_are stage same some left =
     let b : BookTerms = c.args.board.now.book in
@@ -112,8 +112,8 @@ turned c turns turns_are mark mark_is totals totals_are stage same some left =
     let now : TotalSums = c.turn-looked.new.totals in
     let l : LookingTerms = c.in-Look.looking in
     let told = c.turn-looked.ensures in
-    subst (λ (s : StartingTerms). TakesStartTurn b s (start_after_look t stage mark.knows totals turns) c.args.seat.now after now None) c.self.view_is
-    (TakesStartTurn-look b t c.self.invariant (sym (book (goal.at.After-turn-looked c).After-self)) c.args.seat.now after mark.knows
+    subst (λ (s : StartingTerms). TakesStartTurn b c.args.overview.now.seen s (start_after_look t stage mark.knows totals turns) c.args.seat.now after now None) c.self.view_is
+    (TakesStartTurn-look b c.args.overview.now.seen t c.self.invariant (sym (book (goal.at.After-turn-looked c).After-self)) c.args.seat.now after mark.knows
     (ap (λ (m : SeatTerms). m.knows) mark_is) now totals totals_are l c.in-Look.is turns (turns_are ∙ told.turns) told.load told.loads told.counted
     (subst (IsWithin b.processes l.was (length after.knows.seen)) (sym turns_are) told.so_far) (omega (arith, told.counting, turns_are)) stage same some left)
 
@@ -121,7 +121,7 @@ pub returns-in_err-front-clause-turned : goal.returns-in_err-front-clause-turned
 returns-in_err-front-clause-turned c =
     let at = (goal.at.returns-in_err-front-clause-turned c).After-turn-looked in
     let next : StartStage = Look c.turn-looked.new.self in
-    subst (TakesStartTurn c.args.board.now.book c.args.self.now
+    subst (TakesStartTurn c.args.board.now.book c.args.overview.now.seen c.args.self.now
     (start_after_look (the_view c.self.inside) next c.of.result.value.knows c.of-2.result.value c.turns-self-inside.result) c.args.seat.now
     c.turn-looked.new.seat c.turn-looked.new.totals) (sym c.from_residual.ensures)
     (turned at c.turns-self-inside.result c.turns-self-inside.ensures c.of.result.value c.of.ensures c.of-2.result.value c.of-2.ensures next
@@ -132,7 +132,7 @@ returns-clause-turned c =
     let at = (goal.at.returns-clause-turned c).After-turn-looked in
     let a : AskingTerms = c.asking_at-asking.result in
     let none : a.stored ≡ 0 = ap (λ (x : AskingTerms). x.stored) c.asking_at-asking.ensures in
-    subst (λ (k : StartStage). TakesStartTurn c.args.board.now.book c.args.self.now
+    subst (λ (k : StartStage). TakesStartTurn c.args.board.now.book c.args.overview.now.seen c.args.self.now
     (start_after_look (the_view c.self.inside) k c.of.result.value.knows c.of-2.result.value c.turns-self-inside.result) c.args.seat.now
     c.turn-looked.new.seat c.turn-looked.new.totals None) (sym c.become_next.ensures)
     (turned at c.turns-self-inside.result c.turns-self-inside.ensures c.of.result.value c.of.ensures c.of-2.result.value c.of-2.ensures (Ask a)

@@ -4,6 +4,7 @@ use Rattle.at_base.specs.declared.decision.Decision.{Decision}
 use Rattle.at_ledger.specs.Book.{BookTerms}
 use Rattle.at_history.specs.Fronts.{prefix_of}
 use Rattle.at_history.specs.Rounds.{rounds}
+use Rattle.at_history.specs.declared.publication.Publication.{Publication}
 use Rattle.at_board.specs.Knowledge.Parts.{own_part}
 use Rattle.at_board.specs.Knowledge.Seats.{IsKept, SeatTerms}
 use Rattle.at_board.specs.declared.knowledge.Knowledge.{Knowledge}
@@ -104,7 +105,7 @@ looked_then c =
     subst (λ (b : BookTerms). HasLooked b i.start.value.knows d.start i.was.value i.totals.value d.front) (book (goal.at.After-turn-decided c).After-self) (decides c).looked_at
 
 -- what the step leaves
-stepped : (c : After-turn-decided) (mark : SeatTerms) → mark ≡ c.turn-decided.new.seat → (totals : TotalSums)
+stepped : (c : After-turn-decided) (seen : List Publication) (mark : SeatTerms) → mark ≡ c.turn-decided.new.seat → (totals : TotalSums)
     → totals ≡ c.turn-decided.new.totals → (answer : Option HelpTurn)
     → IsWithinOneMore (help_steps c.args.board.now.book.processes
     (decides_made c.self.inside.helping.value.account c.self.inside.start.value.knows c.turn-decided.new.seat.knows))
@@ -122,19 +123,19 @@ stepped : (c : After-turn-decided) (mark : SeatTerms) → mark ≡ c.turn-decide
     c.turn-decided.new.totals (round_steps c.args.board.now.book.processes
     * decides_made c.self.inside.helping.value.account c.self.inside.start.value.knows c.turn-decided.new.seat.knows)
     (c.self.inside.looked + (round_steps c.turn-decided.new.self.start.book.processes - c.turn-decided.new.self.left)))
-    → TakesHelpStep c.args.board.now.book c.args.self.now
+    → TakesHelpStep c.args.board.now.book seen c.args.self.now
     (record (the_view c.self.inside) { stage = Decide c.turn-decided.new.self; mark = mark.knows; totals = totals }) c.args.seat.now
     c.turn-decided.new.seat c.turn-decided.new.totals answer
-stepped c mark mark_is totals totals_are answer counting counts_others more ends help waits seat counted leaves =
+stepped c seen mark mark_is totals totals_are answer counting counts_others more ends help waits seat counted leaves =
     let b : BookTerms = c.args.board.now.book in
     let t : TurningTerms = the_view c.self.inside in
     let e : DecidingTerms = c.turn-decided.new.self in
     let after : SeatTerms = c.turn-decided.new.seat in
     let now : TotalSums = c.turn-decided.new.totals in
     let told = c.turn-decided.ensures in
-    subst (λ (s : TurningTerms). TakesHelpStep b s (record t { stage = Decide e; mark = mark.knows; totals = totals }) c.args.seat.now after now answer)
+    subst (λ (s : TurningTerms). TakesHelpStep b seen s (record t { stage = Decide e; mark = mark.knows; totals = totals }) c.args.seat.now after now answer)
     c.self.view_is
-    (TakesHelpStep-decide b t c.self.invariant (book (goal.at.After-turn-decided c).After-self) c.args.seat.now after now mark.knows
+    (TakesHelpStep-decide b seen t c.self.invariant (book (goal.at.After-turn-decided c).After-self) c.args.seat.now after now mark.knows
     (ap (λ (m : SeatTerms). m.knows) mark_is) totals totals_are c.in-Decide.deciding e c.in-Decide.is (some c) (has_account_now c)
     (c.requires.mark ∙ sym (ap (λ (s : TurningTerms). s.mark) c.self.view_is)) told.after told.left told.step answer counting counts_others more ends
     help waits seat counted leaves)
@@ -144,7 +145,7 @@ left_on : (n : ℕ) → n ≢ 0 → 0 < n
 left_on n some = omega (arith, some)
 
 pub returns-in_err-decision-clause-stepped : goal.returns-in_err-decision-clause-stepped
-returns-in_err-decision-clause-stepped c =
+returns-in_err-decision-clause-stepped c = λ seen.
     let at = (goal.at.returns-in_err-decision-clause-stepped c).After-turn-decided in
     let start = (goal.at.After-turn-decided at).After-self in
     let b : BookTerms = c.args.board.now.book in
@@ -156,10 +157,10 @@ returns-in_err-decision-clause-stepped c =
     let told = c.turn-decided.ensures in
     let goes_on : 0 < e.left = left_on e.left (λ none. let wrong : false ≡ true = c.in_err-decision.ensures.ends.1 none in absurd (cc wrong)) in
     let same : now ≡ t.totals = told.waits goes_on ∙ (c.requires.totals ∙ sym (ap (λ (s : TurningTerms). s.totals) c.self.view_is)) in
-    subst (TakesHelpStep c.args.board.now.book c.args.self.now
+    subst (TakesHelpStep c.args.board.now.book seen c.args.self.now
     (record (the_view c.self.inside) { stage = Decide c.turn-decided.new.self; mark = c.of.result.value.knows; totals = c.of-2.result.value })
     c.args.seat.now c.turn-decided.new.seat c.turn-decided.new.totals) (sym c.from_residual.ensures)
-    (stepped at c.of.result.value c.of.ensures c.of-2.result.value c.of-2.ensures None
+    (stepped at seen c.of.result.value c.of.ensures c.of-2.result.value c.of-2.ensures None
     (counting-step b t d e w (book start) (decides at) (has_account_now at) (some at) told.after told.left told.step goes_on now same)
     (counts_others-step b t d e w (book start) (decides at) (has_account_now at) (some at) told.after told.left told.step goes_on now same)
     (published-step b t d e w (book start) (decides at) (has_account_now at) (some at) told.after told.left told.step goes_on) (
@@ -180,7 +181,7 @@ module _ (b : BookTerms) (v w x : Knowledge) (was now : TotalSums) (front : List
   waits_on round More other more = WaitsOn-other b v w was now front h has looked_at waiting x d next kept same other
 
 pub returns-clause-stepped : goal.returns-clause-stepped
-returns-clause-stepped c =
+returns-clause-stepped c = λ seen.
     let at = (goal.at.returns-clause-stepped c).After-turn-decided in
     let start = (goal.at.After-turn-decided at).After-self in
     let b : BookTerms = c.args.board.now.book in
@@ -209,7 +210,7 @@ returns-clause-stepped c =
     let seat_left = LeavesSeat-decided b t.start d.start t.was t.totals d.front t.helping has (looked_then at) waiting w decision next in
     let leaves = LeavesTotals-decided b t.start d.start t.was t.totals d.front t.helping has (looked_then at) waiting w decision next now t.looked turns known
     last.upto few (help_turns_in-le b t d e w (book start) (decides at) (has_account_now at) (some at) told.after told.left told.step) in
-    stepped at c.of.result.value c.of.ensures c.of-2.result.value c.of-2.ensures (Some answer) (omega (arith, leaves.few)) leaves.more seat_left.published
+    stepped at seen c.of.result.value c.of.ensures c.of-2.result.value c.of-2.ensures (Some answer) (omega (arith, leaves.few)) leaves.more seat_left.published
     (λ some. last.ends.0 refl, λ none. refl)
     (helps b t.start d.start w t.was t.totals d.front t.helping has (looked_then at) waiting decision next c.known-2.ensures.seat told.board.book
     c.round.result answer round after)

@@ -130,7 +130,7 @@ stepped : (c : After-turn-looked) (turns : ℕ) → turns ≡ c.turn-looked.new.
     → IfSome answer (λ h. LeavesTotals c.args.board.now.book c.self.inside.start.value.knows c.turn-looked.new.seat.knows c.self.inside.was.value
     c.turn-looked.new.totals (round_steps c.args.board.now.book.processes
     * decides_made c.self.inside.helping.value.account c.self.inside.start.value.knows c.turn-looked.new.seat.knows) turns)
-    → TakesHelpStep c.args.board.now.book c.args.self.now
+    → TakesHelpStep c.args.board.now.book c.args.overview.now.seen c.args.self.now
     (record (the_view c.self.inside) { stage = stage; looked = turns; mark = mark.knows; totals = totals }) c.args.seat.now c.turn-looked.new.seat
     c.turn-looked.new.totals answer
 stepped c turns turns_are mark mark_is totals totals_are stage answer same left ends help waits seat counted leaves =
@@ -139,9 +139,9 @@ stepped c turns turns_are mark mark_is totals totals_are stage answer same left 
     let after : SeatTerms = c.turn-looked.new.seat in
     let now : TotalSums = c.turn-looked.new.totals in
     let told = c.turn-looked.ensures in
-    subst (λ (s : TurningTerms). TakesHelpStep b s (record t { stage = stage; looked = turns; mark = mark.knows; totals = totals }) c.args.seat.now after now answer)
+    subst (λ (s : TurningTerms). TakesHelpStep b c.args.overview.now.seen s (record t { stage = stage; looked = turns; mark = mark.knows; totals = totals }) c.args.seat.now after now answer)
     c.self.view_is
-    (TakesHelpStep-look b t c.self.invariant (book (goal.at.After-turn-looked c).After-self) c.args.seat.now after now mark.knows
+    (TakesHelpStep-look b c.args.overview.now.seen t c.self.invariant (book (goal.at.After-turn-looked c).After-self) c.args.seat.now after now mark.knows
     (ap (λ (m : SeatTerms). m.knows) mark_is) totals totals_are c.in-Look.looking c.in-Look.is turns (turns_are ∙ told.turns) told.load told.loads
     (subst (IsWithin b.processes c.in-Look.looking.was (length after.knows.seen)) (sym turns_are) told.so_far)
     (omega (arith, told.counting, turns_are)) told.more stage answer same left ends help waits seat counted leaves)
@@ -150,7 +150,7 @@ pub returns-in_err-front-clause-stepped : goal.returns-in_err-front-clause-stepp
 returns-in_err-front-clause-stepped c =
     let at = (goal.at.returns-in_err-front-clause-stepped c).After-turn-looked in
     let next : TurnStage = Look c.turn-looked.new.self in
-    subst (TakesHelpStep c.args.board.now.book c.args.self.now
+    subst (TakesHelpStep c.args.board.now.book c.args.overview.now.seen c.args.self.now
     (record (the_view c.self.inside) { stage = next; looked = c.turns-self-inside.result; mark = c.of.result.value.knows; totals = c.of-2.result.value }) c.args.seat.now
     c.turn-looked.new.seat c.turn-looked.new.totals) (sym c.from_residual.ensures)
     (stepped at c.turns-self-inside.result c.turns-self-inside.ensures c.of.result.value c.of.ensures c.of-2.result.value c.of-2.ensures next None (sym c.turns-self-inside.ensures)
@@ -191,7 +191,7 @@ returns-in-Some-clause-stepped c =
     let help : IsHelpOf b t.start w h (Settled r) =
     IsHelpOf-found b t.start w t.was now front h (has_account start) (looked known) (waits start) c.in-Some.round c.in-Some.decision r
     c.known.ensures.seat.agrees (found by) (record { reply = c.answer_in.ensures.reply; at = c.answer_in.ensures.at }) in
-    subst (λ (k : TurnStage). TakesHelpStep b c.args.self.now
+    subst (λ (k : TurnStage). TakesHelpStep b c.args.overview.now.seen c.args.self.now
     (record t { stage = k; looked = c.turns-self-inside.result; mark = c.of.result.value.knows; totals = c.of-2.result.value }) c.args.seat.now c.turn-looked.new.seat
     now (Some (Settled r))) (sym c.become_next.ensures)
     (stepped at c.turns-self-inside.result c.turns-self-inside.ensures c.of.result.value c.of.ensures c.of-2.result.value c.of-2.ensures Found (Some (Settled r)) refl
@@ -283,7 +283,7 @@ returns-clause-stepped c =
     let begun = ap (λ (d : DecidingTerms). d.left) c.start-deciding.ensures in
     let most = ap (λ (d : DecidingTerms). round_steps d.start.book.processes) c.start-deciding.ensures in
     let same = ap (λ (k : BookTerms). round_steps k.processes) c.turn-looked.ensures.board.book in
-    subst (λ (k : TurnStage). TakesHelpStep b c.args.self.now
+    subst (λ (k : TurnStage). TakesHelpStep b c.args.overview.now.seen c.args.self.now
     (record (the_view c.self.inside) { stage = k; looked = c.turns-self-inside.result; mark = c.of.result.value.knows; totals = c.of-2.result.value })
     c.args.seat.now c.turn-looked.new.seat c.turn-looked.new.totals None) (sym c.become_next-2.ensures)
     (stepped at c.turns-self-inside.result c.turns-self-inside.ensures c.of.result.value c.of.ensures c.of-2.result.value c.of-2.ensures next None

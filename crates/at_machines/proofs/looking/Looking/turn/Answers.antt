@@ -145,7 +145,7 @@ before_catching c =
 
 pub returns-in-CatchUp-clause-load : goal.returns-in-CatchUp-clause-load
 returns-in-CatchUp-clause-load c =
-    subst (λ (s : LookStage). MakesLookLoad c.args.board.now.book s c.args.seat.now c.turn-caught.new.seat c.turn-caught.new.totals)
+    subst (λ (s : LookStage). MakesLookLoad c.args.board.now.book c.args.overview.now.seen s c.args.seat.now c.turn-caught.new.seat c.turn-caught.new.totals)
     (sym (catches (goal.at.returns-in-CatchUp-clause-load c).After-turn-caught)) (c.turn-caught.ensures.same, c.turn-caught.ensures.word)
 
 pub overflow_add-self-in-CatchUp : goal.overflow_add-self-in-CatchUp

@@ -45,12 +45,12 @@ returns-in_err-now-in-Collect-clause-turns c = λ start so.
     let here = before at start so in
     let left : collecting.loaded + 1 < start.book.processes =
     omega (arith, goes_on, here.stage_so.1, ap (λ (b : BookTerms). b.processes) same) in
-    subst (λ (answer : Option (List ℕ)). TurnsStage c.args.board.now.book start v w n c.args.self.now collects n (Collect c.turn.new.self) answer)
+    subst (λ (answer : Option (List ℕ)). TurnsStage c.args.board.now.book c.args.overview.now.seen start v w n c.args.self.now collects n (Collect c.turn.new.self) answer)
     (sym c.from_residual.ensures)
-    (subst (λ (stage : Stage). TurnsStage c.args.board.now.book start v w n stage collects n (Collect c.turn.new.self) None) (sym c.in-Collect.is)
-    (subst (λ (t : CollectingTerms). TurnsStage c.args.board.now.book start v w n (Collect collecting) collects n (Collect t) None) (sym after)
-    (subst (λ (b : BookTerms). TurnsStage b start v w n (Collect collecting) collects n (Collect (collecting_after collecting w.knows)) None) (sym same)
-    (TurnsStage-load start v w collects n collecting here (c.turn.ensures.board.book ∙ same) left (load at start so)))))
+    (subst (λ (stage : Stage). TurnsStage c.args.board.now.book c.args.overview.now.seen start v w n stage collects n (Collect c.turn.new.self) None) (sym c.in-Collect.is)
+    (subst (λ (t : CollectingTerms). TurnsStage c.args.board.now.book c.args.overview.now.seen start v w n (Collect collecting) collects n (Collect t) None) (sym after)
+    (subst (λ (b : BookTerms). TurnsStage b c.args.overview.now.seen start v w n (Collect collecting) collects n (Collect (collecting_after collecting w.knows)) None) (sym same)
+    (TurnsStage-load c.args.overview.now.seen start v w collects n collecting here (c.turn.ensures.board.book ∙ same) left (load at start so) c.turn.ensures.told))))
 
 pub judge-requires-clause-seen : goal.judge-requires-clause-seen
 judge-requires-clause-seen c = λ p inside.
@@ -76,9 +76,9 @@ returns-in_ok-now-in-Collect-clause-turns c = λ start so.
     let last : collecting.loaded + 1 ≡ start.book.processes =
     ap (λ (t : CollectingTerms). t.loaded) (sym c.in_ok-now-in-Collect.ensures.after)
     ∙ (c.in_ok-now-in-Collect.ensures.ends.0 refl ∙ ap (λ (b : BookTerms). b.processes) same) in
-    subst (λ (stage : Stage). TurnsStage c.args.board.now.book start v w n stage more (n + 1) next c.judge.result) (sym c.in-Collect.is)
-    (subst (λ (b : BookTerms). TurnsStage b start v w n (Collect collecting) more (n + 1) next c.judge.result) (sym same)
-    (TurnsStage-judge start v w collects more n collecting verdict next c.judge.result (before at start so) (c.turn.ensures.board.book ∙ same) last (load at start so)
+    subst (λ (stage : Stage). TurnsStage c.args.board.now.book c.args.overview.now.seen start v w n stage more (n + 1) next c.judge.result) (sym c.in-Collect.is)
+    (subst (λ (b : BookTerms). TurnsStage b c.args.overview.now.seen start v w n (Collect collecting) more (n + 1) next c.judge.result) (sym same)
+    (TurnsStage-judge c.args.overview.now.seen start v w collects more n collecting verdict next c.judge.result (before at start so) (c.turn.ensures.board.book ∙ same) last (load at start so) c.turn.ensures.told
     (subst (λ (b : BookTerms). IsCollect b collecting.start w.knows) same c.in_ok-now-in-Collect.ensures.collect)
     (subst (λ xs. IsVerdictOn collects w.knows.first xs verdict) counts is)
     (subst (λ xs. LeadsTo w.knows xs collects verdict more next c.judge.result) counts leads)))
