@@ -2,10 +2,11 @@
 use Rattle.std.proofs.Common.{◌≡◌, ℕ, ◌+◌, ◌≤◌, Bool, true, false, ◌⊎◌, inl, inr, ◌==◌, nat_le, nat_lt, List, [], ◌∷◌, length, drop, Option, Some, None, Result, Ok, Err, bytes_eq, codes, if◌then◌else◌, refl, sym, ◌∙◌, ap, subst, arith}
 use Rattle.std.proofs.lemmas.Bool.Decides.{nat_tests}
 use Rattle.std.proofs.lemmas.List.{length_push}
+use Rattle.at_ledger.specs.Book.{BookTerms, IsBook}
 use Rattle.at_ledger.specs.Draft.{limits_fault}
 use Rattle.at_ledger.specs.declared.draft.BookError.TheVariants.{NoProcess, TooManyAccounts, TooManyProcesses}
 use Rattle.at_ledger.specs.Limits.{most_accounts, most_processes}
-use Rattle.at_files.specs.Names.{AreNames, AreNamesOf, decimals_below}
+use Rattle.at_files.specs.Names.{AreNames, AreNamesOf, NameList, decimals_below}
 use Rattle.at_files.specs.Records.{Fields, field_of, number_at, has_shape}
 use Rattle.at_files.specs.BookRecords.{NamedBook, book_begun, book_with_rooms, counted_processes, limits_of, named_processes, process_count, processes_of, version_of, with_name, with_process, with_processes, with_account_record}
 use Rattle.at_files.specs.BookFile.{at_line, accounts_from, book_at_end}
@@ -112,6 +113,18 @@ limits_of-rooms version processes fields b h = by (has_shape (codes "limits") 3 
       request_is = g;
       book_is = sym (within_limits-ok (limits_fault (length processes) own request) (book_begun version processes own request) b is).1;
     }
+
+-- a book that has an account is ended as it is
+pub book_at_end-finished : (b : NamedBook) (book : BookTerms) (names : NameList) → book ≡ b.book → names ≡ b.names → IsBook book
+    → book_at_end b ≡ Ok (record { book = book; names = names })
+book_at_end-finished b book names same named checked =
+    let some : 1 ≤ length b.book.accounts = rw same at checked.some_account in
+    let test : (length b.book.accounts == 0) ≡ false = grind (arith, nat_tests) in
+    rw (same, named, test) refl
+
+-- and no account
+pub limits_of-empty : (version : ℕ) (processes : List (List ℕ)) (fields : Fields) (b : NamedBook) → limits_of version processes fields ≡ Ok b → b.book.accounts ≡ []
+limits_of-empty version processes fields b h = ap (λ (x : NamedBook). x.book.accounts) (limits_of-rooms version processes fields b h).book_is
 
 pub AreNamesOf-limits_of : (version : ℕ) (processes : List (List ℕ)) (fields : Fields) (b : NamedBook) → AreNames version processes → limits_of version processes fields ≡ Ok b
     → AreNamesOf b.book b.names

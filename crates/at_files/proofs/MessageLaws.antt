@@ -25,6 +25,12 @@ use Rattle.at_files.proofs.DeliveryLaws.{ok_where_both}
 use Rattle.at_files.proofs.FieldLaws.{both_tests, field_of-number_at, first-has_shape, length-has_shape, number_at-lt}
 use Rattle.at_files.proofs.SpelledLaws.{AreWritten, IsForm, items_of-map, read-accepts, read-written}
 
+-- a record of that shape is what its fields are read as
+pub message_spelled-read : (b : BookTerms) (fields : Fields) (from to amount : Option ℕ) (deps : Option (List ℕ)) → has_shape (codes "send") (b.processes + 4) fields ≡ true
+    → number_at fields 1 ≡ from → number_at fields 2 ≡ to → number_at fields 3 ≡ amount → numbers_of (drop 4 fields) ≡ deps
+    → message_spelled b fields ≡ message_read (length b.accounts) from to amount deps
+message_spelled-read b fields from to amount deps shape one two three four = rw (shape, one, two, three, four) refl
+
 four_first : (fields : Fields) → 4 ≤ length fields
     → fields ≡ field_of fields 0 ∷ field_of fields 1 ∷ field_of fields 2 ∷ field_of fields 3 ∷ drop 4 fields
 unfolding field_at

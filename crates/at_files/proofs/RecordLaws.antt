@@ -12,25 +12,49 @@ use Rattle.at_files.specs.Reading.{records_read_from, records_left, IsBetweenRec
 ends-step : (s : State) (c : ℕ) → is_end (step default_config s c).1 ≡ true → ends_at_end (step default_config s c).0 ≡ false
 ends-step s c h = grind arith
 
+-- what is read at a byte, which ends a record or doesn't: where nothing was left to be read, nothing came of it
+none-read : (q : Read) → ◌≡◌ {A = Option Read} None (Some q) → ⊥
+none-read q is = cc
+
+read-same : (r q : Read) → Some r ≡ Some q → r ≡ q
+read-same r q is = cc
+
+next-le : (ends : Bool) (ended : List (List ℕ)) (s : State) (xs : List ℕ) (more : Option Read) (q : Read) → (if ends then Some (ended, s, xs) else more) ≡ Some q
+    → (more ≡ Some q → length q.2 ≤ length xs) → length q.2 ≤ length xs
+next-le true ended s xs more q is later = rw (← read-same (ended, s, xs) q is) (omega arith)
+next-le false ended s xs more q is later = later is
+
+next-ends : (ends : Bool) (ended : List (List ℕ)) (s : State) (xs : List ℕ) (more : Option Read) (q : Read) → (if ends then Some (ended, s, xs) else more) ≡ Some q
+    → (ends ≡ true → ends_at_end s ≡ false) → (more ≡ Some q → ends_at_end q.1 ≡ false) → ends_at_end q.1 ≡ false
+next-ends true ended s xs more q is here later = rw (← read-same (ended, s, xs) q is) (here refl)
+next-ends false ended s xs more q is here later = later is
+
 -- a record that was read leaves no more bytes than there were
 rest-le : (s : State) (f : List (List ℕ)) (p xs : List ℕ) (q : Read) → next_record default_config s f p xs ≡ Some q → length q.2 ≤ length xs
 unfolding next_record
-rest-le s f p [] q h = grind arith
+rest-le s f p [] q h = next-le (ends_at_end s) _ _ [] None q h (λ none. absurd (none-read q none))
 rest-le s f p (c ∷ xs) q h =
-    grind (arith, rest-le (step default_config s c).0 (fields_after (step default_config s c).1 f p) (field_after (step default_config s c).1 c p) xs q)
+    let less : length q.2 ≤ length xs =
+    next-le (is_end (step default_config s c).1) _ _ xs _ q h
+    (rest-le (step default_config s c).0 (fields_after (step default_config s c).1 f p) (field_after (step default_config s c).1 c p) xs q) in
+    omega arith
 
 -- a read from between two records takes a byte, and ends between two records
 next-between : (s : State) (f : List (List ℕ)) (p xs : List ℕ) (q : Read) → next_record default_config s f p xs ≡ Some q → ends_at_end q.1 ≡ false
 unfolding next_record
-next-between s f p [] q h = grind arith
+next-between s f p [] q h = next-ends (ends_at_end s) _ _ [] None q h (λ is. refl) (λ none. absurd (none-read q none))
 next-between s f p (c ∷ xs) q h =
-    grind (arith, ends-step s c, next-between (step default_config s c).0 (fields_after (step default_config s c).1 f p) (field_after (step default_config s c).1 c p) xs q)
+    next-ends (is_end (step default_config s c).1) _ _ xs _ q h (ends-step s c)
+    (next-between (step default_config s c).0 (fields_after (step default_config s c).1 f p) (field_after (step default_config s c).1 c p) xs q)
 
 next-shrinks : (s : State) (xs : List ℕ) (q : Read) → ends_at_end s ≡ false → next_record default_config s [] [] xs ≡ Some q → length q.2 < length xs
 unfolding next_record
 next-shrinks s [] q h e = grind arith
 next-shrinks s (c ∷ xs) q h e =
-    grind (arith, rest-le (step default_config s c).0 (fields_after (step default_config s c).1 [] []) (field_after (step default_config s c).1 c []) xs q)
+    let less : length q.2 ≤ length xs =
+    next-le (is_end (step default_config s c).1) _ _ xs _ q e
+    (rest-le (step default_config s c).0 (fields_after (step default_config s c).1 [] []) (field_after (step default_config s c).1 c []) xs q) in
+    omega arith
 
 -- two ways to read on that agree after the next record give the same records
 records_next-same : (f g : State → List ℕ → List Fields) (o : Option Read) → ((q : Read) → o ≡ Some q → f q.1 q.2 ≡ g q.1 q.2) → records_next f o ≡ records_next g o

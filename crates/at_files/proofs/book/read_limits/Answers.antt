@@ -1,6 +1,6 @@
 use Rattle.std.proofs.Common.{sym, ◌∙◌, Err, ap, arith}
 use Rattle.std.proofs.lemmas.Grind.{common_steps}
-use Rattle.at_files.proofs.BookWalk.{AreNamesOf-limits_of}
+use Rattle.at_files.proofs.BookWalk.{AreNamesOf-limits_of, limits_of-empty}
 use Rattle.at_files.proofs.Faults.{Bad-same}
 use Rattle.at_files.proofs.book.read_limits.Goals as goal
 
@@ -19,3 +19,6 @@ returns-in-Ok-limits_of-clause-ok c = grind (arith, common_steps)
 
 pub returns-then-not-found-clause-bad : goal.returns-then-not-found-clause-bad
 returns-then-not-found-clause-bad c = grind (arith, common_steps)
+
+pub returns-in-Ok-limits_of-clause-empty : goal.returns-in-Ok-limits_of-clause-empty
+returns-in-Ok-limits_of-clause-empty c = limits_of-empty c.args.version c.args.processes _ c.in-Ok-limits_of.begun (sym c.limits_of.ensures ∙ c.in-Ok-limits_of.is)

@@ -27,3 +27,6 @@ returns-clause-bad c = λ b same.
 
 pub read_accounts-requires-clause-empty : goal.read_accounts-requires-clause-empty
 read_accounts-requires-clause-empty c = grind (arith, common_steps)
+
+pub read_limits-requires : goal.read_limits-requires
+read_limits-requires c = c.in-Ok-read_processes.ensures.names c.in-Ok.ensures.known

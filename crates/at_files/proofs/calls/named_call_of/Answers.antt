@@ -15,7 +15,14 @@ returns-then-has_shape c =
     ) refl
 
 pub returns-then-has_shape-2 : goal.returns-then-has_shape-2
-returns-then-has_shape-2 c = grind (arith, common_steps)
+returns-then-has_shape-2 c =
+    c.named_read.ensures
+    ∙ rw (
+      c.find-then-has_shape-2.ensures.position,
+      c.field_of-then-has_shape-2.ensures,
+      sym c.has_shape.ensures ∙ c.if-has_shape.false,
+      sym c.has_shape-else-has_shape.ensures ∙ c.if-has_shape-2.true,
+    ) refl
 
 pub returns-then-is_pay : goal.returns-then-is_pay
 returns-then-is_pay c = grind (arith, common_steps)
