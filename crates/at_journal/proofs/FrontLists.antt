@@ -1,33 +1,17 @@
 -- Lists of held fronts.
-use Rattle.std.proofs.Common.{◌≡◌, ℕ, ◌+◌, ◌<◌, ◌≤◌, List, [], ◌∷◌, ◌++◌, length, get_or, map, replicate, sum, take, ap, arith, inl, inr, subst, subst₂, append_assoc, ◌∙◌, refl, sym, zero, suc}
+use Rattle.std.proofs.Common.{◌≡◌, ℕ, ◌+◌, ◌<◌, ◌≤◌, List, [], ◌∷◌, ◌++◌, length, get_or, map, replicate, sum, take, ap, arith, inl, inr, subst, append-nil, append_assoc, ◌∙◌, refl, sym, zero, suc}
 use Rattle.std.specs.Prelude.{Option, Some, None}
 use Rattle.std.proofs.lemmas.Bool.{cases_eq, cases_lt}
 use Rattle.std.proofs.lemmas.Grind.{get_or-set_at}
 use Rattle.std.proofs.lemmas.Option.{none-some, same_Some}
 use Rattle.std.proofs.Math.ListN.{set}
-use Rattle.std.specs.List.{Contains, cons_option, filter_map, flat_map}
-use Rattle.std.proofs.lemmas.List.{get_or-replicate, get_or-set_other, get_or_past, length-replicate, length-set, map-append, take_more}
-use Rattle.std.proofs.lemmas.List.Elements.{Contains-append_cases, Contains-append_left, Contains-append_right, Contains-push, Contains-push_cases, filter_map-append}
+use Rattle.std.specs.List.{Contains, filter_map, flat_map}
+use Rattle.std.proofs.lemmas.List.{get_or-replicate, get_or-set_other, get_or_past, length-replicate, length-set, take_all, take_more}
+use Rattle.std.proofs.lemmas.List.Elements.{Contains-append_cases, Contains-append_left, Contains-append_right, Contains-push, Contains-push_cases}
 use Rattle.at_history.specs.Fronts.{place}
 use Rattle.at_log.specs.ClosingTerms.{ClosingTerms, log_lengths}
 use Rattle.at_log.specs.HeldFronts.{front_at}
-use Rattle.at_journal.specs.Held.{AreByPlace, AreHeld, ArePlaced, counts_in}
-use Rattle.at_journal.specs.declared.fronts.HeldFront.{HeldFront}
-
--- what is picked from one element more
-pub filter_map-take_more : {X Y : Type 0} (pick : X → Option Y) (xs : List X) (i : ℕ) (d : X) → i < length xs
-    → filter_map pick (take (i + 1) xs) ≡ filter_map pick (take i xs) ++ cons_option (pick (get_or xs i d)) []
-filter_map-take_more pick xs i d within =
-    ap (filter_map pick) (take_more xs i d within) ∙ filter_map-append pick (take i xs) (get_or xs i d ∷ [])
-
--- added to a list that has what was picked before
-pub pushed-filter_map : {X Y : Type 0} (pick : X → Option Y) (xs : List X) (i : ℕ) (d : X) (start old new : List Y) → i < length xs
-    → old ≡ start ++ filter_map pick (take i xs) → new ≡ old ++ cons_option (pick (get_or xs i d)) []
-    → new ≡ start ++ filter_map pick (take (i + 1) xs)
-pushed-filter_map pick xs i d start old new within before more =
-    more ∙ (ap (λ ys. ys ++ cons_option (pick (get_or xs i d)) []) before
-    ∙ (append_assoc start (filter_map pick (take i xs)) (cons_option (pick (get_or xs i d)) [])
-    ∙ ap (λ ys. start ++ ys) (sym (filter_map-take_more pick xs i d within))))
+use Rattle.at_journal.specs.Held.{AreAdded, AreByPlace, AreHeld}
 
 -- the views of all records
 abbrev pub record_views : ClosingTerms → List (List ℕ)
@@ -101,30 +85,31 @@ AreByPlace-beyond total views fronts view so beyond = record {
       ];
 }
 
--- the next of some fronts
-counts_in-next : (held : List HeldFront) (k : ℕ) (one : HeldFront) → k < length held → get_or held k one ≡ one
-    → counts_in (take (k + 1) held) ≡ counts_in (take k held) ++ one.counts.now ∷ []
-counts_in-next held k one within is =
-    ap counts_in (take_more held k one within)
-    ∙ (map-append (λ (f : HeldFront). f.counts.now) (take k held) (get_or held k one ∷ [])
-    ∙ ap (λ (f : HeldFront). counts_in (take k held) ++ f.counts.now ∷ []) is)
+-- a front is put at its place
+pub AreAdded-set : (fronts : List (Option (List ℕ))) (view : List ℕ) → place view < length fronts → AreAdded (view ∷ []) fronts (set fronts (place view) (Some view))
+AreAdded-set fronts view within total views so = AreByPlace-set total views fronts view so (omega (arith, within, so.sized))
 
-placed-next : (held : List HeldFront) (k : ℕ) (one : HeldFront) → ArePlaced held → k < length held → get_or held k one ≡ one → one.place ≡ place one.counts.now
-placed-next held k one placed within is = subst (λ (f : HeldFront). f.place ≡ place f.counts.now) is (placed k one within)
+-- or has no place
+pub AreAdded-beyond : (fronts : List (Option (List ℕ))) (view : List ℕ) → length fronts ≤ place view → AreAdded (view ∷ []) fronts fronts
+AreAdded-beyond fronts view beyond total views so = AreByPlace-beyond total views fronts view so (omega (arith, beyond, so.sized))
 
-pub AreByPlace-next_set : (total : ℕ) (held : List HeldFront) (k : ℕ) (one : HeldFront) (fronts : List (Option (List ℕ))) → ArePlaced held → k < length held
-    → get_or held k one ≡ one → AreByPlace total (counts_in (take k held)) fronts → one.place < total
-    → AreByPlace total (counts_in (take (k + 1) held)) (set fronts one.place (Some one.counts.now))
-AreByPlace-next_set total held k one fronts placed within is so inside =
-    let at = placed-next held k one placed within is in
-    subst₂ (AreByPlace total) (sym (counts_in-next held k one within is)) (ap (λ m. set fronts m (Some one.counts.now)) (sym at))
-    (AreByPlace-set total (counts_in (take k held)) fronts one.counts.now so (omega (arith, at, inside)))
+pub AreAdded-none : (fronts : List (Option (List ℕ))) → AreAdded [] fronts fronts
+AreAdded-none fronts total views so = subst (λ all. AreByPlace total all fronts) (sym (append-nil views)) so
 
-pub AreByPlace-next_beyond : (total : ℕ) (held : List HeldFront) (k : ℕ) (one : HeldFront) (fronts : List (Option (List ℕ))) → ArePlaced held → k < length held
-    → get_or held k one ≡ one → AreByPlace total (counts_in (take k held)) fronts → total ≤ one.place → AreByPlace total (counts_in (take (k + 1) held)) fronts
-AreByPlace-next_beyond total held k one fronts placed within is so beyond =
-    subst (λ views. AreByPlace total views fronts) (sym (counts_in-next held k one within is))
-    (AreByPlace-beyond total (counts_in (take k held)) fronts one.counts.now so (omega (arith, placed-next held k one placed within is, beyond)))
+-- the views of one element more
+pub AreAdded-more : {X : Type 0} (views_of : List X → List (List ℕ)) (xs : List X) (i : ℕ) (d : X) (start old new : List (Option (List ℕ)))
+    → ((ys zs : List X) → views_of (ys ++ zs) ≡ views_of ys ++ views_of zs) → i < length xs → AreAdded (views_of (take i xs)) start old
+    → AreAdded (views_of (get_or xs i d ∷ [])) old new → AreAdded (views_of (take (i + 1) xs)) start new
+AreAdded-more views_of xs i d start old new joined within before more total views so =
+    let next : views_of (take (i + 1) xs) ≡ views_of (take i xs) ++ views_of (get_or xs i d ∷ []) =
+    ap views_of (take_more xs i d within) ∙ joined (take i xs) (get_or xs i d ∷ []) in
+    subst (λ all. AreByPlace total all new)
+    (append_assoc views (views_of (take i xs)) (views_of (get_or xs i d ∷ [])) ∙ ap (λ all. views ++ all) (sym next))
+    (more total (views ++ views_of (take i xs)) (before total views so))
+
+pub AreAdded-all : {X : Type 0} (views_of : List X → List (List ℕ)) (xs : List X) (i : ℕ) (start old : List (Option (List ℕ))) → length xs ≤ i
+    → AreAdded (views_of (take i xs)) start old → AreAdded (views_of xs) start old
+AreAdded-all views_of xs i start old all so = subst (λ ys. AreAdded (views_of ys) start old) (take_all i xs all) so
 
 Contains-swapped : {X : Type 0} (xs ys : List X) (x : X) → Contains (xs ++ ys) x → Contains (ys ++ xs) x
 Contains-swapped xs ys x there =

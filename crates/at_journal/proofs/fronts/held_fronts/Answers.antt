@@ -1,16 +1,21 @@
-use Rattle.std.proofs.Common.{rules, ◌≡◌, ◌++◌, map, subst₂}
+use Rattle.std.proofs.Common.{◌≡◌, ◌++◌, ◌-◌, [], arith, map, refl, replicate, subst, take, ◌∙◌}
+use Rattle.std.proofs.Math.Seq.{take-nil}
+use Rattle.std.specs.Prelude.{None}
 use Rattle.std.specs.Option.{option_copied}
-use Rattle.std.proofs.lemmas.Result.{IfOk-weaker}
-use Rattle.at_journal.specs.Held.{AreByPlace, AreHeld, counts_in}
-use Rattle.at_journal.proofs.FrontLists.{AreHeld-by_place, receipt_fronts, record_views}
+use Rattle.at_journal.specs.Held.{AreByPlace}
+use Rattle.at_journal.proofs.FrontLists.{AreByPlace-nones, AreHeld-by_place, receipt_fronts, record_views}
 use Rattle.at_journal.proofs.fronts.held_fronts.Goals as goal
 
 pub returns : goal.returns
 returns c =
     let closing = c.args.closing.now in
-    let held = c.as_slice.result.now in
-    let are : counts_in held ≡ receipt_fronts closing ++ record_views closing = search rules in
-    IfOk-weaker c.by_place.result (λ fronts. AreByPlace c.args.total (counts_in held) (map option_copied fronts.items))
-    (λ fronts. AreHeld closing (map option_copied fronts.items))
-    (λ fronts so. AreHeld-by_place closing (map option_copied fronts.items)
-    (subst₂ (λ n views. AreByPlace n views (map option_copied fronts.items)) c.requires.total are so)) c.by_place.ensures
+    let total = c.args.total in
+    let table = map option_copied c.put_all_views.new.fronts.items in
+    let none_less : total - 0 ≡ total = omega arith in
+    let none : AreByPlace total [] (map option_copied c.resize.new.self.items) =
+    AreByPlace-nones option_copied total c.resize.new.self.items refl
+    (c.in_ok-resize.ensures.items ∙ (λ t. take total (c.new-fronts.ensures.items t) ++ replicate (total - c.new-fronts.ensures.len t) None)
+    ∙ (λ t. take-nil total t ++ replicate (none_less t) None)) in
+    AreHeld-by_place closing table
+    (subst (λ n. AreByPlace n (receipt_fronts closing ++ record_views closing) table) c.requires.total
+    (c.put_all_views.ensures total (receipt_fronts closing) (c.put_all_fronts.ensures total [] none)))
