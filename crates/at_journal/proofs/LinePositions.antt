@@ -1,9 +1,7 @@
 -- What the receipts of a coherent closing name is found in the positions, and the keys follow from them.
-use Rattle.std.proofs.Common.{◌≡◌, ℕ, ◌+◌, ◌<◌, ◌&&◌, suc, true, List, [], ◌∷◌, ◌++◌, length, get_or, take, refl, sym, ap, subst, append-nil, append_assoc, ◌∙◌, arith}
-use Rattle.std.proofs.Math.ListN.{drop}
-use Rattle.std.proofs.Math.Seq.{drop-cons}
+use Rattle.std.proofs.Common.{◌≡◌, ℕ, ◌<◌, ◌&&◌, true, List, [], length, get_or, take, refl, sym, ap, subst, ◌∙◌, arith}
 use Rattle.std.proofs.lemmas.Bool.{eq-eqb, ltb-true}
-use Rattle.std.proofs.lemmas.List.{drop_all, get_or_default, take_all}
+use Rattle.std.proofs.lemmas.List.{get_or_default, take_all}
 use Rattle.std.proofs.lemmas.List.Folds.{list_any_at}
 use Rattle.at_base.specs.declared.decision.Decision.{Decision}
 use Rattle.at_ledger.specs.Book.{BookTerms}
@@ -23,7 +21,7 @@ use Rattle.at_log.specs.Coherent.{Coherent}
 use Rattle.at_log.specs.JournalOrder.{journal_order}
 use Rattle.at_log.specs.Placed.{IsPlaced, read, not_owner, full, short, done, round}
 use Rattle.at_log.specs.Receipts.{is_success, receipt_at}
-use Rattle.at_log.specs.Told.{key_of, keys_from, round_position}
+use Rattle.at_log.specs.Told.{round_position}
 use Rattle.at_log.specs.declared.receipt.At.{At}
 use Rattle.at_log.specs.declared.receipt.Receipt.{Receipt}
 use Rattle.at_journal.proofs.KeepLaws.{no_receipt}
@@ -107,23 +105,6 @@ pub receipt_at-is : (c : ClosingTerms) (p i : ℕ) (receipts : List Receipt) (r 
     → r ≡ get_or receipts i r → receipt_at (receipts_of c p) i ≡ r
 receipt_at-is c p i receipts r are within is =
     get_or_default (receipts_of c p) i no_receipt r within ∙ (ap (λ rs. get_or rs i r) (sym are) ∙ sym is)
-
--- one key more, and those of the receipts that are left
-pub keys_from-more : (p : ℕ) (order : List Publication) (previous : ℕ) (receipts : List Receipt) (i : ℕ) (keys : List ℕ) → i < length receipts
-    → let key = key_of p order previous (receipt_at receipts i) in
-    (keys ++ key ∷ []) ++ keys_from p order key (drop (i + 1) receipts) ≡ keys ++ keys_from p order previous (drop i receipts)
-unfolding keys_from
-keys_from-more p order previous receipts i keys within =
-    let key = key_of p order previous (receipt_at receipts i) in
-    let next : suc i ≡ i + 1 = omega arith in
-    append_assoc keys (key ∷ []) (keys_from p order key (drop (i + 1) receipts))
-    ∙ ap (λ ks. keys ++ ks) (ap (λ j. key ∷ keys_from p order key (drop j receipts)) (sym next)
-    ∙ ap (keys_from p order previous) (sym (drop-cons receipts i no_receipt within)))
-
-pub keys_from-all : (p : ℕ) (order : List Publication) (previous : ℕ) (receipts : List Receipt) (keys : List ℕ)
-    → keys ++ keys_from p order previous (drop (length receipts) receipts) ≡ keys
-unfolding keys_from
-keys_from-all p order previous receipts keys = ap (λ rs. keys ++ keys_from p order previous rs) (drop_all (length receipts) receipts (omega arith)) ∙ append-nil keys
 
 -- what is looked up for a success is a position
 pub first_of_round-small : (p : ℕ) (list : List Publication) (own : List ℕ) (starts : List (List ℕ)) (r : Receipt) (number place account value : ℕ)

@@ -20,8 +20,8 @@ ghost use Rattle.at_journal.specs.Calls.{calls_in};
 ghost use Rattle.at_journal.specs.Linearizable.{AreTimed, CallTimes, IsLinearizable};
 
 use crate::fronts::held_fronts;
-use crate::keyed::in_order;
-use crate::lines::{line_keys, lines};
+use crate::keyed::put_in_order;
+use crate::lines::{keyed_calls, lines};
 use crate::order::{order_of, total_of};
 use crate::positions::round_positions;
 pub use at_base::NoMemory;
@@ -49,7 +49,7 @@ pub fn journal(alloc: Global, book: &Book, closing: &Closing) -> Result<Vec<Line
     let fronts = held_fronts(alloc, closing, total_of(closing))?;
     let order = order_of(alloc, closing, fronts.as_slice())?;
     let starts = round_positions(alloc, book, closing, order.as_slice())?;
-    let keys = line_keys(alloc, book, closing, order.as_slice(), starts.as_slice())?;
-    let calls = in_order(alloc, keys.as_slice())?;
+    let mut calls = keyed_calls(alloc, book, closing, order.as_slice(), starts.as_slice())?;
+    put_in_order(&mut calls)?;
     lines(alloc, closing, calls.as_slice())
 }

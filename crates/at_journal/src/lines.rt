@@ -1,13 +1,13 @@
-//! The lines of a journal and their keys.
+//! The calls of a closing with their keys, and as lines.
 
-ghost use Rattle.std.specs.Prelude.{◌≡◌, ℕ, ◌+◌, ◌*◌, ◌^◌, ◌<◌, ◌≤◌, [], length, map, slice_index, slice_index_or, All, IfOk};
-ghost use Rattle.std.specs.List.{range_with_len};
+ghost use Rattle.std.specs.Prelude.{◌≡◌, ℕ, ◌+◌, ◌*◌, ◌++◌, ◌^◌, ◌<◌, ◌≤◌, [], length, map, slice_index, slice_index_or, All, IfOk, OnOk};
 ghost use Rattle.at_log.specs.ClosingTerms.{receipts_of};
 ghost use Rattle.at_log.specs.Coherent.{Coherent};
 ghost use Rattle.at_log.specs.JournalOrder.{journal_order, line_of};
 ghost use Rattle.at_log.specs.Receipts.{is_success, receipt_at};
 ghost use Rattle.at_log.specs.Told.{key_of, keys_of};
 ghost use Rattle.at_journal.specs.Order.{AreRecords, published_in};
+ghost use Rattle.at_journal.specs.Ordered.{all_keyed, all_keys, keyed_of};
 ghost use Rattle.at_journal.specs.Positions.{AreReceipts, HasStarts, HasRoundPositions};
 
 use crate::NoMemory;
@@ -67,57 +67,67 @@ fn key_of(
     }
 }
 
-/// The keys of a process's calls. `own` has where its records stand, and `starts` where rounds begin.
-fn process_keys(
-    alloc: Global,
+/// Adds the calls of a process with their keys. `own` has where its records stand, and `starts` where rounds begin.
+fn push_calls(
+    all: &mut Vec<Keyed>,
     closing: &Closing,
     p: u32,
     own: &[u64],
     starts: &[Vec<u64>],
-) -> Result<Vec<u64>, NoMemory>
+) -> Result<(), NoMemory>
     requires known { p < length closing.now.receipts }
+    requires few { length (receipts_of closing.now p) < 2 ^ 32 }
     requires starts { (i : ℕ) → i < length (receipts_of closing.now p)
         → HasStarts p (journal_order closing.now) own.now (map (λ v. v.items) starts.now)
         (receipt_at (receipts_of closing.now p) i) }
     requires small { length (journal_order closing.now) ≤ 2 ^ 36 }
-    ensures { IfOk result (λ keys. keys.items ≡ keys_of p (journal_order closing.now)
-        (receipts_of closing.now p)) }
+    ensures { OnOk result (all.new.items ≡ all.old.items
+        ++ keyed_of p (keys_of p (journal_order closing.now) (receipts_of closing.now p))) }
 {
-    let count = closing.receipts(p).len();
-    let mut keys = Vec::with_capacity(alloc, count)?;
-    let mut previous = 0;
-    for i in 0..count {
-        previous = key_of(closing, p, i, own, starts, previous);
-        keys.push(previous)?;
+    let mut key = 0;
+    for number in 0..closing.receipts(p).len() as u32 {
+        key = key_of(closing, p, number as usize, own, starts, key);
+        all.push(Keyed {
+            key,
+            process: p,
+            number,
+        })?;
     }
-    Ok(keys)
+    Ok(())
 }
 
-/// The keys of all calls, process by process.
-pub(crate) fn line_keys(
+/// How many receipts all processes have together.
+fn count_receipts(closing: &Closing) -> usize {
+    let mut count = 0usize;
+    for p in 0..closing.processes() {
+        count = count.saturating_add(closing.receipts(p).len());
+    }
+    count
+}
+
+/// All calls with their keys, process by process.
+pub(crate) fn keyed_calls(
     alloc: Global,
     book: &Book,
     closing: &Closing,
     order: &[Numbered],
     starts: &[Vec<u64>],
-) -> Result<Vec<Vec<u64>>, NoMemory>
+) -> Result<Vec<Keyed>, NoMemory>
     requires coherent { Coherent book.now closing.now }
     requires order { published_in closing.now order.now ≡ journal_order closing.now }
     requires records { AreRecords closing.now order.now }
     requires starts { HasRoundPositions (length book.now.accounts) (journal_order closing.now)
         (journal_order closing.now) (map (λ v. v.items) starts.now) }
     requires small { length (journal_order closing.now) ≤ 2 ^ 36 }
-    ensures keys { IfOk result (λ keys. map (λ v. v.items) keys.items
-        ≡ map (λ p. keys_of p (journal_order closing.now) (receipts_of closing.now p))
-        (range_with_len 0 (length closing.now.receipts))) }
-    ensures few { IfOk result (λ keys. length keys.items < 2 ^ 32) }
+    requires few { All (λ receipts. length receipts < 2 ^ 32) closing.now.receipts }
+    ensures { IfOk result (λ all. all.items ≡ all_keyed (all_keys closing.now)) }
 {
-    let mut keys = Vec::new(alloc);
+    let mut all = Vec::with_capacity(alloc, count_receipts(closing))?;
     for p in 0..book.processes() {
         let own = own_positions(alloc, order, p)?;
-        keys.push(process_keys(alloc, closing, p, own.as_slice(), starts)?)?;
+        push_calls(&mut all, closing, p, own.as_slice(), starts)?;
     }
-    Ok(keys)
+    Ok(all)
 }
 
 /// A call of a process as a line.
@@ -128,10 +138,10 @@ fn line(closing: &Closing, one: &Keyed) -> Line
     ensures { result ≡ line_of one.now.process one.now.number
         (receipt_at (receipts_of closing.now one.now.process) one.now.number) }
 {
-    let receipt = &closing.receipts(one.process)[one.number];
+    let receipt = &closing.receipts(one.process)[one.number as usize];
     Line {
         process: one.process,
-        number: one.number as u32 + 1,
+        number: one.number + 1,
         call: receipt.call.copy(),
         reply: receipt.reply,
     }
