@@ -1,7 +1,9 @@
 -- The positions of the records of a process.
-use Rattle.std.proofs.Common.{◌≡◌, ℕ, ◌+◌, ◌<◌, ◌≤◌, ◌==◌, zero, suc, Bool, cond, List, [], ◌∷◌, ◌++◌, length, filter, get_or, take, sym, ap, subst, append-nil, ◌∙◌, arith, inl, inr}
+use Rattle.std.proofs.Common.{◌≡◌, ℕ, ◌+◌, ◌<◌, ◌≤◌, ◌==◌, zero, suc, Bool, cond, List, [], ◌∷◌, ◌++◌, length, filter, get_or, replicate, take, sym, ap, subst, append-nil, ◌∙◌, arith, inl, inr}
 use Rattle.std.proofs.lemmas.Bool.{cases_eq, cases_lt, eq-eqb, ne_eqb}
-use Rattle.std.proofs.lemmas.List.{get_or_append_left, get_or_push, length-map, length_push, take_all, take_more}
+use Rattle.std.proofs.lemmas.Grind.{get_or-set_at}
+use Rattle.std.proofs.Math.ListN.{set}
+use Rattle.std.proofs.lemmas.List.{get_or-replicate, get_or-set_other, get_or_append_left, get_or_push, length-map, length-replicate, length-set, length_push, take_all, take_more}
 use Rattle.std.proofs.lemmas.List.Elements.{filter-append}
 use Rattle.std.specs.List.{range_with_len}
 use Rattle.at_history.proofs.Laws.Counts.{count_of-push_other, count_of-take_more_own, position-below, publications_of-nil}
@@ -62,6 +64,32 @@ positions-other p order k other =
     positions-more p order k
     ∙ (ap (λ t. filter (λ m. (get_or order m no_number).process == p) (range_with_len 0 k) ++ cond t (k ∷ []) []) (ne_eqb (get_or order k no_number).process p other)
     ∙ append-nil (filter (λ m. (get_or order m no_number).process == p) (range_with_len 0 k)))
+
+-- those of each of so many processes below a limit
+pub record HasFound (processes : ℕ) (order : List Numbered) (k : ℕ) (lists : List (List ℕ)) : Type 0 where
+  pub sized : length lists ≡ processes
+  pub each : (p : ℕ) → p < processes → get_or lists p [] ≡ filter (λ m. (get_or order m no_number).process == p) (range_with_len 0 k)
+
+pub HasFound-none : (processes : ℕ) (order : List Numbered) → HasFound processes order 0 (replicate processes [])
+HasFound-none processes order =
+    let none : List ℕ = [] in
+    record { sized = length-replicate processes none; each = λ p known. get_or-replicate processes p none none known }
+
+-- a record more
+pub HasFound-more : (processes : ℕ) (order : List Numbered) (k p : ℕ) (lists : List (List ℕ)) → HasFound processes order k lists → p < processes
+    → (get_or order k no_number).process ≡ p → HasFound processes order (k + 1) (set lists p (get_or lists p [] ++ k ∷ []))
+HasFound-more processes order k p lists so known own =
+    let more = get_or lists p [] ++ k ∷ [] in
+    record {
+      sized = length-set lists p more ∙ so.sized;
+      each = λ q inside.
+          elim (cases_eq q p) as (λ _. get_or (set lists p more) q [] ≡ positions q order (k + 1)) [
+            | inl here ↦
+                get_or-set_at lists p q more [] here (omega (arith, known, so.sized))
+                ∙ (ap (λ xs. xs ++ k ∷ []) (so.each p known) ∙ (sym (positions-own p order k own) ∙ ap (λ r. positions r order (k + 1)) (sym here)))
+            | inr apart ↦ get_or-set_other lists p q more [] apart ∙ (so.each q inside ∙ sym (positions-other q order k (λ is. apart (sym is ∙ own))))
+          ];
+    }
 
 module _ (p : ℕ) (order : List Numbered) (list : List Publication) (same : (m : ℕ) → m < length order → (publication_at list m).process ≡ (get_or order m no_number).process)
     (sized : length list ≡ length order) where

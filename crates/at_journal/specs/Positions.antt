@@ -24,6 +24,11 @@ AreReceipts c all = All (λ x. x.process < length c.receipts × x.number < lengt
 abbrev pub positions_of : ℕ → List Numbered → List ℕ
 positions_of process all = filter (λ m. (slice_index_or all m no_number).process == process) (range_with_len 0 (length all))
 
+-- where those of each of so many processes stand
+pub record ArePositions (processes : ℕ) (all : List Numbered) (lists : List (List ℕ)) : Type 0 where
+  pub sized : length lists ≡ processes
+  pub each : (p : ℕ) → p < processes → slice_index_or lists p [] ≡ positions_of p all
+
 -- a round's record is of one of so many accounts
 abbrev pub IsOnAccount : ℕ → Entry → Type 0
 IsOnAccount accounts (Own from targets) = ⊤

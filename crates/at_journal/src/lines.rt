@@ -123,9 +123,9 @@ pub(crate) fn keyed_calls(
     ensures { IfOk result (λ all. all.items ≡ all_keyed (all_keys closing.now)) }
 {
     let mut all = Vec::with_capacity(alloc, count_receipts(closing))?;
+    let own = own_positions(alloc, closing.processes(), order)?;
     for p in 0..book.processes() {
-        let own = own_positions(alloc, order, p)?;
-        push_calls(&mut all, closing, p, own.as_slice(), starts)?;
+        push_calls(&mut all, closing, p, own[p as usize].as_slice(), starts)?;
     }
     Ok(all)
 }

@@ -16,7 +16,7 @@ use std::alloc::Global;
 #[derive(Drop)]
 pub(crate) struct Numbered {
     pub(crate) process: u32,
-    pub(crate) number: usize,
+    pub(crate) number: u32,
 }
 
 /// How many records a process has: its last one says how many stand before it.
@@ -49,17 +49,16 @@ pub(crate) fn total_of(closing: &Closing) -> u64
 }
 
 /// Adds the records of a process from one number up to another.
-fn push_records(
-    order: &mut Vec<Numbered>,
-    process: u32,
-    from: usize,
-    to: usize,
-) -> Result<(), NoMemory>
+fn push_records(order: &mut Vec<Numbered>, process: u32, from: u64, to: u64) -> Result<(), NoMemory>
+    requires { to ≤ 2 ^ 32 }
     ensures { OnOk result (order.new.items ≡ order.old.items
         ++ records_of_process process from to) }
 {
     for number in from..to {
-        order.push(Numbered { process, number })?;
+        order.push(Numbered {
+            process,
+            number: number as u32,
+        })?;
     }
     Ok(())
 }
@@ -71,20 +70,22 @@ fn push_next(order: &mut Vec<Numbered>, listed: &Counts, front: &Counts) -> Resu
         ++ records_between (length front.now) (slice_index listed.now) (slice_index front.now)) }
 {
     for p in 0..front.len() {
-        push_records(order, p, listed.get(p) as usize, front.get(p) as usize)?;
+        push_records(order, p, u64::from(listed.get(p)), u64::from(front.get(p)))?;
     }
     Ok(())
 }
 
 /// Adds the records that a front doesn't count.
 fn push_last(order: &mut Vec<Numbered>, listed: &Counts, closing: &Closing) -> Result<(), NoMemory>
-    requires { length listed.now ≡ length closing.now.logs }
+    requires listed { length listed.now ≡ length closing.now.logs }
+    requires within { AreWithin closing.now }
+    requires numbered { AreNumbered closing.now }
     ensures { OnOk result (order.new.items ≡ order.old.items
         ++ records_between (length closing.now.logs) (slice_index listed.now)
         (λ p. length (log_of closing.now p))) }
 {
     for p in 0..closing.processes() {
-        push_records(order, p, listed.get(p) as usize, closing.log(p).len())?;
+        push_records(order, p, u64::from(listed.get(p)), log_len(closing, p))?;
     }
     Ok(())
 }
@@ -97,6 +98,7 @@ pub(crate) fn order_of(
 ) -> Result<Vec<Numbered>, NoMemory>
     requires within { AreWithin closing.now }
     requires nested { AreNested closing.now }
+    requires numbered { AreNumbered closing.now }
     requires held { AreHeld closing.now (map option_copied fronts.now) }
     ensures order { IfOk result (λ order. published_in closing.now order.items
         ≡ journal_order closing.now) }

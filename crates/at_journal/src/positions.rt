@@ -1,34 +1,17 @@
 //! Where the records of a closing stand in the order of its publications.
 
-ghost use Rattle.std.specs.Prelude.{◌≡◌, [], length, map, replicate, OnOk, IfOk};
+ghost use Rattle.std.specs.Prelude.{◌≡◌, ◌<◌, [], length, map, replicate, All, OnOk, IfOk};
 ghost use Rattle.at_ledger.specs.Book.{IsBook};
 ghost use Rattle.at_log.specs.Coherent.{Coherent};
 ghost use Rattle.at_log.specs.JournalOrder.{journal_order};
 ghost use Rattle.at_journal.specs.Order.{AreRecords, published_in};
-ghost use Rattle.at_journal.specs.Positions.{HasRoundPositions, IsOnAccount, positions_of, with_position};
+ghost use Rattle.at_journal.specs.Positions.{ArePositions, HasRoundPositions, IsOnAccount, with_position};
 
 use crate::NoMemory;
 use crate::order::Numbered;
 use at_ledger::Book;
 use at_log::{Closing, Entry};
 use std::alloc::Global;
-
-/// Where the records of a process stand in the order.
-pub(crate) fn own_positions(
-    alloc: Global,
-    order: &[Numbered],
-    process: u32,
-) -> Result<Vec<u64>, NoMemory>
-    ensures { IfOk result (λ positions. positions.items ≡ positions_of process order.now) }
-{
-    let mut positions = Vec::new(alloc);
-    for (position, one) in order.iter().enumerate() {
-        if one.process == process {
-            positions.push(position as u64)?;
-        }
-    }
-    Ok(positions)
-}
 
 /// Notes where a record stands, if it is the first of the next round of its account.
 fn note_position(starts: &mut Vec<Vec<u64>>, entry: &Entry, position: u64) -> Result<(), NoMemory>
@@ -59,6 +42,23 @@ fn empty_lists(alloc: Global, count: u32) -> Result<Vec<Vec<u64>>, NoMemory>
     Ok(lists)
 }
 
+/// Where the records of each process stand in the order.
+pub(crate) fn own_positions(
+    alloc: Global,
+    processes: u32,
+    order: &[Numbered],
+) -> Result<Vec<Vec<u64>>, NoMemory>
+    requires { All (λ x. x.process < processes) order.now }
+    ensures { IfOk result (λ lists. ArePositions processes order.now
+        (map (λ v. v.items) lists.items)) }
+{
+    let mut lists = empty_lists(alloc, processes)?;
+    for (position, one) in order.iter().enumerate() {
+        lists[one.process as usize].push(position as u64)?;
+    }
+    Ok(lists)
+}
+
 /// Where the first record of each round stands in the order, account by account.
 pub(crate) fn round_positions(
     alloc: Global,
@@ -75,7 +75,7 @@ pub(crate) fn round_positions(
 {
     let mut starts = empty_lists(alloc, book.accounts())?;
     for (position, one) in order.iter().enumerate() {
-        let record = &closing.log(one.process)[one.number];
+        let record = &closing.log(one.process)[one.number as usize];
         note_position(&mut starts, &record.entry, position as u64)?;
     }
     Ok(starts)

@@ -1,4 +1,5 @@
 use Rattle.std.proofs.Common.{◌≡◌, ◌<◌, ◌++◌, [], ap, arith, get_or, length, map, subst, sym, ◌∙◌}
+use Rattle.std.proofs.lemmas.List.{get_or-map, length-map}
 use Rattle.std.specs.List.{flat_map, range_with_len}
 use Rattle.at_log.specs.JournalOrder.{journal_order}
 use Rattle.at_journal.specs.Ordered.{all_keys, keyed_of}
@@ -13,12 +14,24 @@ pub push_calls-requires-clause-few : goal.push_calls-requires-clause-few
 push_calls-requires-clause-few c =
     c.requires.few c.loop-p.p [] (omega (arith, c.requires.coherent.receipts))
 
+pub own_positions-requires : goal.own_positions-requires
+own_positions-requires c = λ i d within. omega (arith, (c.requires.records i d within).0, c.processes.ensures.logs)
+
+pub index-requires : goal.index-requires
+index-requires c =
+    omega (arith, c.in_ok-own.ensures.sized, length-map c.in_ok-own.own.items (λ v. v.items), c.processes.ensures.receipts, c.processes-p-end.ensures, c.requires.coherent.receipts)
+
 pub push_calls-requires-clause-starts : goal.push_calls-requires-clause-starts
 push_calls-requires-clause-starts c =
     let closing = c.args.closing.now in
     let p = c.loop-p.p in
+    let lists = map (λ v. v.items) c.in_ok-own.own.items in
+    let known : p < c.processes.result = omega (arith, c.processes.ensures.receipts, c.processes-p-end.ensures, c.requires.coherent.receipts) in
+    let row : get_or lists p [] ≡ c.as_slice.result.now =
+    get_or-map (λ v. v.items) c.in_ok-own.own.items p c.index.result.now [] (omega (arith, known, c.in_ok-own.ensures.sized, length-map c.in_ok-own.own.items (λ v. v.items)))
+    ∙ (sym (ap (λ v. v.items) c.index.ensures) ∙ sym c.as_slice.ensures.value) in
     let own : HasOwnPositions p (journal_order closing) c.as_slice.result.now =
-    subst (HasOwnPositions p (journal_order closing)) (sym (c.as_slice.ensures.value ∙ c.in_ok-own.ensures))
+    subst (HasOwnPositions p (journal_order closing)) (sym (c.in_ok-own.ensures.each p known) ∙ row)
     (HasOwnPositions-positions_of p closing c.args.order.now (journal_order closing) c.requires.order c.requires.records) in
     λ i within.
     HasStarts-receipt c.args.book.now closing p c.as_slice.result.now (map (λ v. v.items) c.args.starts.now) c.requires.coherent own c.requires.starts i

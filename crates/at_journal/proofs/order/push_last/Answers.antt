@@ -11,7 +11,7 @@ loop-p-preserved c =
     let p = c.loop-p.p in
     let old = c.loop-p.order.items in
     c.in_ok-push_records.ensures
-    ∙ ((λ t. old ++ records_of_process p (c.get.ensures t) (length (c.log.ensures t)))
+    ∙ ((λ t. old ++ records_of_process p ((c.from.ensures ∙ c.get.ensures) t) (c.log_len.ensures.length t))
     ∙ pushed-flat_range (λ q. records_of_process q (get_or c.args.listed.now q 0) (length (log_of closing q))) c.args.order.now.items old p c.loop-p.invariant)
 
 pub returns : goal.returns

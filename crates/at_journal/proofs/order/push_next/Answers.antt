@@ -9,7 +9,7 @@ loop-p-preserved c =
     let p = c.loop-p.p in
     let old = c.loop-p.order.items in
     c.in_ok-push_records.ensures
-    ∙ ((λ t. old ++ records_of_process p (c.get.ensures t) (c.get-in-loop-p.ensures t))
+    ∙ ((λ t. old ++ records_of_process p ((c.from.ensures ∙ c.get.ensures) t) ((c.from-in-loop-p.ensures ∙ c.get-in-loop-p.ensures) t))
     ∙ pushed-flat_range (λ q. records_of_process q (get_or c.args.listed.now q 0) (get_or c.args.front.now q 0)) c.args.order.now.items old p c.loop-p.invariant)
 
 pub returns : goal.returns
