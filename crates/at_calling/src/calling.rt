@@ -108,8 +108,8 @@ impl Calling {
         ensures rest { self.new.rest ≡ rest.new }
         ensures turns { steps_made self.new.stage
             ≡ steps_made self.old.stage + steps_of self.old.stage }
-        ensures step { MakesCallStep board.now.book overview.old.seen self.old.stage seat.old seat.new
-            rest.new.totals }
+        ensures step { MakesCallStep board.now.book overview.old.seen self.old.stage seat.old
+            seat.new rest.new.totals }
         ensures left { call_turns_left board.now.book self.new.stage
             < call_turns_left board.now.book self.old.stage }
         ensures so_far { IsCallWithin board.now.book (pass_before self.old) self.old.call
@@ -184,8 +184,8 @@ impl Calling {
         requires rest { rest.old ≡ self.old.rest }
         requires stage { (r : ReadingTerms) × (self.old.stage ≡ CallStage.Read r) }
         requires left { 0 < call_turns_left board.now.book self.old.stage }
-        ensures turned { TakesCallTurn board.now.book overview.old.seen self.old self.new seat.old seat.new rest.new
-            result }
+        ensures turned { TakesCallTurn board.now.book overview.old.seen self.old self.new
+            seat.old seat.new rest.new result }
         ensures board { IsOf seat.new board.now }
         ensures steps { seat.new.steps ≡ raised seat.old.steps 1 }
         ensures exchanges { seat.new.exchanges ≡ seat.old.exchanges }
@@ -218,8 +218,8 @@ impl Calling {
         requires rest { rest.old ≡ self.old.rest }
         requires stage { (p : PayingAloneTerms) × (self.old.stage ≡ CallStage.PayAlone p) }
         requires left { 0 < call_turns_left board.now.book self.old.stage }
-        ensures turned { TakesCallTurn board.now.book overview.old.seen self.old self.new seat.old seat.new rest.new
-            result }
+        ensures turned { TakesCallTurn board.now.book overview.old.seen self.old self.new
+            seat.old seat.new rest.new result }
         ensures board { IsOf seat.new board.now }
         ensures steps { seat.new.steps ≡ raised seat.old.steps 1 }
         ensures exchanges { seat.new.exchanges ≡ seat.old.exchanges }
@@ -253,8 +253,8 @@ impl Calling {
         requires rest { rest.old ≡ self.old.rest }
         requires stage { (p : PayingSharedTerms) × (self.old.stage ≡ CallStage.PayShared p) }
         requires left { 0 < call_turns_left board.now.book self.old.stage }
-        ensures turned { TakesCallTurn board.now.book overview.old.seen self.old self.new seat.old seat.new rest.new
-            result }
+        ensures turned { TakesCallTurn board.now.book overview.old.seen self.old self.new
+            seat.old seat.new rest.new result }
         ensures board { IsOf seat.new board.now }
         ensures steps { seat.new.steps ≡ raised seat.old.steps 1 }
         ensures exchanges { seat.new.exchanges

@@ -119,7 +119,8 @@ impl PayingAlone {
         ensures was { self.new.was ≡ self.old.was }
         ensures totals { self.new.totals ≡ totals.new }
         ensures turns { turns_made self.new ≡ turns_made self.old + 1 }
-        ensures step { MakesPayStep board.now.book overview.old.seen self.old.stage seat.old seat.new totals.new }
+        ensures step { MakesPayStep board.now.book overview.old.seen self.old.stage seat.old
+            seat.new totals.new }
         ensures left { pay_turns_left (record_width board.now.book) self.new.stage
             < pay_turns_left (record_width board.now.book) self.old.stage }
         ensures ends { IsSome result ↔ (pay_turns_left (record_width board.now.book) self.new.stage
@@ -164,8 +165,8 @@ impl PayingAlone {
         requires mark { seat.old.knows ≡ self.old.mark }
         requires totals { totals.old ≡ self.old.totals }
         requires looks { (l : LookingTerms) × (self.old.stage ≡ PayStage.Look l) }
-        ensures turned { TakesPayTurn board.now.book overview.old.seen self.old self.new seat.old seat.new totals.new
-            result }
+        ensures turned { TakesPayTurn board.now.book overview.old.seen self.old self.new
+            seat.old seat.new totals.new result }
         ensures board { IsOf seat.new board.now }
         ensures steps { seat.new.steps ≡ raised seat.old.steps 1 }
         ensures exchanges { seat.new.exchanges ≡ seat.old.exchanges }

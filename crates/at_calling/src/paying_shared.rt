@@ -125,7 +125,8 @@ impl PayingShared {
         ensures was { self.new.was ≡ self.old.was }
         ensures totals { self.new.totals ≡ totals.new }
         ensures turns { self.new.turns ≡ self.old.turns + 1 }
-        ensures step { MakesShareStep board.now.book overview.old.seen self.old.stage seat.old seat.new totals.new }
+        ensures step { MakesShareStep board.now.book overview.old.seen self.old.stage seat.old
+            seat.new totals.new }
         ensures left { share_turns_left board.now.book self.new
             < share_turns_left board.now.book self.old }
         ensures so_far { IsShareWithin board.now.book self.new
@@ -182,8 +183,8 @@ impl PayingShared {
         requires totals { totals.old ≡ self.old.totals }
         requires starts { (s : StartingTerms) × (self.old.stage ≡ ShareStage.Start s) }
         requires left { 0 < share_turns_left board.now.book self.old }
-        ensures turned { TakesShareTurn board.now.book overview.old.seen self.old self.new seat.old seat.new
-            totals.new result }
+        ensures turned { TakesShareTurn board.now.book overview.old.seen self.old self.new
+            seat.old seat.new totals.new result }
         ensures board { IsOf seat.new board.now }
         ensures steps { seat.new.steps ≡ raised seat.old.steps 1 }
         ensures exchanges { seat.new.exchanges ≡ seat.old.exchanges }
@@ -219,8 +220,8 @@ impl PayingShared {
         requires helps { (h : HelpingTerms) × (u : TurningTerms)
             × (self.old.stage ≡ ShareStage.Help h u) }
         requires left { 0 < share_turns_left board.now.book self.old }
-        ensures turned { TakesShareTurn board.now.book overview.old.seen self.old self.new seat.old seat.new
-            totals.new result }
+        ensures turned { TakesShareTurn board.now.book overview.old.seen self.old self.new
+            seat.old seat.new totals.new result }
         ensures board { IsOf seat.new board.now }
         ensures steps { seat.new.steps ≡ raised seat.old.steps 1 }
         ensures exchanges { seat.new.exchanges

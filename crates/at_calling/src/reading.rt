@@ -74,8 +74,8 @@ impl Reading {
         ensures was { self.new.looking.was ≡ self.old.looking.was }
         ensures totals { self.new.looking.totals ≡ totals.new }
         ensures turns { self.new.looking.turns ≡ self.old.looking.turns + 1 }
-        ensures load { MakesLookLoad board.now.book overview.old.seen self.old.looking.stage seat.old seat.new
-            totals.new }
+        ensures load { MakesLookLoad board.now.book overview.old.seen self.old.looking.stage
+            seat.old seat.new totals.new }
         ensures loads { HasLoaded board.now.book self.old.looking.start seat.new.knows }
         ensures counted { StaysCounted totals.new board.now.book seat.new.knows.seen }
         ensures left { look_turns_left self.new.looking.stage

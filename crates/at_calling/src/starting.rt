@@ -119,7 +119,8 @@ impl Starting {
         ensures was { self.new.was ≡ self.old.was }
         ensures totals { self.new.totals ≡ totals.new }
         ensures turns { start_turns_made self.new ≡ start_turns_made self.old + 1 }
-        ensures step { MakesStartStep board.now.book overview.old.seen self.old.stage seat.old seat.new totals.new }
+        ensures step { MakesStartStep board.now.book overview.old.seen self.old.stage seat.old
+            seat.new totals.new }
         ensures counted { StaysCounted totals.new board.now.book seat.new.knows.seen }
         ensures left { start_turns_left board.now.book self.new
             < start_turns_left board.now.book self.old }
@@ -162,8 +163,8 @@ impl Starting {
         requires mark { seat.old.knows ≡ self.old.mark }
         requires totals { totals.old ≡ self.old.totals }
         requires looks { (l : LookingTerms) × (self.old.stage ≡ StartStage.Look l) }
-        ensures turned { TakesStartTurn board.now.book overview.old.seen self.old self.new seat.old seat.new
-            totals.new result }
+        ensures turned { TakesStartTurn board.now.book overview.old.seen self.old self.new
+            seat.old seat.new totals.new result }
         ensures board { IsOf seat.new board.now }
         ensures steps { seat.new.steps ≡ raised seat.old.steps 1 }
         ensures exchanges { seat.new.exchanges ≡ seat.old.exchanges }

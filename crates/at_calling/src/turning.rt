@@ -104,8 +104,8 @@ impl Turning {
         ensures was { self.new.was ≡ self.old.was }
         ensures totals { self.new.totals ≡ totals.new }
         ensures turns { help_turns_made self.new ≡ help_turns_made self.old + 1 }
-        ensures step { MakesTurnStep board.now.book overview.old.seen self.old.stage self.new.stage seat.old
-            seat.new totals.new }
+        ensures step { MakesTurnStep board.now.book overview.old.seen self.old.stage
+            self.new.stage seat.old seat.new totals.new }
         ensures left { help_turns_left board.now.book.processes self.new.stage
             < help_turns_left board.now.book.processes self.old.stage }
         ensures ends { IsSome result
@@ -174,8 +174,8 @@ impl Turning {
         requires totals { totals.old ≡ self.old.totals }
         requires helping { helping.now ≡ self.old.helping }
         requires looks { (l : LookingTerms) × (self.old.stage ≡ TurnStage.Look l) }
-        ensures stepped { TakesHelpStep board.now.book overview.old.seen self.old self.new seat.old seat.new
-            totals.new result }
+        ensures stepped { TakesHelpStep board.now.book overview.old.seen self.old self.new
+            seat.old seat.new totals.new result }
         ensures board { IsOf seat.new board.now }
         ensures steps { seat.new.steps ≡ raised seat.old.steps 1 }
         ensures exchanges { seat.new.exchanges ≡ seat.old.exchanges }

@@ -104,7 +104,8 @@ impl Looking {
         ensures was { self.new.was ≡ self.old.was }
         ensures totals { self.new.totals ≡ totals.new }
         ensures turns { self.new.turns ≡ self.old.turns + 1 }
-        ensures load { MakesLookLoad board.now.book overview.old.seen self.old.stage seat.old seat.new totals.new }
+        ensures load { MakesLookLoad board.now.book overview.old.seen self.old.stage seat.old
+            seat.new totals.new }
         ensures loads { HasLoaded board.now.book self.old.start seat.new.knows }
         ensures counted { StaysCounted totals.new board.now.book seat.new.knows.seen }
         ensures left { look_turns_left self.new.stage < look_turns_left self.old.stage }

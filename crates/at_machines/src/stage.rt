@@ -46,7 +46,8 @@ impl Stage {
         requires left { 0 < left_of board.now.book.processes collected.old self.old }
         ensures turns { (start : Knowledge)
             → IsSnappingSo start seat.old.knows collects.old collected.old self.old
-            → TurnsStage board.now.book overview.old.seen start seat.old seat.new collected.old self.old
+            → TurnsStage board.now.book overview.old.seen start seat.old seat.new collected.old
+            self.old
             collects.new collected.new self.new result }
         ensures board { IsOf seat.new board.now }
         ensures steps { seat.new.steps ≡ raised seat.old.steps 1 }
