@@ -1,4 +1,4 @@
--- What the receipts of a coherent closing name is found in the positions, and the keys follow from them.
+-- What the receipts of a coherent closing name is found in the positions.
 use Rattle.std.proofs.Common.{◌≡◌, ℕ, ◌<◌, ◌&&◌, true, List, [], length, get_or, take, refl, sym, ap, subst, ◌∙◌, arith}
 use Rattle.std.proofs.lemmas.Bool.{eq-eqb, ltb-true}
 use Rattle.std.proofs.lemmas.List.{get_or_default, take_all}
