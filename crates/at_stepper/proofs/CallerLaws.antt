@@ -1,6 +1,6 @@
 -- A caller whose call goes on, or is answered.
-use Rattle.std.specs.Prelude.{IfSome, IsSome, ◌↔◌}
-use Rattle.std.proofs.Common.{◌≡◌, ℕ, zero, suc, ◌+◌, ◌-◌, ◌*◌, ◌<◌, ◌≤◌, ◌⊎◌, Bool, true, false, cond, List, [], ◌∷◌, ◌++◌, drop, length, get_or, take, None, Option, Some, refl, sym, ap, subst, ◌∙◌, arith, inl, inr, length-append}
+use Rattle.std.specs.Prelude.{IfSome, IsSome, is_some, ◌↔◌}
+use Rattle.std.proofs.Common.{◌≡◌, ℕ, zero, suc, ◌+◌, ◌<◌, ◌⊎◌, Bool, true, false, cond, List, [], ◌∷◌, ◌++◌, drop, length, get_or, take, None, Option, Some, refl, sym, ap, subst, ◌∙◌, arith, inl, inr, length-append}
 use Rattle.std.proofs.lemmas.Bool.{cases_Bool}
 use Rattle.std.proofs.lemmas.List.{map-append, take_more}
 use Rattle.std.proofs.lemmas.List.Sums.{sum_by-drop_more}
@@ -10,19 +10,24 @@ use Rattle.at_ledger.specs.declared.call.Call.{Call}
 use Rattle.at_ledger.specs.declared.call.Call.TheVariants.{Pay, Read, Transfer}
 use Rattle.at_ledger.specs.declared.call.Reply.{Reply}
 use Rattle.at_ledger.specs.declared.call.Reply.TheVariants.{Balance, Done, Full, NotOwner, Short}
+use Rattle.at_board.specs.Knowledge.Parts.{own_part}
+use Rattle.at_board.specs.Knowledge.Overviews.{LearnsOverview}
 use Rattle.at_board.specs.Knowledge.Seats.{IsKept, SeatTerms}
+use Rattle.at_board.specs.declared.knowledge.Knowledge.{Knowledge}
 use Rattle.at_log.specs.Receipts.{calls_of}
 use Rattle.at_log.specs.declared.receipt.Receipt.{Receipt}
 use Rattle.at_object.specs.Parted.{IsOfOnePass, pass_of}
 use Rattle.at_object.specs.CallCounts.{CallCountTerms, with_one_call}
-use Rattle.at_object.specs.Passes.{PassTerms, Stands, asked_by, seat_of, sent_by}
+use Rattle.at_object.specs.Passes.{PassTerms, Stands, sent_by}
 use Rattle.at_object.specs.Payments.{IsRefused, has_used_up}
 use Rattle.at_object.specs.declared.parts.Rest.{Rest}
 use Rattle.at_object.proofs.Laws.Calls.{process-CallMade}
-use Rattle.at_stepper.specs.Callers.{CallerTerms, HasLearned, IsAnswered, IsFile, IsStillCalling, caller_turns_left, calls_left_of, is_refused, most_turns, next_call, steps_in}
-use Rattle.at_calling.specs.Calling.{CallingTerms, IsCallWithin, IsWay, MakesCallStep, call_turns_left, exchanges_made, exchanges_of, pass_before, refusal_in, steps_made, steps_of}
+use Rattle.at_stepper.specs.Callers.{CallerTerms, HasLearned, IsAnswered, IsFile, IsStillCalling, caller_turns_left, calls_left_of, is_refused, most_turns, next_call, own_seen, steps_in}
+use Rattle.at_calling.specs.Calling.{CallingTerms, IsCallWithin, IsWay, MakesCallStep, StartsFrom, call_turns_left, exchanges_made, exchanges_of, pass_before, publishes_of, refusal_in, steps_made, steps_of}
 use Rattle.at_object.specs.Calls.{CallMade, StaysWithin}
 use Rattle.at_history.specs.Publications.{IsPrefix}
+use Rattle.at_history.specs.declared.publication.Publication.{Publication}
+use Rattle.at_stepper.proofs.PublishedLaws.{longer-IsPrefix}
 use Rattle.at_stepper.proofs.LookLaws.{look-CallMade}
 use Rattle.at_history.proofs.Laws.Prefixes.{IsPrefix-refl}
 use Rattle.at_stepper.specs.KeptCallers.{IsCallerOf, IsNextInMaking, StartsNext, TakesTurn, caller_of, stage_in}
@@ -101,42 +106,58 @@ none_answered None some unanswered = absurd (cc some)
 none_answered (Some r) some unanswered = unanswered r refl
 
 -- what a turn makes of a caller as it was, it makes of the caller
-pub TakesTurn-caller : (b : BookTerms) (was now after : CallerTerms) (turned : Turned) (stage : CallStage) → was ≡ now → was.stage ≡ Some stage
-    → TakesTurn b was after turned stage → IfSome now.stage (TakesTurn b now after turned)
-TakesTurn-caller b was now after turned stage same is takes =
-    subst (λ (c : CallerTerms). IfSome c.stage (TakesTurn b c after turned)) same
-    (subst (λ (o : Option CallStage). IfSome o (TakesTurn b was after turned)) (sym is) takes)
+pub TakesTurn-caller : (b : BookTerms) (published : List Publication) (was now after : CallerTerms) (turned : Turned) (stage : CallStage) → was ≡ now
+    → was.stage ≡ Some stage → TakesTurn b published was after turned stage → IfSome now.stage (TakesTurn b published now after turned)
+TakesTurn-caller b published was now after turned stage same is takes =
+    subst (λ (c : CallerTerms). IfSome c.stage (TakesTurn b published c after turned)) same
+    (subst (λ (o : Option CallStage). IfSome o (TakesTurn b published was after turned)) (sym is) takes)
 
 -- a call goes on where it isn't answered
 pub left-going_on : (answer : Option Receipt) (left : ℕ) → IsSome answer ↔ (left ≡ 0) → ((r : Receipt) → answer ≡ Some r → ⊥) → 0 < left
 left-going_on answer zero ends unanswered = absurd (none_answered answer (ends.1 refl) unanswered)
 left-going_on answer (suc left) ends unanswered = omega arith
 
+-- what a seat has published it has seen
+pub own_seen-published : (b : BookTerms) (before after : CallerTerms) (stage : CallStage) → IsKept before.seat.knows → IsKept after.seat.knows
+    → (own_part after.seat.knows).published ≡ (own_part before.seat.knows).published + publishes_of b stage
+    → own_seen after ≡ own_seen before + publishes_of b stage
+own_seen-published b before after stage was now published = omega (arith, was.own, now.own, published)
+
 -- no call is in the making where nothing goes on
 pub none-stage_in : (making : Option CallingTerms) → stage_in making ≡ None → making ≡ None
 none-stage_in None none = refl
 none-stage_in (Some c) none = absurd (cc none)
 
--- a caller between two calls that learns
-module _ (seat after : SeatTerms) (rest : Rest) (calls : List Call) (receipts : List Receipt) (room : ℕ)
+-- and some call is where something does
+pub in_making : (making : Option CallingTerms) → is_some making ≡ true → stage_in making ≡ None → ⊥
+in_making None some none = absurd (cc some)
+in_making (Some c) some none = absurd (cc none)
+
+pub none-making : (making : Option CallingTerms) → is_some making ≡ false → stage_in making ≡ None
+none-making None none = refl
+none-making (Some c) none = absurd (cc none)
+
+-- a caller between two calls that learns what an overview has
+module _ (b : BookTerms) (seat after : SeatTerms) (rest : Rest) (calls : List Call) (receipts : List Receipt) (room : ℕ) (list : List Publication)
     (was : IsCallerOf seat rest calls receipts None room) (board : after.board ≡ seat.board) (book : after.knows.book ≡ seat.knows.book)
-    (same : after.knows ≡ record seat.knows { seen = after.knows.seen; requests = after.knows.requests; decisions = after.knows.decisions })
-    (begins : IsPrefix seat.knows.seen after.knows.seen) (stands : Stands (pass_of seat rest) receipts → Stands (pass_of after rest) receipts)
-    (process : after.knows.first ≡ seat.knows.first) (sent : sent_by (pass_of after rest) ≡ sent_by (pass_of seat rest))
-    (asked : (a : ℕ) → asked_by (pass_of after rest) a ≡ asked_by (pass_of seat rest) a) (steps : after.steps ≡ seat.steps)
+    (learned : LearnsOverview b seat.knows list after.knows) (stands : Stands (pass_of seat rest) receipts → Stands (pass_of after rest) receipts)
+    (sent : sent_by (pass_of after rest) ≡ sent_by (pass_of seat rest)) (steps : after.steps ≡ seat.steps)
     (exchanges : after.exchanges ≡ seat.exchanges) (pass : IsOfOnePass after rest) where
+  same_knows : after.knows ≡ record seat.knows { seen = after.knows.seen }
+  same_knows = learned.same ∙ ap (λ (xs : List Publication). record seat.knows { seen = xs }) (sym (ap (λ (v : Knowledge). v.seen) learned.same))
+
   pub HasLearned-seat : HasLearned (caller_of seat rest calls receipts None) (caller_of after rest calls receipts None)
   HasLearned-seat = record {
     same = refl;
     pass_same =
-        λ t. record { board = board t; knows = after.knows; steps = steps t; exchanges = exchanges t; counted = rest.totals.upto; calls = rest.calls.count };
-    knows_same = same;
-    begins = begins;
-    process_is = process;
+        λ t. record { board = board t; knows = same_knows t; steps = steps t; exchanges = exchanges t; counted = rest.totals.upto; calls = rest.calls.count };
+    begins = learned.more;
     sent = sent;
-    asked = asked;
     stands = stands was.caller.stands;
   }
+
+  pub seen-learned : IsPrefix seat.knows.seen list → after.knows.seen ≡ list
+  seen-learned before = ap (λ (v : Knowledge). v.seen) learned.same ∙ longer-IsPrefix seat.knows.seen list before
 
   pub IsCallerOf-learned : IsCallerOf after rest calls receipts None room
   IsCallerOf-learned = record {
@@ -156,7 +177,7 @@ module _ (b : BookTerms) (seat : SeatTerms) (rest : Rest) (calls : List Call) (r
     (was : IsCallerOf seat rest calls receipts None room) (book : seat.knows.book ≡ b) (kept : IsKept seat.knows) (more : length receipts < length calls)
     (c : CallingTerms) (call_is : c.call ≡ get_or calls (length receipts) (Call.Read 0)) (start : c.start ≡ seat) (was_rest : c.was ≡ rest)
     (mark : c.mark ≡ seat) (rest_is : c.rest ≡ rest) (way : IsWay b (pass_of seat rest) c.call c.stage) (unturned : steps_made c.stage ≡ 0)
-    (unexchanged : exchanges_made c.stage ≡ 0) (left : 0 < call_turns_left b c.stage) where
+    (unexchanged : exchanges_made c.stage ≡ 0) (left : 0 < call_turns_left b c.stage) (starts : StartsFrom seat.knows rest.totals c.stage) where
   abbrev begun : CallerTerms
   begun = caller_of seat rest calls receipts (Some c)
 
@@ -175,6 +196,7 @@ module _ (b : BookTerms) (seat : SeatTerms) (rest : Rest) (calls : List Call) (r
     same = λ t. record { pass = begun_pass t; seat = seat; totals = rest.totals; calls = calls; receipts = receipts; stage = Some c.stage };
     history = kept.history;
     way = next_way;
+    starts = starts;
     unturned = unturned;
     unexchanged = unexchanged;
   }
@@ -268,14 +290,16 @@ module _ (b : BookTerms) (seat : SeatTerms) (rest : Rest) (calls : List Call) (r
       all_turns_left-turned = omega (arith, turns, one_step, few_turns, all_turns_left-before)
 
       -- so its turn is taken, where the seat has counted its step
-      pub TakesTurn-turned : MakesCallStep b c.stage seat after_seat after_rest.totals → after_seat.steps ≡ raised seat.steps (steps_of c.stage)
-          → after_seat.exchanges ≡ raised seat.exchanges (exchanges_of c.stage) → TakesTurn b before going_on Step c.stage
-      TakesTurn-turned made counted exchanged = record {
+      pub TakesTurn-turned : (published : List Publication) → MakesCallStep b published c.stage seat after_seat after_rest.totals
+          → after_seat.steps ≡ raised seat.steps (steps_of c.stage) → after_seat.exchanges ≡ raised seat.exchanges (exchanges_of c.stage)
+          → own_seen going_on ≡ own_seen before + publishes_of b c.stage → TakesTurn b published before going_on Step c.stage
+      TakesTurn-turned published made counted exchanged publishes = record {
         leaves = IsStillCalling-turned;
         step = made;
         kind = sym one_step;
         steps = counted ∙ ap (raised seat.steps) one_step;
         exchanges = exchanged;
+        publishes = publishes;
         calls = refl;
         process_is = ap (λ (p : PassTerms). p.knows.first) same_pass;
         left = omega arith;
@@ -344,14 +368,16 @@ module _ (b : BookTerms) (seat : SeatTerms) (rest : Rest) (calls : List Call) (r
       calls_left-answered : calls_left_of before ≡ calls_left_of answered + 1
       calls_left-answered = omega (arith, count, next.more)
 
-      pub TakesTurn-answered : MakesCallStep b c.stage seat after_seat after_rest.totals → after_seat.steps ≡ raised seat.steps (steps_of c.stage)
-          → after_seat.exchanges ≡ raised seat.exchanges (exchanges_of c.stage) → TakesTurn b before answered (Answer r) c.stage
-      TakesTurn-answered stepped counted exchanged = record {
+      pub TakesTurn-answered : (published : List Publication) → MakesCallStep b published c.stage seat after_seat after_rest.totals
+          → after_seat.steps ≡ raised seat.steps (steps_of c.stage) → after_seat.exchanges ≡ raised seat.exchanges (exchanges_of c.stage)
+          → own_seen answered ≡ own_seen before + publishes_of b c.stage → TakesTurn b published before answered (Answer r) c.stage
+      TakesTurn-answered published stepped counted exchanged publishes = record {
         leaves = IsAnswered-turned;
         step = stepped;
         kind = sym steps_of-answered;
         steps = counted ∙ ap (raised seat.steps) steps_of-answered;
         exchanges = exchanged;
+        publishes = publishes;
         calls = refl;
         process_is = process-CallMade b (pass_before c) (pass_of after_seat after_rest) c.call r made;
         left = calls_left-answered;

@@ -1,19 +1,22 @@
 -- The journal of a run that is closed.
-use Rattle.std.proofs.Common.{◌≡◌, ℕ, ◌<◌, List, length, get_or, map, refl, sym, ap, subst, ◌∙◌, arith}
+use Rattle.std.proofs.Common.{◌≡◌, ℕ, ◌<◌, List, length, get_or, map, ap, subst, ◌∙◌, arith}
 use Rattle.std.proofs.lemmas.List.{get_or-map, length-map}
-use Rattle.at_history.specs.Publications.{IsPrefix}
+use Rattle.at_history.specs.declared.publication.Publication.{Publication}
+use Rattle.at_history.specs.Publications.{IsPrefix, publications_of}
 use Rattle.at_journal.specs.Calls.{calls_in}
 use Rattle.at_journal.specs.Linearizable.{AreTimed, CallTimes, IsLinearizable}
 use Rattle.at_ledger.specs.Book.{BookTerms}
 use Rattle.at_ledger.specs.declared.call.Call.{Call}
 use Rattle.at_ledger.specs.declared.call.Line.{Line}
 use Rattle.at_board.specs.Knowledge.Seats.{BoardTerms}
+use Rattle.at_log.specs.ClosingTerms.{log_published}
 use Rattle.at_log.specs.Coherent.{Coherent}
+use Rattle.at_log.specs.InTime.{KeepsTime}
 use Rattle.at_log.specs.JournalOrder.{journal_lines}
-use Rattle.at_log.specs.Receipts.{calls_of}
 use Rattle.at_log.specs.declared.receipt.Receipt.{Receipt}
 use Rattle.at_object.specs.Closings.{ClosedTerms, HasAllLogs}
 use Rattle.at_object.specs.Passes.{PassTerms}
+use Rattle.at_stepper.proofs.ScheduleLaws.{IsMadeByTurns-RunsTo}
 use Rattle.at_stepper.proofs.TimedLaws.{AreTimed-RunsTo}
 use Rattle.at_stepper.specs.Callers.{CallerTerms}
 use Rattle.at_stepper.specs.InTurns.{IsJournalOf, RunsTo, times_of}
@@ -35,7 +38,7 @@ files-RunsTo b files turns s (goes_on earlier before after t turned runs one mad
 module _ (s : StepperTerms) (closed : ClosedTerms) (lines : List Line) (logs : HasAllLogs (caller_passes s.callers) closed)
     (coherent : Coherent closed.book closed.closing) (book_is : closed.book ≡ s.ledger.book)
     (receipts_are : closed.closing.receipts ≡ map (λ (c : CallerTerms). c.receipts) s.callers) (made : calls_in closed.closing ≡ files_of s)
-    (lines_are : lines ≡ journal_lines closed.closing)
+    (lines_are : lines ≡ journal_lines closed.closing) (published_is : logs.state.published ≡ s.published)
     (linearizable : (times : CallTimes) → AreTimed closed.closing times → IsLinearizable closed.book (calls_in closed.closing) times lines) where
   seen_in_list : (p : ℕ) (d : CallerTerms) → p < length s.callers → IsPrefix (get_or s.callers p d).pass.knows.seen logs.state.published
   seen_in_list p d within =
@@ -46,12 +49,26 @@ module _ (s : StepperTerms) (closed : ClosedTerms) (lines : List Line) (logs : H
   timed_turns : (b : BookTerms) (files : List (List Call)) (turns : List TurnMade) → RunsTo b files turns s → AreTimed closed.closing (times_of turns)
   timed_turns b files turns runs = AreTimed-RunsTo b files turns s closed.closing logs.state.published runs receipts_are seen_in_list logs.in_time
 
+  logs_published : (p : ℕ) → p < length s.callers → log_published closed.closing p ≡ publications_of p s.published
+  logs_published p within =
+      logs.logs p (omega (
+        arith,
+        within,
+        coherent.receipts,
+        ap (λ (rs : List (List Receipt)). length rs) receipts_are,
+        length-map s.callers (λ (c : CallerTerms). c.receipts),
+      ))
+      ∙ ap (publications_of p) published_is
+
   pub IsJournalOf-closed : IsJournalOf s lines
   IsJournalOf-closed = record {
     closing = closed.closing;
     coherent = subst (λ (b : BookTerms). Coherent b closed.closing) book_is coherent;
     receipts = receipts_are;
+    logs = logs_published;
+    in_time = subst (λ (list : List Publication). KeepsTime list closed.closing) published_is logs.in_time;
     lines_are = lines_are;
+    scheduled = λ b files turns runs. IsMadeByTurns-RunsTo b files turns s closed.closing runs receipts_are;
     timed = timed_turns;
     linearizable = λ b files turns runs.
         subst (λ (x : BookTerms). IsLinearizable x files (times_of turns) lines) (book_is ∙ book-RunsTo b files turns s runs)

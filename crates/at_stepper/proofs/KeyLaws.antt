@@ -1,18 +1,24 @@
 -- The keys and looks of receipts that stay while more receipts come and more is seen.
-use Rattle.std.proofs.Common.{◌≡◌, ℕ, zero, suc, ◌*◌, ◌<◌, ◌≤◌, List, [], ◌∷◌, ◌++◌, length, slice_index, take, refl, sym, ap, ◌∙◌, arith}
-use Rattle.std.proofs.lemmas.List.{get_or_append_left}
+use Rattle.std.proofs.Common.{◌≡◌, ℕ, zero, suc, ◌*◌, ◌<◌, ◌≤◌, List, [], ◌∷◌, ◌++◌, length, slice_index, take, refl, sym, ap, subst, ◌∙◌, arith}
+use Rattle.std.proofs.lemmas.List.{get_or_append_left, length-take}
 use Rattle.at_ledger.specs.Book.{BookTerms}
+use Rattle.at_ledger.specs.Call.{TargetPair}
 use Rattle.at_closing.proofs.Laws.Keys.{keys_of-IsPrefix, keys_of-le}
-use Rattle.at_history.proofs.Laws.Prefixes.{publications_of-IsPrefix}
+use Rattle.at_history.proofs.Laws.Counts.{get_or-publications_of}
+use Rattle.at_history.proofs.Laws.Fronts.{place-IsFront-le}
+use Rattle.at_history.proofs.Laws.Histories.{ArePublishedBy-IsHistory}
+use Rattle.at_history.proofs.Laws.Prefixes.{ArePublishedBy-take, publications_of-IsPrefix}
+use Rattle.at_history.specs.BoardState.{publication_at}
 use Rattle.at_history.specs.Fronts.{place}
-use Rattle.at_history.specs.Histories.{IsHistory}
-use Rattle.at_history.specs.Publications.{IsPrefix}
+use Rattle.at_history.specs.Histories.{IsHistory, IsShownDecision}
+use Rattle.at_history.specs.Publications.{IsPrefix, no_publication, publications_of}
 use Rattle.at_history.specs.declared.publication.Publication.{Publication}
 use Rattle.at_log.proofs.Laws.Keys.{length-keys_from}
+use Rattle.at_log.proofs.Laws.Positions.{own_position-at}
 use Rattle.at_log.specs.InTime.{look_at}
-use Rattle.at_log.specs.Placed.{IsPlaced, read, not_owner, full, short, done, round}
+use Rattle.at_log.specs.Placed.{IsAtFront, IsAtOwn, IsAtRound, IsPlaced, read, not_owner, full, short, done, round}
 use Rattle.at_log.specs.Receipts.{receipt_at}
-use Rattle.at_log.specs.Told.{Told, key_of, keys_from, keys_of}
+use Rattle.at_log.specs.Told.{Told, key_of, keys_from, keys_of, own_position}
 use Rattle.at_log.specs.declared.receipt.Receipt.{Receipt}
 
 -- more receipts change no key of the earlier ones
@@ -39,12 +45,56 @@ look_at-IsPrefix b p list more earlier r before (done source targets may single 
     ∙ sym (ap (look_at p list) own.at))
 look_at-IsPrefix b p list more earlier r before (round source targets may shared so) = ap (look_at p more) so.at ∙ sym (ap (look_at p list) so.at)
 
+-- and is within a history
+module _ (b : BookTerms) (p : ℕ) (list : List Publication) (earlier : List Receipt) (r : Receipt) (history : IsHistory b list) where
+  look-front : (account amount : ℕ) → IsAtFront b list account amount r → look_at p list r.at ≤ length list
+  look-front account amount so =
+      omega (
+        arith,
+        ap (look_at p list) so.at,
+        place-IsFront-le b.processes so.view list so.front (ArePublishedBy-IsHistory b list history),
+      )
+
+  look-own : (source : ℕ) (targets : List TargetPair) → IsAtOwn p list earlier source targets r → look_at p list r.at ≤ length list
+  look-own source targets so =
+      let m = own_position p so.number list in
+      let at = own_position-at p so.number list so.within in
+      let is : publication_at list m ≡ publication_at (publications_of p list) so.number =
+      sym (get_or-publications_of p m list no_publication at.within at.own) ∙ ap (publication_at (publications_of p list)) at.before in
+      let view = (publication_at list m).view in
+      omega (
+        arith,
+        ap (look_at p list) so.at,
+        ap (λ (x : Publication). place x.view) is,
+        place-IsFront-le b.processes view (take m list) (history.views m at.within).front
+            (ArePublishedBy-take b.processes m list (ArePublishedBy-IsHistory b list history)),
+        length-take m list,
+        at.within,
+      )
+
+  look-round : (source : ℕ) (targets : List TargetPair) → IsAtRound b p list earlier source targets r → look_at p list r.at ≤ length list
+  look-round source targets so =
+      let shown = subst (IsShownDecision b list) so.entry (history.decisions so.position so.within) in
+      omega (arith, ap (look_at p list) so.at, shown.place)
+
+  pub look_at-le : IsPlaced b p list earlier r → look_at p list r.at ≤ length list
+  look_at-le (read account amount call reply front) = look-front account amount front
+  look_at-le (not_owner source targets call owner reply at) = omega (arith, ap (look_at p list) at)
+  look_at-le (full source targets call owner room reply at) = omega (arith, ap (look_at p list) at)
+  look_at-le (short source amount targets may single reply front less) = look-front source amount front
+  look_at-le (done source targets may single reply own) = look-own source targets own
+  look_at-le (round source targets may shared so) = look-round source targets so
+
 -- receipts that account for a process in a list
 module _ (b : BookTerms) (p : ℕ) (list : List Publication) (receipts : List Receipt) (told : Told b p list receipts) where
   -- no key is above twice the length
   pub key-le : (i : ℕ) → IsHistory b list → i < length receipts → slice_index (keys_of p list receipts) i ≤ 2 * length list
   key-le i history within =
       keys_of-le b p list receipts history told.placed i 0 (omega (arith, within, length-keys_from p list 0 receipts))
+
+  -- and no look is above it
+  pub look-le : (i : ℕ) → IsHistory b list → i < length receipts → look_at p list (receipt_at receipts i).at ≤ length list
+  look-le i history within = look_at-le b p list (take i receipts) (receipt_at receipts i) history (told.placed i within)
 
   -- and in a longer list, with more receipts
   module _ (longer : List Publication) (before : IsPrefix list longer) where

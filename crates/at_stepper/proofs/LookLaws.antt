@@ -1,5 +1,5 @@
 -- The look that a receipt rests on has seen all that the pass had seen before the call.
-use Rattle.std.proofs.Common.{◌≡◌, ◌≢◌, ℕ, ◌+◌, ◌*◌, ◌<◌, ◌≤◌, ◌⊎◌, ◌==◌, ◌&&◌, Bool, true, false, cond, List, [], ◌∷◌, ◌++◌, length, replicate, take, None, Option, Some, refl, sym, ap, subst, ◌∙◌, arith, inl, inr}
+use Rattle.std.proofs.Common.{◌≡◌, ◌≢◌, ℕ, ◌*◌, ◌<◌, ◌≤◌, ◌⊎◌, ◌==◌, ◌&&◌, Bool, true, false, cond, List, [], ◌∷◌, ◌++◌, length, replicate, refl, sym, ap, subst, ◌∙◌, arith, inl, inr}
 use Rattle.std.proofs.lemmas.Bool.{cases_Bool, eq-eqb, leb-false}
 use Rattle.std.proofs.lemmas.List.{get_or_push, length-take, length_push}
 use Rattle.std.proofs.lemmas.List.Folds.{sum_by-replicate}
@@ -10,14 +10,12 @@ use Rattle.at_ledger.specs.Call.{TargetPair, first_account}
 use Rattle.at_log.proofs.Laws.Replies.{first_account-payout}
 use Rattle.at_ledger.specs.declared.call.Call.{Call}
 use Rattle.at_ledger.specs.declared.call.Call.TheVariants.{Pay, Read, Transfer}
-use Rattle.at_ledger.specs.declared.call.Reply.{Reply}
 use Rattle.at_ledger.specs.declared.call.Reply.TheVariants.{Done, Full, NotOwner, Short}
 use Rattle.at_history.proofs.Laws.Prefixes.{IsPrefix-length}
 use Rattle.at_history.specs.BoardState.{publication_at, request_at}
 use Rattle.at_history.specs.Fronts.{place, prefix_of}
 use Rattle.at_history.specs.Histories.{IsShownEntry}
 use Rattle.at_history.specs.Publications.{no_publication}
-use Rattle.at_history.specs.declared.publication.Entry.{Entry}
 use Rattle.at_history.specs.declared.publication.Publication.{Publication}
 use Rattle.at_history.specs.declared.request.Request.{Request}
 use Rattle.at_board.specs.Knowledge.Agreement.{AgreesOnEntry}
@@ -32,7 +30,7 @@ use Rattle.at_log.specs.declared.receipt.Receipt.{Receipt}
 use Rattle.at_object.specs.Calls.{CallMade, PaymentMade}
 use Rattle.at_object.specs.Paid.{PaysAlone, PaysInRound}
 use Rattle.at_object.specs.Passes.{PassTerms}
-use Rattle.at_object.specs.Payments.{IsDecidedByBalance, IsRefused, has_used_up, reply_of}
+use Rattle.at_object.specs.Payments.{IsDecidedByBalance, IsRefused, has_used_up}
 use Rattle.at_single.specs.Standing.{front_behind}
 use Rattle.at_snapshot.specs.Snapshots.{IsSnapshot}
 

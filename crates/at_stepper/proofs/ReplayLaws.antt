@@ -1,15 +1,15 @@
 -- The turns of a schedule, one after another.
-use Rattle.std.proofs.Common.{◌≡◌, ◌≢◌, ℕ, zero, suc, ◌+◌, ◌<◌, ◌≤◌, ◌==◌, ◌&&◌, ◌⊎◌, Bool, cond, List, [], ◌∷◌, ◌++◌, length, get_or, slice_index, refl, sym, ap, subst, ◌∙◌, append_assoc, arith, inl, inr, zero-add}
+use Rattle.std.proofs.Common.{◌≡◌, ℕ, zero, suc, ◌+◌, ◌<◌, ◌≤◌, ◌&&◌, ◌⊎◌, Bool, cond, List, [], ◌∷◌, ◌++◌, length, get_or, slice_index, refl, sym, ap, subst, ◌∙◌, append_assoc, arith, inl, inr, zero-add}
 use Rattle.std.proofs.lemmas.Bool.{cases_eq, cases_lt, eq-eqb, ne_eqb}
-use Rattle.std.proofs.lemmas.List.{append-nil, get_or-map, get_or_past, length-map, map-id}
+use Rattle.std.proofs.lemmas.List.{append-nil, get_or_past, length-map, map-id}
 use Rattle.std.proofs.lemmas.List.FromFn.{map-range_with_len_more}
-use Rattle.std.proofs.lemmas.List.Sums.{sum_by_push}
 use Rattle.std.specs.List.{range_with_len}
 use Rattle.at_ledger.specs.Book.{BookTerms}
 use Rattle.at_ledger.specs.declared.call.Call.{Call}
 use Rattle.at_log.specs.declared.receipt.Receipt.{Receipt}
-use Rattle.at_stepper.proofs.SteppingLaws.{calls_left-at, some_of}
-use Rattle.at_stepper.specs.Callers.{CallerTerms, answers_in, calls_left_of}
+use Rattle.at_stepper.proofs.SteppingLaws.{calls_left-at}
+use Rattle.at_stepper.proofs.TurnCounts.{answered_by-push, answers-cond, some_of}
+use Rattle.at_stepper.specs.Callers.{calls_left_of}
 use Rattle.at_stepper.specs.InTurns.{IsMadeAs}
 use Rattle.at_stepper.specs.InTurns.RunsTo.{goes_on, starts}
 use Rattle.at_stepper.specs.Replays.{HasTurnedBy, IsSameRun, TurnAll, TurnBy, TurnInRounds}
@@ -17,7 +17,6 @@ use Rattle.at_stepper.specs.Schedules.{AreTurnsBy, answered_by, rounds_of_turns}
 use Rattle.at_stepper.specs.Stepping.{IsNewStepper, IsOver, StepperTerms, TurnsOne, all_turns_left, calls_left}
 use Rattle.at_stepper.specs.declared.replaying.TurnMade.{TurnMade}
 use Rattle.at_stepper.specs.declared.turned.Turned.{Turned}
-use Rattle.at_stepper.specs.declared.turned.Turned.TheVariants.{Answer, Step}
 
 -- so many processes were idle, and nothing has changed
 pub record WereIdle (count : ℕ) (before after : StepperTerms) : Type 0 where
@@ -107,19 +106,9 @@ TurnBy-idle turns s p none b files earlier was = record {
   left = was.left;
 }
 
--- how many calls a turn answers
-pub answers-cond : (turned : Turned) (answered : Bool) → answered ≡ (answers_in turned == 1) → answers_in turned ≡ cond answered 1 0
-answers-cond Step answered is = sym (ap {B = ℕ} (λ (t : Bool). cond t 1 0) is)
-answers-cond (Answer r) answered is = sym (ap {B = ℕ} (λ (t : Bool). cond t 1 0) is)
-
--- one more turn answers a call of its process where it answers, and none of another
-pub answered_by-push : (q : ℕ) (turns : List TurnMade) (t : TurnMade)
-    → answered_by q (turns ++ t ∷ []) ≡ answered_by q turns + cond ((t.process == q) && t.answered) 1 0
-answered_by-push q turns t = sum_by_push (λ (x : TurnMade). cond ((x.process == q) && x.answered) 1 0) turns t
-
 -- a process that isn't idle makes a turn
 pub TurnBy-turned : (turns : List TurnMade) (s u : StepperTerms) (t : TurnMade) (turned : Turned) → 0 < slice_index (calls_left s) t.process
-    → TurnsOne t.process turned s u → IsMadeAs turned t → TurnBy (t.process ∷ []) turns s (turns ++ t ∷ []) u
+    → TurnsOne t.process turned s u → IsMadeAs turned s u t → TurnBy (t.process ∷ []) turns s (turns ++ t ∷ []) u
 TurnBy-turned turns s u t turned busy one made b files earlier was =
     let p = t.process in
     let here = one.left ∙ ap (λ n. slice_index (calls_left u) p + n) (answers-cond turned t.answered made.answered) in record {

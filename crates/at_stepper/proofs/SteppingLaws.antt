@@ -1,21 +1,25 @@
 -- The callers of a run, as they are begun, as one of them turns, and as they are split at the end.
 use Rattle.std.proofs.Common.{◌≡◌, ℕ, ◌+◌, ◌^◌, ◌<◌, ◌≤◌, suc, List, [], ◌∷◌, ◌++◌, drop, length, get_or, map, set, slice_index, take, Vec, refl, sym, ap, subst, ◌∙◌, arith, inl, inr, length-set}
 use Rattle.std.proofs.lemmas.Bool.{cases_eq, cases_lt}
-use Rattle.std.proofs.lemmas.List.{drop_more, ext_get_or, get_or-map, get_or_default, get_or-set_other, get_or-set_same, get_or_append_left, get_or_past, get_or_push, length-drop, length-map, length_push, map-append, map-set, set-get_or, take_all, take_more}
+use Rattle.std.proofs.lemmas.List.{drop_more, get_or-map, get_or-set_other, get_or-set_same, get_or_append_left, get_or_past, get_or_push, length-drop, length-map, length_push, map-append, map-set, set-get_or, take_all, take_more}
 use Rattle.std.proofs.lemmas.List.Elements.{All-map, All-push}
 use Rattle.std.proofs.lemmas.List.Sums.{sum_by-set}
 use Rattle.std.specs.Global.{Global}
 use Rattle.std.specs.Prelude.{All}
 use Rattle.at_ledger.specs.declared.call.Call.{Call}
+use Rattle.at_history.proofs.Laws.Prefixes.{IsPrefix-refl}
+use Rattle.at_history.specs.Publications.{IsPrefix, count_of}
+use Rattle.at_history.specs.declared.publication.Publication.{Publication}
 use Rattle.at_board.specs.Knowledge.Seats.{BoardTerms, IsOf, SeatTerms}
 use Rattle.at_log.specs.Receipts.{calls_of, lists_in}
 use Rattle.at_log.specs.declared.receipt.Receipt.{Receipt}
 use Rattle.at_object.specs.Closings.{AreAccountedFor, IsAccountedFor}
 use Rattle.at_object.specs.Parted.{HasMemoryFor}
 use Rattle.at_object.specs.Passes.{AreNewPasses, IsNewPass, PassTerms, Stands}
+use Rattle.at_stepper.proofs.TurnCounts.{some_of}
 use Rattle.at_stepper.specs.Callers.{CallerTerms, IsFile, IsNewCaller, IsTurned, answers_in, caller_turns_left, calls_left_of}
-use Rattle.at_stepper.specs.KeptStepping.{AreCallersOn, AreSplit, AreStartsFor, HasAnsweredAll, IsCallerOn, TurnsCaller, passes_in}
-use Rattle.at_stepper.specs.Stepping.{AreBegunCallers, ChangesOne, IsBegunCaller, TurnsOne}
+use Rattle.at_stepper.specs.KeptStepping.{AreCallersOn, AreSplit, AreStartsFor, HasAnsweredAll, IsCallerOn, IsAllPublished, passes_in}
+use Rattle.at_stepper.specs.Stepping.{AreBegunCallers, ChangesOne, IsBegunCaller, PublishesAtMostOne, SeesPublished, TurnsOne}
 use Rattle.at_stepper.specs.declared.caller.Start.{Start}
 use Rattle.at_stepper.specs.declared.turned.Turned.{Turned}
 
@@ -30,11 +34,6 @@ each_push holds xs x each last p d within =
           let before : p < length xs = omega (arith, within, length_push xs x, other) in
           subst (holds p) (sym (get_or_append_left xs (x ∷ []) d p before)) (each p d before)
     ]
-
--- an element of a list that has one
-pub some_of : {X : Type 0} (xs : List X) (p : ℕ) → p < length xs → X
-some_of [] p within = absurd (omega (arith, within))
-some_of (x ∷ xs) p within = x
 
 -- the element that comes next, and what is left then
 pub known_next : {X : Type 0} (xs : List X) (n : ℕ) (x : X) (rest : List X) → drop n xs ≡ x ∷ rest → n < length xs
@@ -166,13 +165,21 @@ module _ (ledger : BoardTerms) (callers : List CallerTerms) (process : ℕ) (aft
       (same ∙ sym (get_or-map (λ (c : CallerTerms). c.calls) callers process after [] within))
       ∙ set-get_or (map (λ (c : CallerTerms). c.calls) callers) process [])
 
-  pub TurnsOne-set : (turned : Turned) → ((d : CallerTerms) → IsTurned ledger.book process callers turned (get_or callers process d) after)
-      → TurnsOne process turned (record { ledger = ledger; callers = callers }) (record { ledger = ledger; callers = set callers process after })
-  TurnsOne-set turned changed =
+  pub TurnsOne-set : (turned : Turned) (published more : List Publication)
+      → ((d : CallerTerms) → IsTurned ledger.book published turned (get_or callers process d) after)
+      → PublishesAtMostOne process published more
+      → ((d now : CallerTerms) (one : IsTurned ledger.book published turned (get_or callers process d) now) → now ≡ after
+      → SeesPublished process published more now one.stage)
+      → TurnsOne process turned (record { ledger = ledger; callers = callers; published = published })
+      (record { ledger = ledger; callers = set callers process after; published = more })
+  TurnsOne-set turned published more changed publishes sees =
       let one = changed after in
-      let inside : process < length (set callers process after) = omega (arith, within, length-set callers process after) in record {
+      let inside : process < length (set callers process after) = omega (arith, within, length-set callers process after) in
+      let changes = ChangesOne-set (IsTurned ledger.book published turned) changed in record {
         ledger = refl;
-        changes = ChangesOne-set (IsTurned ledger.book process callers turned) changed;
+        changes = changes;
+        publishes = publishes;
+        sees = λ d. sees d (get_or (set callers process after) process d) (changes.here d) (get_or-set_same callers process after d within);
         files = calls-set one.calls;
         left =
             calls_left-at callers process after within
@@ -185,34 +192,6 @@ module _ (ledger : BoardTerms) (callers : List CallerTerms) (process : ℕ) (aft
         turns_left = omega (arith, one.turns_left, sum_by-set (caller_turns_left ledger.book) callers process after after within);
       }
 
--- where one has changed, the list is as before but for that one
-pub set-ChangesOne : (changes : CallerTerms → CallerTerms → Type 0) (process : ℕ) (before after : List CallerTerms) (d : CallerTerms)
-    → process < length before → ChangesOne changes process before after → after ≡ set before process (get_or after process d)
-set-ChangesOne changes process before after d within changed =
-    let one = get_or after process d in
-    ext_get_or d after (set before process one) (changed.count ∙ sym (length-set before process one))
-    (λ i inside.
-    elim (cases_eq i process) as (λ _. get_or after i d ≡ get_or (set before process one) i d) [
-      | inl here ↦
-          ap (λ k. get_or after k d) here
-          ∙ (sym (get_or-set_same before process one d within) ∙ ap (λ k. get_or (set before process one) k d) (sym here))
-      | inr other ↦ changed.others i d other ∙ sym (get_or-set_other before process i one d other)
-    ])
-
--- so a turn of one is a turn of the run
-pub TurnsOne-caller : (ledger : BoardTerms) (before after : List CallerTerms) (process : ℕ) (turned : Turned) → process < length before
-    → TurnsCaller ledger.book process turned before after
-    → TurnsOne process turned (record { ledger = ledger; callers = before }) (record { ledger = ledger; callers = after })
-TurnsOne-caller ledger before after process turned within changed =
-    let some = some_of before process within in
-    let one = get_or after process some in
-    let inside : process < length after = omega (arith, within, changed.count) in
-    subst (λ (cs : List CallerTerms). TurnsOne process turned (record { ledger = ledger; callers = before }) (record { ledger = ledger; callers = cs }))
-    (sym (set-ChangesOne (IsTurned ledger.book process before turned) process before after some within changed))
-    (TurnsOne-set ledger before process one within turned (λ d.
-    subst (λ (c : CallerTerms). IsTurned ledger.book process before turned (get_or before process d) c) (get_or_default after process d some inside)
-    (changed.here d)))
-
 -- callers that are begun are those of the ledger
 pub AreCallersOn-begun : (ledger : BoardTerms) (files : List (List Call)) (callers : List CallerTerms) → AreBegunCallers ledger files callers
     → length files ≡ ledger.book.processes → AreCallersOn ledger callers
@@ -223,10 +202,38 @@ AreCallersOn-begun ledger files callers begun count = record {
         seat = subst (λ (s : SeatTerms). IsOf s ledger) (sym one.is_new.seat_is) one.pass.of_ledger;
         pass = one.pass.of_ledger;
         process_is = one.pass.process_is;
+        seat_process = ap (λ (s : SeatTerms). s.knows.first) one.is_new.seat_is ∙ one.pass.process_is;
         stands = subst (λ (rs : List Receipt). Stands (get_or callers p d).pass rs) (sym one.is_new.unmade) one.pass.stands;
         between = λ none. sym one.is_new.seat_is;
       };
 }
+
+-- the first of them is, and has seen nothing
+pub IsOf-begun : (ledger : BoardTerms) (files : List (List Call)) (callers : List CallerTerms) (d : CallerTerms) → AreBegunCallers ledger files callers
+    → 0 < length files → IsOf (get_or callers 0 d).seat ledger
+IsOf-begun ledger files callers d begun some =
+    let one = begun.each 0 [] d some in
+    subst (λ (s : SeatTerms). IsOf s ledger) (sym one.is_new.seat_is) one.pass.of_ledger
+
+pub seen-begun : (ledger : BoardTerms) (files : List (List Call)) (callers : List CallerTerms) (d : CallerTerms) → AreBegunCallers ledger files callers
+    → 0 < length files → (get_or callers 0 d).seat.knows.seen ≡ []
+seen-begun ledger files callers d begun some =
+    let one = begun.each 0 [] d some in
+    ap (λ (s : SeatTerms). s.knows.seen) one.is_new.seat_is ∙ one.pass.seen
+
+-- and nothing is published yet
+pub IsAllPublished-begun : (ledger : BoardTerms) (files : List (List Call)) (callers : List CallerTerms) → AreBegunCallers ledger files callers
+    → IsAllPublished ledger.book callers []
+IsAllPublished-begun ledger files callers begun =
+    let none : (p : ℕ) (d : CallerTerms) → p < length callers → (get_or callers p d).seat.knows.seen ≡ [] =
+    λ p d within.
+    let one = begun.each p [] d (omega (arith, within, begun.count)) in
+    ap (λ (s : SeatTerms). s.knows.seen) one.is_new.seat_is ∙ one.pass.seen in
+    record {
+      seen = λ p d within. subst (λ (xs : List Publication). IsPrefix xs []) (sym (none p d within)) (IsPrefix-refl []);
+      own = λ p d within. ap (count_of p) (sym (none p d within));
+      known = λ k d within. absurd (omega (arith, within));
+    }
 
 -- one more caller is split
 pub AreSplit-push : (callers : List CallerTerms) (passes : List PassTerms) (receipts : List (List Receipt)) (caller : CallerTerms)

@@ -15,7 +15,7 @@ use Rattle.at_log.specs.declared.receipt.Receipt.{Receipt}
 use Rattle.at_object.proofs.Laws.Calls.{begins-CallMade, process-CallMade}
 use Rattle.at_object.specs.Passes.{PassTerms, Stands}
 use Rattle.at_calling.specs.declared.call_stage.CallStage.{CallStage}
-use Rattle.at_stepper.proofs.KeyLaws.{key-in, key-le, key-same, look-in, look-same}
+use Rattle.at_stepper.proofs.KeyLaws.{key-in, key-le, key-same, look-in, look-le, look-same}
 use Rattle.at_stepper.specs.Callers.{BeginsCall, CallerTerms, IsReadyToTurn, IsReadyFrom, IsTurned, LeavesCaller, answers_in, next_call}
 use Rattle.at_stepper.specs.declared.turned.Turned.{Turned}
 use Rattle.at_stepper.specs.declared.turned.Turned.TheVariants.{Answer, Step}
@@ -60,6 +60,9 @@ module _ (process : ℕ) (c : CallerTerms) (timed : IsTimedCaller process c) (i 
   pub caller_key-le : caller_key c i ≤ 2 * length c.pass.knows.seen
   caller_key-le = key-le c.pass.knows.book c.pass.knows.first c.pass.knows.seen c.receipts timed.stands i history within
 
+  pub caller_look-le : caller_look c i ≤ length c.pass.knows.seen
+  caller_look-le = look-le c.pass.knows.book c.pass.knows.first c.pass.knows.seen c.receipts timed.stands i history within
+
   module _ (list : List Publication) (seen : IsPrefix c.pass.knows.seen list) where
     pub caller_key-in : slice_index (keys_of process list c.receipts) i ≡ caller_key c i
     caller_key-in =
@@ -87,22 +90,22 @@ module _ (process : ℕ) (c : CallerTerms) (timed : IsTimedCaller process c) (i 
         ∙ look-same c.pass.knows.book c.pass.knows.first c.pass.knows.seen c.receipts timed.stands after.pass.knows.seen has.seen has.more i within
 
 -- a turn, from what it goes on from
-module _ (b : BookTerms) (process : ℕ) (callers : List CallerTerms) (before ready after : CallerTerms) (stage : CallStage) where
-  begins_or_goes_on : (so_far : Option CallStage) → before.stage ≡ so_far → IsReadyFrom b process callers before ready stage so_far
-      → BeginsCall b process callers before ready stage ⊎ ((before.stage ≢ None) × (ready ≡ before))
+module _ (b : BookTerms) (published : List Publication) (before ready after : CallerTerms) (stage : CallStage) where
+  begins_or_goes_on : (so_far : Option CallStage) → before.stage ≡ so_far → IsReadyFrom b published before ready stage so_far
+      → BeginsCall b published before ready stage ⊎ ((before.stage ≢ None) × (ready ≡ before))
   begins_or_goes_on None is begins = inl begins
   begins_or_goes_on (Some going_on) is same = inr ((λ none. cc (is, none)), same)
 
   -- the call begins with it, or was in the making
-  pub begins_or_on : IsReadyToTurn b process callers before ready stage
-      → BeginsCall b process callers before ready stage ⊎ ((before.stage ≢ None) × (ready ≡ before))
+  pub begins_or_on : IsReadyToTurn b published before ready stage
+      → BeginsCall b published before ready stage ⊎ ((before.stage ≢ None) × (ready ≡ before))
   begins_or_on is_ready = begins_or_goes_on before.stage refl is_ready.from
 
-  HasMore-ready : IsReadyToTurn b process callers before ready stage → HasMore before ready
+  HasMore-ready : IsReadyToTurn b published before ready stage → HasMore before ready
   HasMore-ready is_ready =
       elim (begins_or_on is_ready) as (λ _. HasMore before ready) [
         | inl begins ↦ record {
-          process_is = begins.learned.process_is;
+          process_is = ap (λ (p : PassTerms). p.knows.first) begins.learned.pass_same;
           seen = begins.learned.begins;
           more = [];
           receipts = ap (λ (c : CallerTerms). c.receipts) begins.learned.same ∙ sym (append-nil before.receipts);
@@ -110,18 +113,18 @@ module _ (b : BookTerms) (process : ℕ) (callers : List CallerTerms) (before re
         | inr going_on ↦ subst (HasMore before) (sym going_on.1) (HasMore-refl before)
       ]
 
-  count-ready : IsReadyToTurn b process callers before ready stage → length ready.receipts ≡ length before.receipts
+  count-ready : IsReadyToTurn b published before ready stage → length ready.receipts ≡ length before.receipts
   count-ready is_ready =
       elim (begins_or_on is_ready) as (λ _. length ready.receipts ≡ length before.receipts) [
         | inl begins ↦ ap (λ (c : CallerTerms). length c.receipts) begins.learned.same
         | inr going_on ↦ ap (λ (c : CallerTerms). length c.receipts) going_on.1
       ]
 
-  IsTimedCaller-ready : IsReadyToTurn b process callers before ready stage → IsTimedCaller process before → IsTimedCaller process ready
-  IsTimedCaller-ready is_ready was =
+  IsTimedCaller-ready : (process : ℕ) → IsReadyToTurn b published before ready stage → IsTimedCaller process before → IsTimedCaller process ready
+  IsTimedCaller-ready process is_ready was =
       elim (begins_or_on is_ready) as (λ _. IsTimedCaller process ready) [
         | inl begins ↦ record {
-          process_is = begins.learned.process_is ∙ was.process_is;
+          process_is = ap (λ (p : PassTerms). p.knows.first) begins.learned.pass_same ∙ was.process_is;
           stands = begins.learned.stands;
           history = λ some. begins.history;
           begins = subst (IsPrefix ready.pass.knows.seen) (sym (ap (λ (c : CallerTerms). c.seat.knows.seen) begins.learned.same))
@@ -149,8 +152,9 @@ module _ (b : BookTerms) (process : ℕ) (callers : List CallerTerms) (before re
   count-left Step still = omega (arith, ap (λ (rs : List Receipt). length rs) still.receipts)
   count-left (Answer r) answered = ap (λ (rs : List Receipt). length rs) answered.receipts ∙ length_push ready.receipts r
 
-  IsTimedCaller-left : (turned : Turned) → LeavesCaller b ready after stage turned → IsTimedCaller process ready → IsTimedCaller process after
-  IsTimedCaller-left Step still was = record {
+  IsTimedCaller-left : (process : ℕ) (turned : Turned) → LeavesCaller b ready after stage turned → IsTimedCaller process ready
+      → IsTimedCaller process after
+  IsTimedCaller-left process Step still was = record {
     process_is = ap (λ (p : PassTerms). p.knows.first) still.pass ∙ was.process_is;
     stands = subst (λ (p : PassTerms). Stands p after.receipts) (sym still.pass)
         (subst (λ (rs : List Receipt). Stands ready.pass rs) (sym still.receipts) was.stands);
@@ -158,7 +162,7 @@ module _ (b : BookTerms) (process : ℕ) (callers : List CallerTerms) (before re
         (was.history (omega (arith, some, ap (λ (rs : List Receipt). length rs) still.receipts)));
     begins = subst (λ (p : PassTerms). IsPrefix p.knows.seen after.seat.knows.seen) (sym still.pass) still.begins;
   }
-  IsTimedCaller-left (Answer r) answered was = record {
+  IsTimedCaller-left process (Answer r) answered was = record {
     process_is = process-CallMade b ready.pass after.pass (next_call ready) r answered.made ∙ was.process_is;
     stands = answered.stands;
     history = λ some. answered.history;
@@ -182,28 +186,28 @@ module _ (b : BookTerms) (process : ℕ) (callers : List CallerTerms) (before re
       (answered.looked (subst (λ (x : Receipt). x.at ≢ Previous) is placed))
 
 -- a caller has turned
-module _ (b : BookTerms) (process : ℕ) (callers : List CallerTerms) (turned : Turned) (before after : CallerTerms)
-    (one : IsTurned b process callers turned before after) where
+module _ (b : BookTerms) (published : List Publication) (turned : Turned) (before after : CallerTerms)
+    (one : IsTurned b published turned before after) where
   pub HasMore-IsTurned : HasMore before after
   HasMore-IsTurned =
-      HasMore-trans before one.ready after (HasMore-ready b process callers before one.ready after one.stage one.is_ready)
-      (HasMore-left b process callers before one.ready after one.stage turned one.leaves)
+      HasMore-trans before one.ready after (HasMore-ready b published before one.ready after one.stage one.is_ready)
+      (HasMore-left b published before one.ready after one.stage turned one.leaves)
 
   pub count-IsTurned : length after.receipts ≡ length before.receipts + answers_in turned
   count-IsTurned =
-      count-left b process callers before one.ready after one.stage turned one.leaves
-      ∙ ap (λ n. n + answers_in turned) (count-ready b process callers before one.ready after one.stage one.is_ready)
+      count-left b published before one.ready after one.stage turned one.leaves
+      ∙ ap (λ n. n + answers_in turned) (count-ready b published before one.ready after one.stage one.is_ready)
 
-  pub IsTimedCaller-IsTurned : IsTimedCaller process before → IsTimedCaller process after
-  IsTimedCaller-IsTurned was =
-      IsTimedCaller-left b process callers before one.ready after one.stage turned one.leaves
-      (IsTimedCaller-ready b process callers before one.ready after one.stage one.is_ready was)
+  pub IsTimedCaller-IsTurned : (process : ℕ) → IsTimedCaller process before → IsTimedCaller process after
+  IsTimedCaller-IsTurned process was =
+      IsTimedCaller-left b published before one.ready after one.stage process turned one.leaves
+      (IsTimedCaller-ready b published before one.ready after one.stage process one.is_ready was)
 
   pub still-IsTurned : after.stage ≢ None → (after.pass ≡ one.ready.pass) × (answers_in turned ≡ 0)
-  still-IsTurned going_on = still-left b process callers before one.ready after one.stage turned one.leaves going_on
+  still-IsTurned going_on = still-left b published before one.ready after one.stage turned one.leaves going_on
 
   pub ahead-IsTurned : (i : ℕ) → length before.receipts ≤ i → i < length after.receipts → (receipt_at after.receipts i).at ≢ Previous
       → length one.ready.pass.knows.seen ≤ caller_look after i
   ahead-IsTurned i past within placed =
-      ahead-left b process callers before one.ready after one.stage turned i one.leaves
-      (omega (arith, past, count-ready b process callers before one.ready after one.stage one.is_ready)) within placed
+      ahead-left b published before one.ready after one.stage turned i one.leaves
+      (omega (arith, past, count-ready b published before one.ready after one.stage one.is_ready)) within placed

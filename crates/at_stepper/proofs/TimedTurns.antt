@@ -1,19 +1,20 @@
 -- Turns one after another: each answered call rests on a look at no less than all calls before it in time had seen.
-use Rattle.std.proofs.Common.{◌≡◌, ◌≢◌, ℕ, ◌+◌, ◌*◌, ◌<◌, ◌≤◌, ◌&&◌, Bool, cond, true, List, [], ◌∷◌, ◌++◌, None, length, get_or, refl, sym, ap, subst, ◌∙◌, arith, inl, inr}
+use Rattle.std.proofs.Common.{◌≡◌, ◌≢◌, ℕ, ◌+◌, ◌*◌, ◌<◌, ◌≤◌, ◌==◌, ◌&&◌, Bool, cond, true, List, [], ◌∷◌, ◌++◌, None, length, get_or, refl, sym, ap, subst, ◌∙◌, arith, inl, inr}
 use Rattle.std.proofs.lemmas.Bool.{cases_eq, cases_lt, eq-eqb, ne_eqb}
-use Rattle.std.proofs.lemmas.List.{get_or_default, length_push}
+use Rattle.std.proofs.lemmas.List.{length_push}
 use Rattle.at_ledger.specs.Book.{BookTerms}
 use Rattle.at_history.proofs.Laws.Prefixes.{IsPrefix-length, IsPrefix-trans}
 use Rattle.at_history.specs.Publications.{IsPrefix}
+use Rattle.at_history.specs.declared.publication.Publication.{Publication}
 use Rattle.at_log.specs.Receipts.{receipt_at}
 use Rattle.at_log.specs.declared.receipt.At.TheVariants.{Previous}
 use Rattle.at_log.specs.declared.receipt.Receipt.{Receipt}
 use Rattle.at_object.specs.Passes.{PassTerms}
-use Rattle.at_stepper.proofs.ReplayLaws.{answered_by-push, answers-cond}
+use Rattle.at_stepper.proofs.TurnCounts.{answered_by-push, answers-cond}
 use Rattle.at_stepper.proofs.TimedCallers.{HasMore, HasMore-IsTurned, HasMore-refl, IsTimedCaller, IsTimedCaller-IsTurned, ahead-IsTurned, begins_or_on, caller_key, caller_key-le, caller_key-more, caller_look, caller_look-more, caller_receipt-more, count-IsTurned, still-IsTurned}
 use Rattle.at_stepper.proofs.TurnTimes.{AreTimes, AreTimes-push, begun-push, ended-other, ended-own, is_next_of, is_next_of-number, is_next_of-own, next-answered, number-is_next_of, process-is_next_of, some-own, some-push}
 use Rattle.at_stepper.specs.Callers.{BeginsCall, CallerTerms, IsTurned, answers_in}
-use Rattle.at_stepper.specs.InTurns.{IsMadeAs, times_of, turns_of_call}
+use Rattle.at_stepper.specs.InTurns.{times_of, turns_of_call}
 use Rattle.at_stepper.specs.Schedules.{answered_by}
 use Rattle.at_stepper.specs.Stepping.{ChangesOne}
 use Rattle.at_stepper.specs.declared.replaying.TurnMade.{TurnMade}
@@ -30,31 +31,40 @@ pub record HasLooked (turns : List TurnMade) (callers : List CallerTerms) (q j :
   pub back : LooksBack turns callers q j length_between
   pub ahead : (receipt_at c.receipts j).at ≢ Previous → length_between ≤ caller_look c j
 
--- what turns leave of the callers of all processes: a call in the making has had a turn, and looks back no farther than to what its caller had
--- seen when it began
-pub record AreTimedTurns (turns : List TurnMade) (callers : List CallerTerms) : Type 0 where
+-- what turns leave of the callers of all processes, whose seats have seen only what is published: a call in the making has had a turn, and
+-- looks back no farther than to what its caller had seen when it began
+pub record AreTimedTurns (turns : List TurnMade) (callers : List CallerTerms) (published : List Publication) : Type 0 where
   pub times : AreTimes turns
   pub counted : (p : ℕ) (d : CallerTerms) → p < length callers → answered_by p turns ≡ length (get_or callers p d).receipts
   pub going : (p : ℕ) (d : CallerTerms) → p < length callers → (get_or callers p d).stage ≢ None → 0 < length (turns_of_call turns p (answered_by p turns))
   pub each : (p : ℕ) (d : CallerTerms) → p < length callers → IsTimedCaller p (get_or callers p d)
+  pub seen : (p : ℕ) (d : CallerTerms) → p < length callers → IsPrefix (get_or callers p d).seat.knows.seen published
   pub answered : (q j : ℕ) (d : CallerTerms) → q < length callers → j < length (get_or callers q d).receipts →
       HasLooked turns callers q j (get_or callers q d)
   pub making : (q : ℕ) (d : CallerTerms) → q < length callers → (get_or callers q d).stage ≢ None →
       LooksBack turns callers q (answered_by q turns) (length (get_or callers q d).pass.knows.seen)
 
+-- what a caller's pass has seen, its seat has, and it is published
+pub pass_seen : (turns : List TurnMade) (callers : List CallerTerms) (published : List Publication) → AreTimedTurns turns callers published
+    → (p : ℕ) (d : CallerTerms) → p < length callers → IsPrefix (get_or callers p d).pass.knows.seen published
+pass_seen turns callers published are p d within =
+    let caller = get_or callers p d in
+    IsPrefix-trans caller.pass.knows.seen caller.seat.knows.seen published (are.each p d within).begins (are.seen p d within)
+
 -- one turn more
-module _ (b : BookTerms) (turns : List TurnMade) (t : TurnMade) (turned : Turned) (before after : List CallerTerms) (were : AreTimedTurns turns before)
-    (changes : ChangesOne (IsTurned b t.process before turned) t.process before after) (made : IsMadeAs turned t) where
+module _ (b : BookTerms) (turns : List TurnMade) (t : TurnMade) (turned : Turned) (published : List Publication) (before after : List CallerTerms)
+    (were : AreTimedTurns turns before published) (changes : ChangesOne (IsTurned b published turned) t.process before after)
+    (made : t.answered ≡ (answers_in turned == 1)) where
   abbrev all : List TurnMade
   all = turns ++ t ∷ []
 
   -- its process's caller has turned, and the others' are the same
-  HasMore-turned : (p : ℕ) (d : CallerTerms) → HasMore (get_or before p d) (get_or after p d)
+  pub HasMore-turned : (p : ℕ) (d : CallerTerms) → HasMore (get_or before p d) (get_or after p d)
   HasMore-turned p d =
       elim (cases_eq p t.process) as (λ _. HasMore (get_or before p d) (get_or after p d)) [
         | inl here ↦
             subst (λ q. HasMore (get_or before q d) (get_or after q d)) (sym here)
-            (HasMore-IsTurned b t.process before turned (get_or before t.process d) (get_or after t.process d) (changes.here d))
+            (HasMore-IsTurned b published turned (get_or before t.process d) (get_or after t.process d) (changes.here d))
         | inr other ↦ subst (HasMore (get_or before p d)) (sym (changes.others p d other)) (HasMore-refl (get_or before p d))
       ]
 
@@ -63,7 +73,7 @@ module _ (b : BookTerms) (turns : List TurnMade) (t : TurnMade) (turned : Turned
       elim (cases_eq p t.process) as (λ _. IsTimedCaller p (get_or after p d)) [
         | inl here ↦
             subst (λ q. IsTimedCaller q (get_or after q d)) (sym here)
-            (IsTimedCaller-IsTurned b t.process before turned (get_or before t.process d) (get_or after t.process d) (changes.here d)
+            (IsTimedCaller-IsTurned b published turned (get_or before t.process d) (get_or after t.process d) (changes.here d) t.process
             (subst (λ q. IsTimedCaller q (get_or before q d)) here (were.each p d within)))
         | inr other ↦ subst (IsTimedCaller p) (sym (changes.others p d other)) (were.each p d within)
       ]
@@ -74,7 +84,7 @@ module _ (b : BookTerms) (turns : List TurnMade) (t : TurnMade) (turned : Turned
         arith,
         answered_by-push t.process turns t,
         ap {B = ℕ} (λ (x : Bool). cond (x && t.answered) 1 0) (eq-eqb t.process t.process refl),
-        answers-cond turned t.answered made.answered,
+        answers-cond turned t.answered made,
       )
 
   answered_by-other : (p : ℕ) → p ≢ t.process → answered_by p all ≡ answered_by p turns
@@ -93,7 +103,7 @@ module _ (b : BookTerms) (turns : List TurnMade) (t : TurnMade) (turned : Turned
             (omega (
               arith,
               answered_by-own,
-              count-IsTurned b t.process before turned (get_or before t.process d) (get_or after t.process d) (changes.here d),
+              count-IsTurned b published turned (get_or before t.process d) (get_or after t.process d) (changes.here d),
               subst (λ q. answered_by q turns ≡ length (get_or before q d).receipts) here (were.counted p d within),
             ))
         | inr other ↦
@@ -146,27 +156,21 @@ module _ (b : BookTerms) (turns : List TurnMade) (t : TurnMade) (turned : Turned
     abbrev now : CallerTerms
     now = get_or after t.process d
 
-    abbrev one : IsTurned b t.process before turned (get_or before t.process d) (get_or after t.process d)
+    abbrev one : IsTurned b published turned (get_or before t.process d) (get_or after t.process d)
     one = changes.here d
 
     abbrev seen_by_then : ℕ
     seen_by_then = length one.ready.pass.knows.seen
 
-    -- a call that begins with the turn has seen all that any before it had
-    seen-begins : BeginsCall b t.process before was one.ready one.stage → (p : ℕ) (e : CallerTerms) → p < length before
+    -- a call that begins with the turn has seen all that is published, and so all that any before it had
+    seen-begins : BeginsCall b published was one.ready one.stage → (p : ℕ) (e : CallerTerms) → p < length before
         → length (get_or before p e).pass.knows.seen ≤ seen_by_then
     seen-begins begins p e within =
-        IsPrefix-length (get_or before p e).pass.knows.seen one.ready.pass.knows.seen
-        (elim (cases_eq p t.process) as (λ _. IsPrefix (get_or before p e).pass.knows.seen one.ready.pass.knows.seen) [
-          | inl here ↦
-              subst (λ (c : CallerTerms). IsPrefix c.pass.knows.seen one.ready.pass.knows.seen)
-              (get_or_default before t.process d e own ∙ ap (λ q. get_or before q e) (sym here)) begins.learned.begins
-          | inr other ↦
-              IsPrefix-trans (get_or before p e).pass.knows.seen (get_or before p e).seat.knows.seen one.ready.pass.knows.seen
-              (were.each p e within).begins (begins.told p e within other)
-        ])
+        let caller = get_or before p e in
+        IsPrefix-length caller.pass.knows.seen one.ready.pass.knows.seen
+        (subst (IsPrefix caller.pass.knows.seen) (sym begins.seen) (pass_seen turns before published were p e within))
 
-    LooksBack-begins : BeginsCall b t.process before was one.ready one.stage → (j : ℕ) → answered_by t.process turns ≡ j
+    LooksBack-begins : BeginsCall b published was one.ready one.stage → (j : ℕ) → answered_by t.process turns ≡ j
         → LooksBack all after t.process j seen_by_then
     LooksBack-begins begins j is = λ p i e within inside ended.
         let known : p < length before = omega (arith, within, changes.count) in
@@ -194,7 +198,7 @@ module _ (b : BookTerms) (turns : List TurnMade) (t : TurnMade) (turned : Turned
     -- so the process's call looks back no farther than to what it had seen when it began
     LooksBack-own : (j : ℕ) → answered_by t.process turns ≡ j → LooksBack all after t.process j seen_by_then
     LooksBack-own j is =
-        elim (begins_or_on b t.process before was one.ready now one.stage one.is_ready) as (λ _. LooksBack all after t.process j seen_by_then) [
+        elim (begins_or_on b published was one.ready now one.stage one.is_ready) as (λ _. LooksBack all after t.process j seen_by_then) [
           | inl begins ↦ LooksBack-begins begins j is
           | inr going_on ↦
               subst (LooksBack all after t.process j) (sym (ap (λ (c : CallerTerms). length c.pass.knows.seen) going_on.1))
@@ -206,13 +210,13 @@ module _ (b : BookTerms) (turns : List TurnMade) (t : TurnMade) (turned : Turned
     -- whether it goes on
     going-own : now.stage ≢ None → 0 < length (turns_of_call all t.process (answered_by t.process all))
     going-own going_on =
-        let still = still-IsTurned b t.process before turned was now one going_on in
+        let still = still-IsTurned b published turned was now one going_on in
         some-own turns t t.process (answered_by t.process all)
         (is_next_of-own turns t (answered_by t.process all) (omega (arith, answered_by-own, still.1)))
 
     making-own : now.stage ≢ None → LooksBack all after t.process (answered_by t.process all) (length now.pass.knows.seen)
     making-own going_on =
-        let still = still-IsTurned b t.process before turned was now one going_on in
+        let still = still-IsTurned b published turned was now one going_on in
         subst (LooksBack all after t.process (answered_by t.process all))
         (sym (ap (λ (pass : PassTerms). length pass.knows.seen) still.0))
         (LooksBack-own (answered_by t.process all) (omega (arith, answered_by-own, still.1)))
@@ -222,7 +226,7 @@ module _ (b : BookTerms) (turns : List TurnMade) (t : TurnMade) (turned : Turned
     HasLooked-own j is inside = record {
       length_between = seen_by_then;
       back = LooksBack-own j is;
-      ahead = λ placed. ahead-IsTurned b t.process before turned was now one j (omega (arith, is, were.counted t.process d own)) inside placed;
+      ahead = λ placed. ahead-IsTurned b published turned was now one j (omega (arith, is, were.counted t.process d own)) inside placed;
     }
 
   -- all callers
@@ -279,12 +283,25 @@ module _ (b : BookTerms) (turns : List TurnMade) (t : TurnMade) (turned : Turned
             (HasLooked-own d (omega (arith, within, here)) j number (subst (λ p. j < length (get_or after p d).receipts) here inside))
       ]
 
-  pub AreTimedTurns-push : AreTimedTurns all after
-  AreTimedTurns-push = record {
-    times = AreTimes-push turns t were.times;
-    counted = λ p d within. counted-turned p d (omega (arith, within, changes.count));
-    going = λ p d within going_on. going-turned p d (omega (arith, within, changes.count)) going_on;
-    each = λ p d within. each-turned p d (omega (arith, within, changes.count));
-    answered = λ q j d within inside. answered-turned q j d (omega (arith, within, changes.count)) inside;
-    making = λ q d within going_on. making-turned q d (omega (arith, within, changes.count)) going_on;
-  }
+  -- and what is published since then
+  module _ (published_now : List Publication) (grown : IsPrefix published published_now)
+      (own : (d : CallerTerms) → IsPrefix (get_or after t.process d).seat.knows.seen published_now) where
+    seen-turned : (p : ℕ) (d : CallerTerms) → p < length before → IsPrefix (get_or after p d).seat.knows.seen published_now
+    seen-turned p d within =
+        elim (cases_eq p t.process) as (λ _. IsPrefix (get_or after p d).seat.knows.seen published_now) [
+          | inl here ↦ subst (λ q. IsPrefix (get_or after q d).seat.knows.seen published_now) (sym here) (own d)
+          | inr other ↦
+              subst (λ (c : CallerTerms). IsPrefix c.seat.knows.seen published_now) (sym (changes.others p d other))
+              (IsPrefix-trans (get_or before p d).seat.knows.seen published published_now (were.seen p d within) grown)
+        ]
+
+    pub AreTimedTurns-push : AreTimedTurns all after published_now
+    AreTimedTurns-push = record {
+      times = AreTimes-push turns t were.times;
+      counted = λ p d within. counted-turned p d (omega (arith, within, changes.count));
+      going = λ p d within going_on. going-turned p d (omega (arith, within, changes.count)) going_on;
+      each = λ p d within. each-turned p d (omega (arith, within, changes.count));
+      seen = λ p d within. seen-turned p d (omega (arith, within, changes.count));
+      answered = λ q j d within inside. answered-turned q j d (omega (arith, within, changes.count)) inside;
+      making = λ q d within going_on. making-turned q d (omega (arith, within, changes.count)) going_on;
+    }

@@ -7,7 +7,7 @@ use Rattle.std.proofs.lemmas.List.Elements.{filter-append}
 use Rattle.std.proofs.lemmas.List.FromFn.{get_or-range_with_len, length-range_with_len}
 use Rattle.std.specs.List.{range_with_len}
 use Rattle.at_log.proofs.Laws.Buckets.{range_with_len-more}
-use Rattle.at_stepper.proofs.ReplayLaws.{answered_by-push}
+use Rattle.at_stepper.proofs.TurnCounts.{answered_by-push}
 use Rattle.at_stepper.specs.InTurns.{times_of, turn_at, turns_of_call}
 use Rattle.at_stepper.specs.Schedules.{answered_by}
 use Rattle.at_stepper.specs.declared.replaying.TurnMade.{TurnMade}

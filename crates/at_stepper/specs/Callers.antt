@@ -7,7 +7,8 @@ use Rattle.at_ledger.specs.declared.call.Reply.{Reply}
 use Rattle.at_ledger.specs.declared.call.Reply.TheVariants.{Balance, Done, Full, NotOwner, Short}
 use Rattle.at_history.specs.Fronts.{places_max}
 use Rattle.at_history.specs.Histories.{IsHistory}
-use Rattle.at_history.specs.Publications.{IsPrefix}
+use Rattle.at_history.specs.Publications.{IsPrefix, count_of}
+use Rattle.at_history.specs.declared.publication.Publication.{Publication}
 use Rattle.at_board.specs.Counting.{raised}
 use Rattle.at_board.specs.Knowledge.Seats.{SeatTerms}
 use Rattle.at_board.specs.declared.words.TheConstants.{RECORD_WORDS}
@@ -16,8 +17,8 @@ use Rattle.at_log.specs.InTime.{look_at}
 use Rattle.at_log.specs.declared.receipt.At.{At}
 use Rattle.at_log.specs.declared.receipt.Receipt.{Receipt}
 use Rattle.at_object.specs.BoundNumbers.{three_processes}
-use Rattle.at_object.specs.Passes.{PassTerms, Stands, asked_by, seat_of, sent_by}
-use Rattle.at_calling.specs.Calling.{IsCallWithin, IsWay, MakesCallStep, exchanges_made, exchanges_of, steps_made, steps_of}
+use Rattle.at_object.specs.Passes.{PassTerms, Stands, seat_of, sent_by}
+use Rattle.at_calling.specs.Calling.{IsCallWithin, IsWay, MakesCallStep, StartsFrom, exchanges_made, exchanges_of, publishes_of, steps_made, steps_of}
 use Rattle.at_object.specs.Calls.{CallMade, StaysWithin, call_steps}
 use Rattle.at_calling.specs.declared.call_stage.CallStage.{CallStage}
 use Rattle.at_stepper.specs.declared.turned.Turned.{Turned}
@@ -81,43 +82,32 @@ abbrev pub answers_in : Turned → ℕ
 answers_in Step = 0
 answers_in (Answer r) = 1
 
--- between two calls a caller has taken in what others have seen. It has made nothing
+-- between two calls a caller has seen more, and nothing else has changed: it has made nothing
 pub record HasLearned (before after : CallerTerms) : Type 0 where
   pub same : after ≡ record before { pass = after.pass; seat = seat_of after.pass }
-  pub pass_same : after.pass ≡ record before.pass { knows = after.pass.knows }
-  pub knows_same : after.pass.knows ≡ record before.pass.knows {
-    seen = after.pass.knows.seen;
-    requests = after.pass.knows.requests;
-    decisions = after.pass.knows.decisions;
-  }
+  pub pass_same : after.pass ≡ record before.pass { knows = record before.pass.knows { seen = after.pass.knows.seen } }
   pub begins : IsPrefix before.pass.knows.seen after.pass.knows.seen
-  pub process_is : after.pass.knows.first ≡ before.pass.knows.first
   pub sent : sent_by after.pass ≡ sent_by before.pass
-  pub asked : (a : ℕ) → asked_by after.pass a ≡ asked_by before.pass a
   pub stands : Stands after.pass after.receipts
 
--- all that this one has seen was seen by the other
-abbrev pub IsToldTo : CallerTerms → CallerTerms → Type 0
-IsToldTo teller listener = IsPrefix teller.seat.knows.seen listener.pass.knows.seen
-
--- the next call of a caller begins: of the other callers' seats it has taken in all that they have seen, and the call is made as its pass says.
--- No step was made
-pub record BeginsCall (b : BookTerms) (process : ℕ) (callers : List CallerTerms) (before ready : CallerTerms) (stage : CallStage) : Type 0 where
+-- the next call of a caller begins: it has seen just what is published by then, and the call is made as its pass says. No step was made
+pub record BeginsCall (b : BookTerms) (published : List Publication) (before ready : CallerTerms) (stage : CallStage) : Type 0 where
   pub learned : HasLearned (record before { stage = ready.stage }) ready
-  pub told : (q : ℕ) (d : CallerTerms) → q < length callers → q ≢ process → IsToldTo (slice_index_or callers q d) ready
+  pub seen : ready.pass.knows.seen ≡ published
   pub history : IsHistory ready.pass.knows.book ready.pass.knows.seen
   pub way : IsWay b ready.pass (next_call before) stage
+  pub starts : StartsFrom ready.pass.knows ready.totals stage
   pub unturned : steps_made stage ≡ 0
   pub unexchanged : exchanges_made stage ≡ 0
 
 -- what a turn of a process goes on from: the call in the making, or, between two calls, the next one, which begins with this turn
-abbrev pub IsReadyFrom : BookTerms → ℕ → List CallerTerms → CallerTerms → CallerTerms → CallStage → Option CallStage → Type 0
-IsReadyFrom b process callers before ready stage None = BeginsCall b process callers before ready stage
-IsReadyFrom b process callers before ready stage (Some going_on) = ready ≡ before
+abbrev pub IsReadyFrom : BookTerms → List Publication → CallerTerms → CallerTerms → CallStage → Option CallStage → Type 0
+IsReadyFrom b published before ready stage None = BeginsCall b published before ready stage
+IsReadyFrom b published before ready stage (Some going_on) = ready ≡ before
 
-pub record IsReadyToTurn (b : BookTerms) (process : ℕ) (callers : List CallerTerms) (before ready : CallerTerms) (stage : CallStage) : Type 0 where
+pub record IsReadyToTurn (b : BookTerms) (published : List Publication) (before ready : CallerTerms) (stage : CallStage) : Type 0 where
   pub stage_is : ready.stage ≡ Some stage
-  pub from : IsReadyFrom b process callers before ready stage before.stage
+  pub from : IsReadyFrom b published before ready stage before.stage
 
 -- the call goes on after one step, within its bounds so far. The pass with which it began stays, and so do the receipts
 pub record IsStillCalling (b : BookTerms) (before after : CallerTerms) (stage : CallStage) : Type 0 where
@@ -166,16 +156,21 @@ most_turns-shared = refl
 abbrev pub caller_turns_left : BookTerms → CallerTerms → ℕ
 caller_turns_left b t = sum_by (most_turns b) (drop (length t.receipts) t.calls) - steps_so_far t.stage
 
--- one turn of a process's caller, among these callers: from what it goes on from, just the step was made that came next
-pub record IsTurned (b : BookTerms) (process : ℕ) (callers : List CallerTerms) (turned : Turned) (before after : CallerTerms) : Type 0 where
+-- how many records of its process a caller's seat has seen: it has seen all that it has published
+abbrev pub own_seen : CallerTerms → ℕ
+own_seen t = count_of t.seat.knows.first t.seat.knows.seen
+
+-- one turn of a caller, where so much is published: from what it goes on from, just the step was made that came next
+pub record IsTurned (b : BookTerms) (published : List Publication) (turned : Turned) (before after : CallerTerms) : Type 0 where
   pub ready : CallerTerms
   pub stage : CallStage
-  pub is_ready : IsReadyToTurn b process callers before ready stage
+  pub is_ready : IsReadyToTurn b published before ready stage
   pub leaves : LeavesCaller b ready after stage turned
-  pub step : MakesCallStep b stage ready.seat after.seat after.totals
+  pub step : MakesCallStep b published stage ready.seat after.seat after.totals
   pub kind : steps_in turned ≡ steps_of stage
   pub steps : after.seat.steps ≡ raised before.seat.steps (steps_in turned)
   pub exchanges : after.seat.exchanges ≡ raised before.seat.exchanges (exchanges_of stage)
+  pub publishes : own_seen after ≡ own_seen before + publishes_of b stage
   pub calls : after.calls ≡ before.calls
   pub process_is : after.pass.knows.first ≡ before.pass.knows.first
   pub left : calls_left_of before ≡ calls_left_of after + answers_in turned

@@ -1,13 +1,19 @@
 -- Runs by turns: which turns lead to a run, when its calls begin and end, and what its journal is.
-use Rattle.std.specs.Prelude.{◌≡◌, ℕ, ◌-◌, ◌==◌, ◌&&◌, ◌++◌, false, List, [], ◌∷◌, filter, length, map, slice_index, slice_index_or, take}
+use Rattle.std.specs.Prelude.{◌≡◌, ◌≢◌, ℕ, ◌+◌, ◌-◌, ◌<◌, ◌≤◌, ◌==◌, ◌&&◌, ◌++◌, false, true, List, [], ◌∷◌, count_by, filter, if◌then◌else◌, length, map, slice_index, slice_index_or, take}
 use Rattle.std.specs.List.{range_with_len}
 use Rattle.at_journal.specs.Linearizable.{AreTimed, CallTimes, IsLinearizable}
 use Rattle.at_ledger.specs.Book.{BookTerms}
 use Rattle.at_ledger.specs.declared.call.Call.{Call}
 use Rattle.at_ledger.specs.declared.call.Line.{Line}
-use Rattle.at_log.specs.ClosingTerms.{ClosingTerms}
+use Rattle.at_history.specs.BoardState.{publication_at}
+use Rattle.at_history.specs.Publications.{publications_of}
+use Rattle.at_history.specs.declared.publication.Publication.{Publication}
+use Rattle.at_log.specs.ClosingTerms.{ClosingTerms, log_published, receipts_of}
 use Rattle.at_log.specs.Coherent.{Coherent}
+use Rattle.at_log.specs.InTime.{KeepsTime, look_at}
 use Rattle.at_log.specs.JournalOrder.{journal_lines}
+use Rattle.at_log.specs.Receipts.{receipt_at}
+use Rattle.at_log.specs.declared.receipt.At.{At}
 use Rattle.at_stepper.specs.Callers.{answers_in}
 use Rattle.at_stepper.specs.Schedules.{AreTurnsOf, answered_by}
 use Rattle.at_stepper.specs.Stepping.{IsNewStepper, IsOver, StepperTerms, TurnsOne}
@@ -15,18 +21,19 @@ use Rattle.at_stepper.specs.declared.replaying.Replayed.{Replayed}
 use Rattle.at_stepper.specs.declared.replaying.TurnMade.{TurnMade}
 use Rattle.at_stepper.specs.declared.turned.Turned.{Turned}
 
--- a turn says what was done
-pub record IsMadeAs (turned : Turned) (t : TurnMade) : Type 0 where
+-- a turn says what was done: whether it answered a call, and whether it published a record
+pub record IsMadeAs (turned : Turned) (before after : StepperTerms) (t : TurnMade) : Type 0 where
   pub answered : t.answered ≡ (answers_in turned == 1)
+  pub published : length after.published ≡ length before.published + (if t.published then 1 else 0)
 
 -- a new run of these files leads to this one by these turns, one after another
 pub data RunsTo (b : BookTerms) (files : List (List Call)) : List TurnMade → StepperTerms → Type 0 where
   starts : (s : StepperTerms) → IsNewStepper b files s → RunsTo b files [] s
   goes_on : (turns : List TurnMade) (before after : StepperTerms) (t : TurnMade) (turned : Turned) → RunsTo b files turns before
-      → TurnsOne t.process turned before after → IsMadeAs turned t → RunsTo b files (turns ++ t ∷ []) after
+      → TurnsOne t.process turned before after → IsMadeAs turned before after t → RunsTo b files (turns ++ t ∷ []) after
 
 abbrev pub turn_at : List TurnMade → ℕ → TurnMade
-turn_at turns m = slice_index_or turns m (record { process = 0; answered = false })
+turn_at turns m = slice_index_or turns m (record { process = 0; answered = false; published = false })
 
 -- the turns of a call, by their numbers from 0: those of its process after so many answers to it
 abbrev pub turns_of_call : List TurnMade → ℕ → ℕ → List ℕ
@@ -40,13 +47,41 @@ times_of turns = record {
   ended = λ p i. slice_index (turns_of_call turns p i) (length (turns_of_call turns p i) - 1);
 }
 
--- the lines are the journal of a run: those of a coherent closing of its receipts, in the order of its keys. Whatever turns led to the run, its
--- calls have their times, and the lines are linearizable
+-- how many records the first turns have published
+abbrev pub published_by_then : List TurnMade → ℕ → ℕ
+published_by_then turns m = count_by (λ t. t.published) (take m turns)
+
+-- the turns that publish have published this list, one record each in their order, which is of the turn's process
+pub record PublishInOrder (turns : List TurnMade) (published : List Publication) : Type 0 where
+  pub each : (m : ℕ) → m < length turns → (turn_at turns m).published ≡ true →
+      (publication_at published (published_by_then turns m)).process ≡ (turn_at turns m).process
+  pub all : published_by_then turns (length turns) ≡ length published
+
+-- at one moment from a call's first turn to its last, when so many turns were made, just so many records were published as its look counts
+pub record LooksWithin (turns : List TurnMade) (published : List Publication) (p i : ℕ) (at : At) : Type 0 where
+  pub moment : ℕ
+  pub begun : (times_of turns).begun p i ≤ moment
+  pub ended : moment ≤ (times_of turns).ended p i + 1
+  pub look : look_at p published at ≡ published_by_then turns moment
+
+-- these turns have made a closing of these records: they have published them in this order, and each call that isn't refused looks at just
+-- what was published at one of its moments
+pub record IsMadeByTurns (turns : List TurnMade) (published : List Publication) (c : ClosingTerms) : Type 0 where
+  pub published_are : PublishInOrder turns published
+  pub looks : (p i : ℕ) → p < length c.receipts → i < length (receipts_of c p) → (receipt_at (receipts_of c p) i).at ≢ At.Previous →
+      LooksWithin turns published p i (receipt_at (receipts_of c p) i).at
+
+-- the lines are the journal of a run: those of a coherent closing of its receipts and of what is published, in the order of its keys. Whatever
+-- turns led to the run, they have made the closing, its calls have their times, and the lines are linearizable
 pub record IsJournalOf (s : StepperTerms) (lines : List Line) : Type 0 where
   pub closing : ClosingTerms
   pub coherent : Coherent s.ledger.book closing
   pub receipts : closing.receipts ≡ map (λ caller. caller.receipts) s.callers
+  pub logs : (p : ℕ) → p < length s.callers → log_published closing p ≡ publications_of p s.published
+  pub in_time : KeepsTime s.published closing
   pub lines_are : lines ≡ journal_lines closing
+  pub scheduled : (b : BookTerms) (files : List (List Call)) (turns : List TurnMade) → RunsTo b files turns s →
+      IsMadeByTurns turns s.published closing
   pub timed : (b : BookTerms) (files : List (List Call)) (turns : List TurnMade) → RunsTo b files turns s → AreTimed closing (times_of turns)
   pub linearizable : (b : BookTerms) (files : List (List Call)) (turns : List TurnMade) → RunsTo b files turns s →
       IsLinearizable b files (times_of turns) lines

@@ -5,15 +5,16 @@ use Rattle.at_ledger.specs.declared.call.Call.{Call}
 use Rattle.at_board.specs.Knowledge.Seats.{SeatTerms}
 use Rattle.at_history.specs.Histories.{IsHistory}
 use Rattle.at_history.specs.Publications.{IsPrefix}
+use Rattle.at_history.specs.declared.publication.Publication.{Publication}
 use Rattle.at_log.specs.Receipts.{calls_of}
 use Rattle.at_log.specs.declared.receipt.Receipt.{Receipt}
 use Rattle.at_object.specs.Parted.{IsOfOnePass, pass_of}
 use Rattle.at_object.specs.Passes.{PassTerms, Stands, seat_of}
 use Rattle.at_board.specs.Counting.{raised}
 use Rattle.at_object.specs.declared.parts.Rest.{Rest}
-use Rattle.at_stepper.specs.Callers.{CallerTerms, IsFile, LeavesCaller, answers_in, caller_turns_left, calls_left_of, next_call, steps_in}
+use Rattle.at_stepper.specs.Callers.{CallerTerms, IsFile, LeavesCaller, answers_in, caller_turns_left, calls_left_of, next_call, own_seen, steps_in}
 use Rattle.at_stepper.specs.declared.turned.Turned.{Turned}
-use Rattle.at_calling.specs.Calling.{CallingTerms, IsWay, MakesCallStep, call_turns_left, exchanges_made, exchanges_of, pass_before, steps_made, steps_of}
+use Rattle.at_calling.specs.Calling.{CallingTerms, IsWay, MakesCallStep, StartsFrom, call_turns_left, exchanges_made, exchanges_of, pass_before, publishes_of, steps_made, steps_of}
 use Rattle.at_calling.specs.declared.call_stage.CallStage.{CallStage}
 
 -- the pass between calls, or with which the call in the making began, and what the next turn of that goes on with
@@ -72,16 +73,18 @@ pub record StartsNext (b : BookTerms) (before after : CallerTerms) : Type 0 wher
   pub same : after ≡ record before { stage = Some stage }
   pub history : IsHistory before.pass.knows.book before.pass.knows.seen
   pub way : IsWay b before.pass (next_call before) stage
+  pub starts : StartsFrom before.pass.knows before.totals stage
   pub unturned : steps_made stage ≡ 0
   pub unexchanged : exchanges_made stage ≡ 0
 
 -- just the next step was made of the call in the making, which is then answered or goes on
-pub record TakesTurn (b : BookTerms) (before after : CallerTerms) (turned : Turned) (stage : CallStage) : Type 0 where
+pub record TakesTurn (b : BookTerms) (published : List Publication) (before after : CallerTerms) (turned : Turned) (stage : CallStage) : Type 0 where
   pub leaves : LeavesCaller b before after stage turned
-  pub step : MakesCallStep b stage before.seat after.seat after.totals
+  pub step : MakesCallStep b published stage before.seat after.seat after.totals
   pub kind : steps_in turned ≡ steps_of stage
   pub steps : after.seat.steps ≡ raised before.seat.steps (steps_in turned)
   pub exchanges : after.seat.exchanges ≡ raised before.seat.exchanges (exchanges_of stage)
+  pub publishes : own_seen after ≡ own_seen before + publishes_of b stage
   pub calls : after.calls ≡ before.calls
   pub process_is : after.pass.knows.first ≡ before.pass.knows.first
   pub left : calls_left_of before ≡ calls_left_of after + answers_in turned

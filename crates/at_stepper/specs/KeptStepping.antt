@@ -1,16 +1,18 @@
 -- What the type of a run keeps of its fields, which no caller sees.
-use Rattle.std.specs.Prelude.{◌≡◌, ◌≢◌, ℕ, ◌^◌, ◌<◌, List, [], All, None, length, map, slice_index_or}
+use Rattle.std.specs.Prelude.{◌≡◌, ℕ, ◌^◌, ◌<◌, List, All, None, length, map, slice_index_or}
 use Rattle.at_ledger.specs.Book.{BookTerms}
 use Rattle.at_ledger.specs.declared.call.Call.{Call}
+use Rattle.at_history.specs.Publications.{ArePublishedBy, IsPrefix, count_of}
+use Rattle.at_history.specs.declared.publication.Publication.{Publication}
+use Rattle.at_board.specs.Knowledge.Overviews.{IsOverviewOf}
 use Rattle.at_board.specs.Knowledge.Seats.{BoardTerms, IsOf}
 use Rattle.at_log.specs.Receipts.{calls_of, lists_in}
 use Rattle.at_log.specs.declared.receipt.Receipt.{Receipt}
 use Rattle.at_object.specs.Closings.{AreAccountedFor, HasAllLogs}
 use Rattle.at_object.specs.Parted.{HasMemoryFor}
 use Rattle.at_object.specs.Passes.{IsPassOf, PassTerms, Stands, seat_of}
-use Rattle.at_stepper.specs.Callers.{CallerTerms, HasLearned, IsToldTo, IsTurned}
-use Rattle.at_stepper.specs.declared.turned.Turned.{Turned}
-use Rattle.at_stepper.specs.Stepping.{ChangesOne, IsOver, StepperTerms, files_of}
+use Rattle.at_stepper.specs.Callers.{CallerTerms}
+use Rattle.at_stepper.specs.Stepping.{IsOver, StepperTerms, files_of}
 use Rattle.at_stepper.specs.declared.caller.Start.{Start}
 use Rattle.at_stepper.specs.declared.progress.EndedRun.{EndedRun}
 use Rattle.at_stepper.specs.declared.progress.ClosedRun.{ClosedRun}
@@ -24,7 +26,7 @@ passes_in starts = map (λ (start : Start). start.pass) starts
 
 -- a run as callers see it
 abbrev pub stepper_terms : Run → StepperTerms
-stepper_terms run = record { ledger = run.ledger; callers = run.callers.items }
+stepper_terms run = record { ledger = run.ledger; callers = run.callers.items; published = run.overview.seen }
 
 -- the run that is made, or was made
 abbrev pub run_in : Progress → Run
@@ -37,6 +39,7 @@ pub record IsCallerOn (ledger : BoardTerms) (process : ℕ) (caller : CallerTerm
   pub seat : IsOf caller.seat ledger
   pub pass : IsPassOf caller.pass ledger
   pub process_is : caller.pass.knows.first ≡ process
+  pub seat_process : caller.seat.knows.first ≡ process
   pub stands : Stands caller.pass caller.receipts
   pub between : caller.stage ≡ None → seat_of caller.pass ≡ caller.seat
 
@@ -45,24 +48,34 @@ pub record AreCallersOn (ledger : BoardTerms) (callers : List CallerTerms) : Typ
   pub count : length callers ≡ ledger.book.processes
   pub each : (p : ℕ) (d : CallerTerms) → p < length callers → IsCallerOn ledger p (slice_index_or callers p d)
 
--- of some callers that of a process has learned, between two calls, what another has seen
-pub record HearsOne (process other : ℕ) (before after : List CallerTerms) : Type 0 where
-  pub changes : ChangesOne (λ was now. HasLearned was now) process before after
-  pub told : (d : CallerTerms) → other ≢ process → IsToldTo (slice_index_or before other d) (slice_index_or after process d)
+-- a list begins with all that each caller's seat has seen
+abbrev pub AreAllIn : List CallerTerms → List Publication → Type 0
+AreAllIn callers published = (p : ℕ) (d : CallerTerms) → p < length callers → IsPrefix (slice_index_or callers p d).seat.knows.seen published
 
--- or what all others have seen
-pub record HearsAll (process : ℕ) (before after : List CallerTerms) : Type 0 where
-  pub changes : ChangesOne (λ was now. HasLearned was now) process before after
-  pub told : (q : ℕ) (d : CallerTerms) → q < length before → q ≢ process →
-      IsToldTo (slice_index_or before q d) (slice_index_or after process d)
+-- and it has of each process just the records that its own seat has seen
+abbrev pub HaveJustTheirOwn : List CallerTerms → List Publication → Type 0
+HaveJustTheirOwn callers published = (p : ℕ) (d : CallerTerms) → p < length callers →
+    count_of p published ≡ count_of p (slice_index_or callers p d).seat.knows.seen
 
--- that of a process has made a turn
-abbrev pub TurnsCaller : BookTerms → ℕ → Turned → List CallerTerms → List CallerTerms → Type 0
-TurnsCaller b process turned before after = ChangesOne (IsTurned b process before turned) process before after
+-- what is published: all that the callers' seats have seen, and no more
+pub record IsAllPublished (b : BookTerms) (callers : List CallerTerms) (published : List Publication) : Type 0 where
+  pub seen : AreAllIn callers published
+  pub own : HaveJustTheirOwn callers published
+  pub known : ArePublishedBy b.processes published
+
+-- the callers of a run, and its overview of their seats
+pub record IsRunSo (run : Run) : Type 0 where
+  pub callers : AreCallersOn run.ledger run.callers.items
+  pub overview : IsOverviewOf run.overview run.ledger
+  pub published : IsAllPublished run.ledger.book run.callers.items run.overview.seen
 
 -- all calls of the run are answered by these receipts, which are the callers'
 pub record IsAnsweredBy (run : Run) (receipts : List (List Receipt)) : Type 0 where
   pub over : IsOver (stepper_terms run)
+  pub count : length run.callers.items ≡ run.ledger.book.processes
+  pub published : IsAllPublished run.ledger.book run.callers.items run.overview.seen
+  pub between : (p : ℕ) (d : CallerTerms) → p < length run.callers.items →
+      seat_of (slice_index_or run.callers.items p d).pass ≡ (slice_index_or run.callers.items p d).seat
   pub receipts_are : receipts ≡ map (λ caller. caller.receipts) (stepper_terms run).callers
   pub made : map calls_of receipts ≡ files_of (stepper_terms run)
   pub few : All (λ list. length list < 2 ^ 32) receipts
@@ -85,12 +98,13 @@ pub record IsClosedSo (over : ClosedRun) : Type 0 where
   pub logs : HasAllLogs (caller_passes over.run.value.callers.items) over.closed
 
 abbrev pub IsProgressSo : Progress → Type 0
-IsProgressSo (Running run) = AreCallersOn run.ledger run.callers.items
+IsProgressSo (Running run) = IsRunSo run
 IsProgressSo (Ended ended) = IsEndedSo ended
 IsProgressSo (Closed over) = IsClosedSo over
 
 -- all calls of the caller are answered: its receipts are of them, and stand with its pass
 pub record HasAnsweredAll (caller : CallerTerms) : Type 0 where
+  pub between : seat_of caller.pass ≡ caller.seat
   pub stands : Stands caller.pass caller.receipts
   pub counted : caller.pass.calls ≡ length caller.receipts
   pub made : calls_of caller.receipts ≡ caller.calls

@@ -2,16 +2,24 @@
 use Rattle.std.specs.Prelude.{◌≡◌, ℕ, ◌+◌, ◌++◌, List, [], length, slice_index, slice_index_or}
 use Rattle.at_ledger.specs.Book.{BookTerms}
 use Rattle.at_ledger.specs.declared.call.Call.{Call}
-use Rattle.at_stepper.specs.InTurns.{RunsTo}
+use Rattle.at_stepper.specs.InTurns.{IsMadeAs, RunsTo}
 use Rattle.at_stepper.specs.Schedules.{AreTurnsBy, AreTurnsOf, answered_by, rounds_of_turns}
-use Rattle.at_stepper.specs.Stepping.{IsNewStepper, StepperTerms, calls_left, files_of}
+use Rattle.at_stepper.specs.Stepping.{IsNewStepper, StepperTerms, TurnsOne, calls_left, files_of}
 use Rattle.at_stepper.specs.declared.replaying.TurnMade.{TurnMade}
+use Rattle.at_stepper.specs.declared.turned.Turned.{Turned}
 
 -- the run is of the same ledger, files and callers
 pub record IsSameRun (before after : StepperTerms) : Type 0 where
   pub ledger : after.ledger ≡ before.ledger
   pub files : files_of after ≡ files_of before
   pub count : length after.callers ≡ length before.callers
+
+-- a process has made a turn, and this says what it was
+pub record MakesTurn (process : ℕ) (before after : StepperTerms) (t : TurnMade) : Type 0 where
+  pub process_is : t.process ≡ process
+  pub turned : Turned
+  pub turns : TurnsOne t.process turned before after
+  pub made : IsMadeAs turned before after t
 
 -- so far the turns by these entries are made, they lead from a new run to this one, and to each process those calls are left that no turn of
 -- it has answered

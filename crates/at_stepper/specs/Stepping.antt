@@ -1,16 +1,21 @@
 -- Runs of the calls of all processes by turns.
-use Rattle.std.specs.Prelude.{◌≡◌, ◌≢◌, ℕ, ◌+◌, ◌<◌, List, length, map, slice_index, slice_index_or, sum_by}
+use Rattle.std.specs.Prelude.{◌≡◌, ◌≢◌, ◌⊎◌, ℕ, ◌+◌, ◌<◌, ◌++◌, List, [], ◌∷◌, Some, length, map, slice_index, slice_index_or, sum_by}
 use Rattle.at_ledger.specs.Book.{BookTerms}
 use Rattle.at_ledger.specs.declared.call.Call.{Call}
+use Rattle.at_history.specs.Publications.{IsPrefix, count_of}
+use Rattle.at_history.specs.declared.publication.Publication.{Publication}
 use Rattle.at_board.specs.Knowledge.Seats.{BoardTerms}
+use Rattle.at_calling.specs.Calling.{length_loaded}
+use Rattle.at_calling.specs.declared.call_stage.CallStage.{CallStage}
 use Rattle.at_object.specs.Passes.{IsNewPass}
 use Rattle.at_stepper.specs.Callers.{CallerTerms, IsNewCaller, IsTurned, answers_in, calls_left_of, caller_turns_left}
 use Rattle.at_stepper.specs.declared.turned.Turned.{Turned}
 
--- a run by its ledger and the callers of all processes, in order
+-- a run by its ledger, by the callers of all processes, in order, and by the records that are published on its board
 pub record StepperTerms : Type 0 where
   pub ledger : BoardTerms
   pub callers : List CallerTerms
+  pub published : List Publication
 
 -- the calls of each process
 abbrev pub files_of : StepperTerms → List (List Call)
@@ -44,6 +49,7 @@ pub record AreBegunCallers (ledger : BoardTerms) (files : List (List Call)) (cal
 pub record IsNewStepper (b : BookTerms) (files : List (List Call)) (s : StepperTerms) : Type 0 where
   pub book_is : s.ledger.book ≡ b
   pub callers : AreBegunCallers s.ledger files s.callers
+  pub unpublished : s.published ≡ []
 
 -- of some callers this one has changed so, and no other
 pub record ChangesOne (changes : CallerTerms → CallerTerms → Type 0) (process : ℕ) (before after : List CallerTerms) : Type 0 where
@@ -51,10 +57,24 @@ pub record ChangesOne (changes : CallerTerms → CallerTerms → Type 0) (proces
   pub here : (d : CallerTerms) → changes (slice_index_or before process d) (slice_index_or after process d)
   pub others : (q : ℕ) (d : CallerTerms) → q ≢ process → slice_index_or after q d ≡ slice_index_or before q d
 
+-- a process publishes nothing in its turn, or one record
+abbrev pub PublishesAtMostOne : ℕ → List Publication → List Publication → Type 0
+PublishesAtMostOne process before after = (after ≡ before) ⊎ ((x : Publication) × (x.process ≡ process) × (after ≡ before ++ x ∷ []))
+
+-- after a turn the process's seat has seen a part of what is published, with all records of its process. With a load of a length it has seen just
+-- what was published before the turn
+pub record SeesPublished (process : ℕ) (before after : List Publication) (caller : CallerTerms) (stage : CallStage) : Type 0 where
+  pub seen : IsPrefix caller.seat.knows.seen after
+  pub own : count_of process after ≡ count_of process caller.seat.knows.seen
+  pub loaded : (p : ℕ) → length_loaded stage ≡ Some p → caller.seat.knows.seen ≡ before
+
 -- the process has made a turn, and no other has. Whatever is scheduled, the turns come to an end
 pub record TurnsOne (process : ℕ) (turned : Turned) (before after : StepperTerms) : Type 0 where
   pub ledger : after.ledger ≡ before.ledger
-  pub changes : ChangesOne (IsTurned before.ledger.book process before.callers turned) process before.callers after.callers
+  pub changes : ChangesOne (IsTurned before.ledger.book before.published turned) process before.callers after.callers
+  pub publishes : PublishesAtMostOne process before.published after.published
+  pub sees : (d : CallerTerms) →
+      SeesPublished process before.published after.published (slice_index_or after.callers process d) (changes.here d).stage
   pub files : files_of after ≡ files_of before
   pub left : slice_index (calls_left before) process ≡ slice_index (calls_left after) process + answers_in turned
   pub others_left : (q : ℕ) → q ≢ process → slice_index (calls_left after) q ≡ slice_index (calls_left before) q

@@ -1,15 +1,18 @@
 //! What a run starts with.
 
-ghost use Rattle.std.specs.Prelude.{◌≡◌, ℕ, ◌<◌, All, IfOk, length, slice_index_or};
+ghost use Rattle.std.specs.Prelude.{◌≡◌, ℕ, ◌<◌, All, IfOk, [], length, slice_index_or};
+ghost use Rattle.at_board.specs.Knowledge.Overviews.{IsOverviewOf};
+ghost use Rattle.at_board.specs.Knowledge.Seats.{IsOf};
 ghost use Rattle.at_log.specs.Receipts.{lists_in};
 ghost use Rattle.at_object.specs.Parted.{HasMemoryFor};
 ghost use Rattle.at_object.specs.Passes.{AreNewPasses};
-ghost use Rattle.at_stepper.specs.Callers.{IsFile};
+ghost use Rattle.at_stepper.specs.Callers.{CallerTerms, IsFile};
 ghost use Rattle.at_stepper.specs.KeptStepping.{AreStartsFor, passes_in};
 ghost use Rattle.at_stepper.specs.Stepping.{AreBegunCallers};
 
 use crate::caller::{Caller, Start};
 use crate::run::Run;
+use at_board::Overview;
 use at_ledger::{Book, Call};
 use at_object::{Ledger, NoMemory, Pass};
 use std::alloc::Global;
@@ -65,8 +68,11 @@ pub(crate) fn run_of(memory: Memory, files: Vec<Vec<Call>>) -> Run
     requires rooms { AreStartsFor (lists_in files.items) memory.starts.items }
     requires known { All (IsFile (length memory.ledger.book.accounts)) (lists_in files.items) }
     requires room { HasMemoryFor memory.callers (length files.items) }
+    requires some { 0 < length files.items }
     ensures ledger { result.ledger ≡ memory.ledger }
     ensures callers { AreBegunCallers memory.ledger (lists_in files.items) result.callers.items }
+    ensures overview { IsOverviewOf result.overview memory.ledger }
+    ensures unpublished { result.overview.seen ≡ [] }
 {
     let Memory {
         ledger,
@@ -81,5 +87,21 @@ pub(crate) fn run_of(memory: Memory, files: Vec<Vec<Call>>) -> Run
         };
         callers.push_reserved(Caller::new(start, calls));
     }
-    Run { ledger, callers }
+    let overview = first_overview(&ledger, &mut callers);
+    Run {
+        ledger,
+        callers,
+        overview,
+    }
+}
+
+/// The overview of the first caller. Where no seat has seen anything yet, that is the overview of all.
+fn first_overview(ledger: &Ledger, callers: &mut [Caller]) -> Overview
+    requires some { 0 < length callers.old }
+    requires board { (d : CallerTerms) → IsOf (slice_index_or callers.old 0 d).seat ledger.now }
+    ensures seen { (d : CallerTerms) → result.seen ≡ (slice_index_or callers.old 0 d).seat.knows.seen }
+    ensures overview { IsOverviewOf result ledger.now }
+    ensures same { callers.new ≡ callers.old }
+{
+    callers[0].overview(ledger.board())
 }

@@ -1,20 +1,22 @@
 //! A process that makes its calls one after another, a step a turn.
 
-ghost use Rattle.std.specs.Prelude.{◌≡◌, ◌^◌, ◌<◌, ◌↔◌, ◌==◌, [], IfSome, IsSome, IsTrue, None, length};
+ghost use Rattle.std.specs.Prelude.{◌≡◌, ◌^◌, ◌<◌, ◌==◌, [], IfSome, IsSome, None, length};
+ghost use Rattle.at_history.specs.Publications.{IsPrefix};
+ghost use Rattle.at_board.specs.Knowledge.Overviews.{IsOverviewOf, TakesIn};
 ghost use Rattle.at_board.specs.Knowledge.Seats.{IsOf};
 ghost use Rattle.at_log.specs.Receipts.{calls_of};
 ghost use Rattle.at_object.specs.Parted.{HasMemoryFor};
-ghost use Rattle.at_object.specs.Passes.{IsPassOf, Stands};
-ghost use Rattle.at_stepper.specs.Callers.{HasLearned, IsFile, IsNewCaller, IsToldTo, calls_left_of};
+ghost use Rattle.at_object.specs.Passes.{IsPassOf, Stands, seat_of};
+ghost use Rattle.at_stepper.specs.Callers.{HasLearned, IsFile, IsNewCaller, IsTurned, calls_left_of, own_seen};
 ghost use Rattle.at_stepper.specs.KeptCallers.{StartsNext, TakesTurn};
 
 use crate::turned::Turned;
-use at_board::{Board, BoardSeat};
+use at_board::{Board, BoardSeat, Overview};
 use at_calling::Calling;
 use at_ledger::Call;
 use at_log::{At, Receipt};
 use at_machines::become_next;
-use at_object::{Pass, Rest, learn_from};
+use at_object::{Pass, Rest, learn_overview};
 use std::marker::Model;
 
 /// What a caller begins with: the pass of its process, and the memory for the receipts of its calls.
@@ -86,28 +88,76 @@ impl Caller {
         self.receipts.len() == self.calls.len()
     }
 
-    /// Whether the next turn begins a call.
-    pub(crate) fn is_between_calls(&self) -> bool
-        ensures { IsTrue result ↔ (self.now.stage ≡ None) }
+    /// Makes the next turn. Where no call is in the making, the next one begins with it, once the seat has seen all that the overview has.
+    pub(crate) fn next_turn(&mut self, board: &Board, overview: &mut Overview) -> Turned
+        requires board { IsOf self.old.seat board.now }
+        requires overview { IsOverviewOf overview.old board.now }
+        requires seen { IsPrefix self.old.seat.knows.seen overview.old.seen }
+        requires between { self.old.stage ≡ None → seat_of self.old.pass ≡ self.old.seat }
+        requires left { 0 < calls_left_of self.old }
+        ensures turned { IsTurned board.now.book overview.old.seen result self.old self.new }
+        ensures process { self.new.seat.knows.first ≡ self.old.seat.knows.first }
+        ensures stands { Stands self.new.pass self.new.receipts }
+        ensures between { self.new.stage ≡ None → seat_of self.new.pass ≡ self.new.seat }
+        ensures pass { IsPassOf self.old.pass board.now → IsPassOf self.new.pass board.now }
+        ensures board { IsOf self.new.seat board.now }
+        ensures same { overview.new ≡ overview.old }
     {
-        self.making.calling.is_none()
+        if self.making.calling.is_some() {
+            return self.turn(board, overview);
+        }
+        self.learn(board, overview);
+        self.begin(board);
+        self.turn(board, overview)
     }
 
-    /// Takes in all that the seat of another caller has seen, between two calls. It is no step.
-    pub(crate) fn learn_from(&mut self, board: &Board, other: &mut Caller)
+    /// Has an overview take in what the seat has seen. It is no step.
+    pub(crate) fn show(&mut self, board: &Board, overview: &mut Overview)
         requires board { IsOf self.old.seat board.now }
-        requires other { IsOf other.old.seat board.now }
+        requires overview { IsOverviewOf overview.old board.now }
+        ensures added { TakesIn board.now.book overview.old.seen self.old.seat.knows overview.new.seen }
+        ensures overview { IsOverviewOf overview.new board.now }
+        ensures same { self.new ≡ self.old }
+    {
+        board.add_to_overview(overview, &mut self.seat);
+    }
+
+    /// What the seat has seen, as an overview. It is no step.
+    pub(crate) fn overview(&mut self, board: &Board) -> Overview
+        requires board { IsOf self.old.seat board.now }
+        ensures seen { result.seen ≡ self.old.seat.knows.seen }
+        ensures board { IsOverviewOf result board.now }
+        ensures same { self.new ≡ self.old }
+    {
+        board.overview(&mut self.seat)
+    }
+
+    /// How many records the process has published.
+    pub(crate) fn published(&self) -> u32
+        ensures { result ≡ own_seen self.now }
+    {
+        self.seat.known();
+        self.seat.published()
+    }
+
+    /// Takes in all that an overview has, between two calls. It is no step.
+    fn learn(&mut self, board: &Board, overview: &mut Overview)
+        requires board { IsOf self.old.seat board.now }
+        requires overview { IsOverviewOf overview.old board.now }
+        requires seen { IsPrefix self.old.seat.knows.seen overview.old.seen }
         requires between { self.old.stage ≡ None }
         ensures learned { HasLearned self.old self.new }
-        ensures told { IsToldTo other.old self.new }
+        ensures own { own_seen self.new ≡ own_seen self.old }
+        ensures process { self.new.seat.knows.first ≡ self.old.seat.knows.first }
+        ensures seen { self.new.pass.knows.seen ≡ overview.old.seen }
         ensures board { IsOf self.new.seat board.now }
-        ensures same { other.new ≡ other.old }
+        ensures same { overview.new ≡ overview.old }
     {
-        learn_from(board, &mut self.seat, &self.rest, &mut other.seat);
+        learn_overview(board, &mut self.seat, &self.rest, overview);
     }
 
     /// Begins the next call, in no step. It is made as the pass says.
-    pub(crate) fn begin(&mut self, board: &Board)
+    fn begin(&mut self, board: &Board)
         requires board { IsOf self.old.seat board.now }
         requires between { self.old.stage ≡ None }
         requires left { 0 < calls_left_of self.old }
@@ -120,19 +170,23 @@ impl Caller {
     }
 
     /// Makes the next step of the call in the making. Where this ends the call, its receipt is kept and answered.
-    pub(crate) fn turn(&mut self, board: &Board) -> Turned
+    fn turn(&mut self, board: &Board, overview: &mut Overview) -> Turned
         requires board { IsOf self.old.seat board.now }
+        requires overview { IsOverviewOf overview.old board.now }
         requires in_making { IsSome self.old.stage }
         ensures turned { IfSome self.old.stage
-            (TakesTurn board.now.book self.old self.new result) }
+            (TakesTurn board.now.book overview.old.seen self.old self.new result) }
+        ensures process { self.new.seat.knows.first ≡ self.old.seat.knows.first }
         ensures pass { IsPassOf self.old.pass board.now → IsPassOf self.new.pass board.now }
         ensures board { IsOf self.new.seat board.now }
+        ensures same { overview.new ≡ overview.old }
     {
+        self.seat.known();
         let Some(calling) = &mut self.making.calling else {
             // A call is in the making.
             unreachable!()
         };
-        let made = calling.turn(board, &mut self.seat, &mut self.rest);
+        let made = calling.turn(board, &mut self.seat, overview, &mut self.rest);
         self.seat.known();
         let Some(receipt) = made else {
             return Turned::Step;
@@ -148,6 +202,7 @@ impl Caller {
         requires { calls_left_of self ≡ 0 }
         ensures pass { result.0 ≡ self.pass }
         ensures receipts { result.1.items ≡ self.receipts }
+        ensures between { seat_of self.pass ≡ self.seat }
         ensures stands { Stands self.pass self.receipts }
         ensures counted { self.pass.calls ≡ length self.receipts }
         ensures made { calls_of self.receipts ≡ self.calls }

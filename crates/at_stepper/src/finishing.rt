@@ -6,7 +6,7 @@ ghost use Rattle.at_log.specs.Receipts.{lists_in};
 ghost use Rattle.at_object.specs.Parted.{HasMemoryFor};
 ghost use Rattle.at_stepper.specs.Callers.{CallerTerms, calls_left_of};
 ghost use Rattle.at_stepper.specs.InTurns.{IsJournalOf};
-ghost use Rattle.at_stepper.specs.KeptStepping.{AreCallersOn, AreSplit, IsClosedSo, IsEndedSo, IsProgressSo, run_in, stepper_terms};
+ghost use Rattle.at_stepper.specs.KeptStepping.{AreSplit, IsClosedSo, IsEndedSo, IsProgressSo, IsRunSo, run_in, stepper_terms};
 ghost use Rattle.at_stepper.specs.Stepping.{IsOver, files_of};
 
 use crate::caller::Caller;
@@ -93,7 +93,7 @@ fn finish_closed(alloc: Global, over: ClosedRun) -> Result<Vec<Line>, FinishRefu
 
 /// Puts the passes and the receipts of a run together, for which all memory is taken first. Where there is none the run comes back.
 fn ended(alloc: Global, run: Run) -> Result<EndedRun, Run>
-    requires callers { AreCallersOn run.ledger run.callers.items }
+    requires run { IsRunSo run }
     requires over { IsOver (stepper_terms run) }
     ensures ended { IfOk result IsEndedSo }
     ensures run { IfOk result (λ ended. ended.run.value ≡ run) }
@@ -103,7 +103,11 @@ fn ended(alloc: Global, run: Run) -> Result<EndedRun, Run>
         return Err(run);
     };
     let was = Snapshot::of(&run);
-    let Run { ledger, callers } = run;
+    let Run {
+        ledger,
+        callers,
+        overview: _,
+    } = run;
     let (passes, receipts) = parts(callers, passes, receipts);
     Ok(EndedRun {
         ledger,

@@ -14,11 +14,12 @@ use at_ledger::{Book, Call, Line};
 use at_object::NoMemory;
 use std::alloc::{AllocError, Global};
 
-/// A turn of a process, and whether it answered a call.
+/// A turn of a process, whether it answered a call, and whether it published a record.
 #[derive(Drop)]
 pub struct TurnMade {
     pub process: u32,
     pub answered: bool,
+    pub published: bool,
 }
 
 /// What a run by a schedule leaves: its journal, and its turns in order. They tell when each call began and ended.
@@ -142,7 +143,6 @@ fn turn_unless_idle(
     if stepper.idle(process) {
         return Ok(());
     }
-    let answered = stepper.turn(process).is_answer();
-    turns.push(TurnMade { process, answered })?;
+    turns.push(stepper.make_turn(process))?;
     Ok(())
 }

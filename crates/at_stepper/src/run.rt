@@ -1,21 +1,23 @@
 //! What a run is made with.
 
-ghost use Rattle.std.specs.Prelude.{◌≡◌, ◌≢◌, ◌<◌, ◌==◌, None, length, slice_index, slice_index_or};
-ghost use Rattle.at_board.specs.Knowledge.Seats.{IsOf};
-ghost use Rattle.at_stepper.specs.Callers.{CallerTerms, calls_left_of};
-ghost use Rattle.at_stepper.specs.KeptStepping.{AreCallersOn, HearsAll, HearsOne, TurnsCaller, stepper_terms};
+ghost use Rattle.std.specs.Prelude.{◌≡◌, ◌<◌, ◌==◌, length, slice_index};
+ghost use Rattle.at_board.specs.Knowledge.Overviews.{IsOverviewOf};
+ghost use Rattle.at_stepper.specs.KeptStepping.{AreAllIn, AreCallersOn, HaveJustTheirOwn, IsRunSo, stepper_terms};
+ghost use Rattle.at_stepper.specs.Replays.{MakesTurn};
 ghost use Rattle.at_stepper.specs.Stepping.{TurnsOne, calls_left};
 
 use crate::caller::Caller;
+use crate::replaying::TurnMade;
 use crate::turned::Turned;
-use at_board::Board;
+use at_board::{Board, Overview};
 use at_object::Ledger;
 
-/// The ledger, and the callers of all processes, in order.
+/// The ledger, the callers of all processes, in order, and what their seats have seen, put together: that is all that is published.
 #[derive(Drop)]
 pub(crate) struct Run {
     pub(crate) ledger: Ledger,
     pub(crate) callers: Vec<Caller>,
+    pub(crate) overview: Overview,
 }
 
 impl Run {
@@ -27,88 +29,49 @@ impl Run {
         self.callers[process as usize].is_idle()
     }
 
-    /// Makes the process's next turn. Where this begins a call, the process's seat takes in first what all other seats have seen.
+    /// Makes the process's next turn. Where this begins a call, the process's seat has seen first what all seats have.
     pub(crate) fn turn(&mut self, process: u32) -> Turned
-        requires callers { AreCallersOn self.old.ledger self.old.callers.items }
+        requires run { IsRunSo self.old }
         requires left { 0 < slice_index (calls_left (stepper_terms self.old)) process }
         ensures turned { TurnsOne process result (stepper_terms self.old) (stepper_terms self.new) }
-        ensures callers { AreCallersOn self.new.ledger self.new.callers.items }
+        ensures run { IsRunSo self.new }
     {
         let board = self.ledger.board();
-        let process = process as usize;
-        if self.callers[process].is_between_calls() {
-            return first_turn(board, &mut self.callers, process);
+        let caller = &mut self.callers[process as usize];
+        let turned = caller.next_turn(board, &mut self.overview);
+        caller.show(board, &mut self.overview);
+        show_all(board, &mut self.callers, &mut self.overview);
+        turned
+    }
+
+    /// The same turn, by what it has done.
+    pub(crate) fn make_turn(&mut self, process: u32) -> TurnMade
+        requires run { IsRunSo self.old }
+        requires left { 0 < slice_index (calls_left (stepper_terms self.old)) process }
+        ensures made { MakesTurn process (stepper_terms self.old) (stepper_terms self.new) result }
+        ensures run { IsRunSo self.new }
+    {
+        let before = self.callers[process as usize].published();
+        let answered = self.turn(process).is_answer();
+        let published = before < self.callers[process as usize].published();
+        TurnMade {
+            process,
+            answered,
+            published,
         }
-        self.callers[process].turn(board)
     }
 }
 
-/// Makes the first turn of a process's next call. The process has seen then all that the others have.
-fn first_turn(board: &Board, callers: &mut [Caller], process: usize) -> Turned
+/// Has an overview take in each seat once more, which it has already: so it has of each process just the records that its own seat has.
+fn show_all(board: &Board, callers: &mut [Caller], overview: &mut Overview)
     requires callers { AreCallersOn board.now callers.old }
-    requires within { process < length callers.old }
-    requires between { (d : CallerTerms) → (slice_index_or callers.old process d).stage ≡ None }
-    requires left { (d : CallerTerms) → 0 < calls_left_of (slice_index_or callers.old process d) }
-    ensures turned { TurnsCaller board.now.book process result callers.old callers.new }
-    ensures callers { AreCallersOn board.now callers.new }
+    requires overview { IsOverviewOf overview.old board.now }
+    requires seen { AreAllIn callers.old overview.old.seen }
+    ensures own { HaveJustTheirOwn callers.old overview.old.seen }
+    ensures same { overview.new ≡ overview.old }
+    ensures callers { callers.new ≡ callers.old }
 {
-    hear_all(board, callers, process);
-    let caller = &mut callers[process];
-    caller.begin(board);
-    caller.turn(board)
-}
-
-/// Has the seat of a process take in what all others have seen, between two calls.
-fn hear_all(board: &Board, callers: &mut [Caller], process: usize)
-    requires callers { AreCallersOn board.now callers.old }
-    requires within { process < length callers.old }
-    requires between { (d : CallerTerms) → (slice_index_or callers.old process d).stage ≡ None }
-    ensures heard { HearsAll process callers.old callers.new }
-    ensures callers { AreCallersOn board.now callers.new }
-{
-    for other in 0..callers.len() {
-        hear(board, callers, process, other);
+    for process in 0..callers.len() {
+        callers[process].show(board, overview);
     }
-}
-
-/// Has the seat of a process take in what another's has seen. What its own has seen is there.
-fn hear(board: &Board, callers: &mut [Caller], process: usize, other: usize)
-    requires callers { AreCallersOn board.now callers.old }
-    requires within { process < length callers.old }
-    requires other { other < length callers.old }
-    requires between { (d : CallerTerms) → (slice_index_or callers.old process d).stage ≡ None }
-    ensures heard { HearsOne process other callers.old callers.new }
-    ensures callers { AreCallersOn board.now callers.new }
-{
-    if other < process {
-        hear_earlier(board, callers, process, other);
-    } else if process < other {
-        hear_later(board, callers, process, other);
-    }
-}
-
-/// The other process stands before this one.
-fn hear_earlier(board: &Board, callers: &mut [Caller], process: usize, other: usize)
-    requires callers { AreCallersOn board.now callers.old }
-    requires within { process < length callers.old }
-    requires other { other < process }
-    requires between { (d : CallerTerms) → (slice_index_or callers.old process d).stage ≡ None }
-    ensures heard { HearsOne process other callers.old callers.new }
-    ensures callers { AreCallersOn board.now callers.new }
-{
-    let (front, back) = callers.split_at_mut(process);
-    back[0].learn_from(board, &mut front[other]);
-}
-
-/// The other process stands behind this one.
-fn hear_later(board: &Board, callers: &mut [Caller], process: usize, other: usize)
-    requires callers { AreCallersOn board.now callers.old }
-    requires within { other < length callers.old }
-    requires other { process < other }
-    requires between { (d : CallerTerms) → (slice_index_or callers.old process d).stage ≡ None }
-    ensures heard { HearsOne process other callers.old callers.new }
-    ensures callers { AreCallersOn board.now callers.new }
-{
-    let (front, back) = callers.split_at_mut(other);
-    front[process].learn_from(board, &mut back[0]);
 }

@@ -3,10 +3,12 @@
 ghost use Rattle.std.specs.Prelude.{◌≡◌, ◌<◌, ◌==◌, All, IfErr, IfOk, length, slice_index};
 ghost use Rattle.at_log.specs.Receipts.{lists_in};
 ghost use Rattle.at_stepper.specs.Callers.{IsFile};
+ghost use Rattle.at_stepper.specs.Replays.{MakesTurn};
 ghost use Rattle.at_stepper.specs.Stepping.{IsNewStepper, TurnsOne, calls_left};
 
 use crate::beginning::{memory_for, run_of};
 use crate::progress::Progress;
+use crate::replaying::TurnMade;
 use crate::turned::Turned;
 use at_ledger::{Book, Call};
 use std::alloc::Global;
@@ -45,6 +47,7 @@ impl Stepper {
         ensures ok { IfOk result (IsNewStepper book.now (lists_in files.items)) }
         ensures refused { IfErr result (λ r. r.files.items ≡ files.items) }
     {
+        book.known();
         let Ok(memory) = memory_for(alloc, book, files.as_slice()) else {
             return Err(StepperRefused { files });
         };
@@ -65,15 +68,26 @@ impl Stepper {
     }
 
     /// Makes the process's next turn: one step of the board, or none where its call is answered not-owner or full. The first turn of a call
-    /// begins it: the process's seat takes in before, in no step, all that the seats of the others have seen. Its last turn answers
-    /// its receipt. The work is that of one step, of a copy of the receipt where there is one, and of a look at each seat where a call
-    /// begins. It takes no memory.
+    /// begins it: the process's seat has seen before, in no step, all that is published. Its last turn answers its receipt. The work is that
+    /// of one step, of a copy of the receipt where there is one, and of a look at what each seat has seen. It takes no memory.
     pub fn turn(&mut self, process: u32) -> Turned
         requires left { 0 < slice_index (calls_left self.old) process }
         ensures turned { TurnsOne process result self.old self.new }
     {
         match &mut self.progress {
             Progress::Running(run) => run.turn(process),
+            // All calls of such a run are answered.
+            Progress::Ended(_) | Progress::Closed(_) => unreachable!(),
+        }
+    }
+
+    /// The same turn, by what it has done.
+    pub(crate) fn make_turn(&mut self, process: u32) -> TurnMade
+        requires left { 0 < slice_index (calls_left self.old) process }
+        ensures { MakesTurn process self.old self.new result }
+    {
+        match &mut self.progress {
+            Progress::Running(run) => run.make_turn(process),
             // All calls of such a run are answered.
             Progress::Ended(_) | Progress::Closed(_) => unreachable!(),
         }

@@ -1,13 +1,15 @@
 use Rattle.std.proofs.Common.{◌≡◌, ◌∙◌, ℕ, ◌+◌, ◌<◌, ◌≤◌, ◌++◌, ◌∷◌, [], List, Vec, Global, ap, arith, drop, get_or, length, map, refl, subst, sym, take}
 use Rattle.std.proofs.lemmas.Grind.{common_steps}
-use Rattle.std.proofs.lemmas.List.{length-drop, length-map, length_push}
+use Rattle.std.proofs.lemmas.List.{length-drop, length-map, length_push, with_items_is}
+use Rattle.at_board.specs.Knowledge.Seats.{IsOf}
 use Rattle.at_ledger.specs.declared.call.Call.{Call}
 use Rattle.at_log.specs.Receipts.{lists_in}
-use Rattle.at_stepper.proofs.SteppingLaws.{AreBegunCallers-all, HasRoom-next, IsFile-next, IsNewPass-next, calls-next, made-next, rest_next}
+use Rattle.at_stepper.proofs.SteppingLaws.{AreBegunCallers-all, HasRoom-next, IsFile-next, IsNewPass-next, IsOf-begun, calls-next, made-next, rest_next, seen-begun}
+use Rattle.at_stepper.proofs.TurnCounts.{some_of}
 use Rattle.at_stepper.proofs.beginning.run_of.Goals as goal
 use Rattle.at_ledger.specs.Book.{BookTerms}
 use Rattle.at_stepper.specs.Callers.{CallerTerms, IsFile}
-use Rattle.at_stepper.specs.Stepping.{IsBegunCaller}
+use Rattle.at_stepper.specs.Stepping.{AreBegunCallers, IsBegunCaller}
 
 pub new-requires-clause-stands : goal.new-requires-clause-stands
 new-requires-clause-stands c =
@@ -72,6 +74,23 @@ loop-calls-preserved c =
       room = omega (arith, kept.room, c.push_reserved.ensures.len, c.push_reserved.ensures.capacity, c.in-Some.ensures.steps.1);
     }
 
+pub first_overview-overview-requires-clause-board : goal.first_overview-overview-requires-clause-board
+first_overview-overview-requires-clause-board c d =
+    let files = c.args.files.items in
+    let callers = c.loop-calls.callers.items in
+    let none : c.loop-calls.calls-iterator.rest.items ≡ [] = grind (arith, common_steps) in
+    let all : length (lists_in files) ≤ length callers =
+    omega (
+      arith,
+      length-map files (λ (f : Vec Call Global). f.items),
+      length-drop (length callers) files,
+      ap (λ (fs : List (Vec Call Global)). length fs) (sym c.loop-calls.invariant.files ∙ none),
+    ) in
+    let begun = AreBegunCallers-all c.args.memory.ledger (lists_in files) callers all c.loop-calls.invariant.calls c.loop-calls.invariant.made in
+    let some : 0 < length (lists_in files) = omega (arith, c.requires.some, length-map files (λ (f : Vec Call Global). f.items)) in
+    subst (λ (cs : List CallerTerms). IsOf (get_or cs 0 d).seat c.args.memory.ledger) (sym c.deref_mut.ensures.value)
+    (IsOf-begun c.args.memory.ledger (lists_in files) callers d begun some)
+
 pub returns : goal.returns
 returns c =
     let files = c.args.files.items in
@@ -84,7 +103,17 @@ returns c =
       length-drop (length callers) files,
       ap (λ (fs : List (Vec Call Global)). length fs) (sym c.loop-calls.invariant.files ∙ none),
     ) in
+    let begun = AreBegunCallers-all c.args.memory.ledger (lists_in files) callers all c.loop-calls.invariant.calls c.loop-calls.invariant.made in
+    let some : 0 < length (lists_in files) = omega (arith, c.requires.some, length-map files (λ (f : Vec Call Global). f.items)) in
+    let told = c.first_overview-overview.ensures in
+    let d = some_of callers 0 (omega (arith, some, all)) in
+    let items = with_items_is c.loop-calls.callers c.first_overview-overview.new.callers (ap (λ (cs : List CallerTerms). length cs) told.same ∙ c.deref_mut.ensures.len)
+    ∙ (told.same ∙ c.deref_mut.ensures.value) in
     record {
       ledger = refl;
-      callers = AreBegunCallers-all c.args.memory.ledger (lists_in files) callers all c.loop-calls.invariant.calls c.loop-calls.invariant.made;
+      callers = subst (λ (cs : List CallerTerms). AreBegunCallers c.args.memory.ledger (lists_in files) cs) (sym items) begun;
+      overview = told.overview;
+      unpublished = told.seen d
+          ∙ (ap (λ (cs : List CallerTerms). (get_or cs 0 d).seat.knows.seen) c.deref_mut.ensures.value
+          ∙ seen-begun c.args.memory.ledger (lists_in files) callers d begun some);
     }

@@ -18,11 +18,14 @@ returns-clause-ended c =
     record {
       answered = subst (λ (run : Run). IsAnsweredBy run lists) (sym c.of-was.ensures) (record {
         over = c.requires.over;
+        count = c.requires.run.callers.count;
+        published = c.requires.run.published;
+        between = λ p d within. (split.all p d within).between;
         receipts_are = split.receipts_are;
         made = ap (map calls_of) split.receipts_are ∙ calls_of-answered callers split.all;
         few = subst (All (λ (rs : List Receipt). length rs < 2 ^ 32)) (sym split.receipts_are) (few-answered callers split.all);
       });
       passes_are = split.passes_are ∙ sym (ap (λ (run : Run). caller_passes run.callers.items) c.of-was.ensures);
-      accounted = AreAccountedFor-split c.args.run.ledger callers c.parts-passes.result.0.items lists c.requires.callers split;
+      accounted = AreAccountedFor-split c.args.run.ledger callers c.parts-passes.result.0.items lists c.requires.run.callers split;
       ledger_is = sym (ap (λ (run : Run). run.ledger) c.of-was.ensures);
     }

@@ -1,10 +1,10 @@
-use Rattle.std.proofs.Common.{◌≡◌, ◌∙◌, List, ap, map, subst, sym}
+use Rattle.std.proofs.Common.{◌∙◌, ap, subst, sym}
 use Rattle.at_journal.specs.Calls.{calls_in}
-use Rattle.at_journal.specs.Linearizable.{AreTimed, CallTimes, IsLinearizable}
+use Rattle.at_journal.specs.Linearizable.{AreTimed, IsLinearizable}
 use Rattle.at_ledger.specs.Book.{BookTerms}
 use Rattle.at_log.specs.ClosingTerms.{ClosingTerms}
-use Rattle.at_log.specs.Coherent.{Coherent}
 use Rattle.at_log.specs.JournalOrder.{journal_lines}
+use Rattle.at_stepper.proofs.ClosedLaws.{published-closed}
 use Rattle.at_stepper.proofs.JournalLaws.{IsJournalOf-closed}
 use Rattle.at_stepper.specs.KeptStepping.{stepper_terms}
 use Rattle.at_stepper.proofs.finishing.finish_closed.Goals as goal
@@ -18,6 +18,8 @@ returns-in-Ok-clause-journal c =
     IsJournalOf-closed (stepper_terms over.run.value) over.closed c.in-Ok.lines.items c.requires.logs c.closing.ensures.coherent c.requires.book_is
     c.requires.answered.receipts_are c.requires.answered.made
     (made.lines ∙ ap journal_lines closing)
+    (published-closed (stepper_terms over.run.value) over.closed c.requires.logs c.requires.book_is c.requires.answered.count
+    c.requires.answered.published c.requires.answered.between)
     (λ times timed.
     subst (λ (b : BookTerms). IsLinearizable b (calls_in over.closed.closing) times c.in-Ok.lines.items) book
     (subst (λ (x : ClosingTerms). IsLinearizable c.book.result.now (calls_in x) times c.in-Ok.lines.items) closing

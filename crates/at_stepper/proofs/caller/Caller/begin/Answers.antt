@@ -46,7 +46,7 @@ invariant_of-self c =
     (vec_capacity c.self.inside.receipts)) (sym (begun c))
     (IsCallerOf-begun c.args.board.now.book c.self.inside.seat c.self.inside.rest c.self.inside.calls.items c.self.inside.receipts.items
     (vec_capacity c.self.inside.receipts) (kept c) (book c) c.known.ensures.seat (more c) c.start.result (next c) told.start told.was told.mark
-    told.rest (subst (λ (call : Call). IsWay c.args.board.now.book (pass_of c.self.inside.seat c.self.inside.rest) call c.start.result.stage) (sym told.call) told.way) told.turns told.exchanges told.left)
+    told.rest (subst (λ (call : Call). IsWay c.args.board.now.book (pass_of c.self.inside.seat c.self.inside.rest) call c.start.result.stage) (sym told.call) told.way) told.turns told.exchanges told.left told.starts)
 
 pub returns : goal.returns
 returns c =
@@ -59,4 +59,4 @@ returns c =
     ∙ c.self.view_is)
     (StartsNext-begun c.args.board.now.book c.self.inside.seat c.self.inside.rest c.self.inside.calls.items c.self.inside.receipts.items
     (vec_capacity c.self.inside.receipts) (kept c) (book c) c.known.ensures.seat (more c) c.start.result (next c) told.start told.was told.mark
-    told.rest (subst (λ (call : Call). IsWay c.args.board.now.book (pass_of c.self.inside.seat c.self.inside.rest) call c.start.result.stage) (sym told.call) told.way) told.turns told.exchanges told.left))
+    told.rest (subst (λ (call : Call). IsWay c.args.board.now.book (pass_of c.self.inside.seat c.self.inside.rest) call c.start.result.stage) (sym told.call) told.way) told.turns told.exchanges told.left told.starts))

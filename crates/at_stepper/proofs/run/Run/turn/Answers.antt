@@ -1,56 +1,97 @@
-use Rattle.std.proofs.Common.{◌≡◌, ◌∙◌, ◌<◌, IfSome, List, None, ap, get_or, length, subst, sym}
-use Rattle.std.proofs.lemmas.List.{get_or_default, with_items_is}
-use Rattle.at_stepper.specs.Stepping.{TurnsOne}
-use Rattle.at_board.specs.Knowledge.Seats.{BoardTerms, IsOf}
-use Rattle.at_object.specs.Passes.{IsPassOf}
-use Rattle.at_stepper.proofs.HearingLaws.{AreCallersOn-turned, IfSome-some, TurnsOne-turned, some_stage}
-use Rattle.at_stepper.proofs.SteppingLaws.{TurnsOne-caller, known-calls_left}
+use Rattle.std.proofs.Common.{◌∙◌, ◌<◌, List, ap, length, set, subst, sym}
+use Rattle.std.proofs.lemmas.List.{with_items_is}
+use Rattle.std.specs.Vec.{with_item}
+use Rattle.at_board.specs.Knowledge.Overviews.{IsOverviewOf, OverviewTerms}
+use Rattle.at_board.specs.Knowledge.Seats.{BoardTerms}
+use Rattle.at_history.specs.Publications.{IsPrefix}
+use Rattle.at_stepper.proofs.RunLaws.{AreAllIn-shown, AreCallersOn-shown, IsAllPublished-shown, TurnsOne-shown}
+use Rattle.at_stepper.proofs.SteppingLaws.{known-calls_left}
 use Rattle.at_stepper.specs.Callers.{CallerTerms}
-use Rattle.at_stepper.specs.KeptCallers.{TakesTurn}
-use Rattle.at_stepper.specs.KeptStepping.{TurnsCaller}
+use Rattle.at_stepper.specs.KeptStepping.{AreAllIn, AreCallersOn, HaveJustTheirOwn, IsAllPublished}
+use Rattle.at_stepper.specs.Stepping.{TurnsOne}
 use Rattle.at_stepper.proofs.run.Run.turn.Goals as goal
 
-pub returns-then-is_between_calls-clause-turned : goal.returns-then-is_between_calls-clause-turned
-returns-then-is_between_calls-clause-turned c =
-    let ledger : BoardTerms = c.args.self.now.ledger in
+pub next_turn-turned-requires-clause-seen : goal.next_turn-turned-requires-clause-seen
+next_turn-turned-requires-clause-seen c =
+    let callers = c.args.self.now.callers.items in
+    let within : c.args.process < length callers = known-calls_left callers c.args.process c.requires.left in
+    subst (λ (x : CallerTerms). IsPrefix x.seat.knows.seen c.args.self.now.overview.seen) (sym c.index_mut-caller.ensures.value)
+    (c.requires.run.published.seen c.args.process c.index_mut-caller.result.now within)
+
+pub show_all-requires-clause-callers : goal.show_all-requires-clause-callers
+show_all-requires-clause-callers c =
     let callers = c.args.self.now.callers.items in
     let p = c.args.process in
-    let items = with_items_is c.args.self.now.callers c.first_turn.new.callers (c.first_turn.ensures.turned.count ∙ c.deref_mut.ensures.len) in
-    subst (λ (cs : List CallerTerms). TurnsOne p c.first_turn.result (record { ledger = ledger; callers = callers }) (record { ledger = ledger; callers = cs }))
-    (sym items)
-    (TurnsOne-caller ledger callers c.first_turn.new.callers p c.first_turn.result (known-calls_left callers p c.requires.left)
-    (subst (λ (cs : List CallerTerms). TurnsCaller ledger.book p c.first_turn.result cs c.first_turn.new.callers) c.deref_mut.ensures.value
-    (subst (λ (l : BoardTerms). TurnsCaller l.book p c.first_turn.result c.deref_mut.result.now c.first_turn.new.callers) c.board-board.ensures
-    c.first_turn.ensures.turned)))
+    let overview : OverviewTerms = c.args.self.now.overview in
+    let within : p < length callers = known-calls_left callers p c.requires.left in
+    let told = c.next_turn-turned.ensures in
+    subst (λ (cs : List CallerTerms). AreCallersOn c.board-board.result.now cs) (sym c.deref_mut.ensures.value)
+    (subst (λ (b : BoardTerms). AreCallersOn b (set callers p c.show.new.self)) (sym c.board-board.ensures)
+    (AreCallersOn-shown c.args.self.now.ledger c.board-board.result.now callers p c.index_mut-caller.result.now c.next_turn-turned.new.self c.show.new.self
+    c.next_turn-turned.result overview c.next_turn-turned.new.overview c.show.new.overview within c.requires.run.callers c.requires.run.published
+    c.board-board.ensures c.index_mut-caller.ensures.value told.turned told.process told.stands told.between told.pass told.board told.same
+    c.show.ensures.added c.show.ensures.same))
+
+pub show_all-requires-clause-seen : goal.show_all-requires-clause-seen
+show_all-requires-clause-seen c =
+    let callers = c.args.self.now.callers.items in
+    let p = c.args.process in
+    let overview : OverviewTerms = c.args.self.now.overview in
+    let within : p < length callers = known-calls_left callers p c.requires.left in
+    let told = c.next_turn-turned.ensures in
+    subst (λ (cs : List CallerTerms). AreAllIn cs c.show.new.overview.seen) (sym c.deref_mut.ensures.value)
+    (AreAllIn-shown c.args.self.now.ledger c.board-board.result.now callers p c.index_mut-caller.result.now c.next_turn-turned.new.self c.show.new.self
+    c.next_turn-turned.result overview c.next_turn-turned.new.overview c.show.new.overview within c.requires.run.callers c.requires.run.published
+    c.board-board.ensures c.index_mut-caller.ensures.value told.turned told.process told.stands told.between told.pass told.board told.same
+    c.show.ensures.added c.show.ensures.same)
 
 pub returns-clause-turned : goal.returns-clause-turned
 returns-clause-turned c =
-    let ledger : BoardTerms = c.args.self.now.ledger in
     let callers = c.args.self.now.callers.items in
     let p = c.args.process in
+    let overview : OverviewTerms = c.args.self.now.overview in
     let within : p < length callers = known-calls_left callers p c.requires.left in
-    let was : CallerTerms = c.index_mut.result.now in
-    let same : c.index.result.now ≡ was = c.index.ensures ∙ (get_or_default callers p c.index.result.now was within ∙ sym c.index_mut.ensures.value) in
-    let going_on = some_stage was.stage (λ none.
-    let idle = c.is_between_calls.ensures.1 (ap (λ (t : CallerTerms). t.stage) same ∙ none) in absurd (cc (idle, c.if-is_between_calls.false))) in
-    TurnsOne-turned ledger callers p was c.turn.new.self c.turn.result within c.requires.callers c.index_mut.ensures.value going_on.0 going_on.1
-    (subst (λ (l : BoardTerms). TakesTurn l.book was c.turn.new.self c.turn.result going_on.0) c.board-board.ensures
-    (IfSome-some (TakesTurn c.board-board.result.now.book was c.turn.new.self c.turn.result) was.stage going_on.0 going_on.1 c.turn.ensures.turned))
-    (subst (λ (l : BoardTerms). IsOf c.turn.new.self.seat l) c.board-board.ensures c.turn.ensures.board)
-    (subst (λ (l : BoardTerms). IsPassOf was.pass l → IsPassOf c.turn.new.self.pass l) c.board-board.ensures c.turn.ensures.pass)
+    let told = c.next_turn-turned.ensures in
+    let shown = c.show_all.ensures in
+    let items = with_items_is (with_item c.args.self.now.callers p c.show.new.self) c.show_all.new.callers (ap (λ (cs : List CallerTerms). length cs) shown.callers ∙ c.deref_mut.ensures.len)
+    ∙ (shown.callers ∙ c.deref_mut.ensures.value) in
+    let own : HaveJustTheirOwn (set callers p c.show.new.self) c.show.new.overview.seen =
+    subst (λ (cs : List CallerTerms). HaveJustTheirOwn cs c.show.new.overview.seen) c.deref_mut.ensures.value shown.own in
+    subst (λ (cs : List CallerTerms). TurnsOne p c.next_turn-turned.result
+    (record { ledger = c.args.self.now.ledger; callers = callers; published = overview.seen })
+    (record { ledger = c.args.self.now.ledger; callers = cs; published = c.show_all.new.overview.seen })) (sym items)
+    (subst (λ (o : OverviewTerms). TurnsOne p c.next_turn-turned.result
+    (record { ledger = c.args.self.now.ledger; callers = callers; published = overview.seen })
+    (record { ledger = c.args.self.now.ledger; callers = set callers p c.show.new.self; published = o.seen })) (sym shown.same)
+    (TurnsOne-shown c.args.self.now.ledger c.board-board.result.now callers p c.index_mut-caller.result.now c.next_turn-turned.new.self c.show.new.self
+    c.next_turn-turned.result overview c.next_turn-turned.new.overview c.show.new.overview within c.requires.run.callers c.requires.run.published
+    c.board-board.ensures c.index_mut-caller.ensures.value told.turned told.process told.stands told.between told.pass told.board told.same
+    c.show.ensures.added c.show.ensures.same own))
 
-pub returns-clause-callers : goal.returns-clause-callers
-returns-clause-callers c =
-    let ledger : BoardTerms = c.args.self.now.ledger in
+pub returns-clause-run : goal.returns-clause-run
+returns-clause-run c =
     let callers = c.args.self.now.callers.items in
     let p = c.args.process in
+    let overview : OverviewTerms = c.args.self.now.overview in
     let within : p < length callers = known-calls_left callers p c.requires.left in
-    let was : CallerTerms = c.index_mut.result.now in
-    let same : c.index.result.now ≡ was = c.index.ensures ∙ (get_or_default callers p c.index.result.now was within ∙ sym c.index_mut.ensures.value) in
-    let going_on = some_stage was.stage (λ none.
-    let idle = c.is_between_calls.ensures.1 (ap (λ (t : CallerTerms). t.stage) same ∙ none) in absurd (cc (idle, c.if-is_between_calls.false))) in
-    AreCallersOn-turned ledger callers p was c.turn.new.self c.turn.result within c.requires.callers c.index_mut.ensures.value going_on.0 going_on.1
-    (subst (λ (l : BoardTerms). TakesTurn l.book was c.turn.new.self c.turn.result going_on.0) c.board-board.ensures
-    (IfSome-some (TakesTurn c.board-board.result.now.book was c.turn.new.self c.turn.result) was.stage going_on.0 going_on.1 c.turn.ensures.turned))
-    (subst (λ (l : BoardTerms). IsOf c.turn.new.self.seat l) c.board-board.ensures c.turn.ensures.board)
-    (subst (λ (l : BoardTerms). IsPassOf was.pass l → IsPassOf c.turn.new.self.pass l) c.board-board.ensures c.turn.ensures.pass)
+    let told = c.next_turn-turned.ensures in
+    let shown = c.show_all.ensures in
+    let items = with_items_is (with_item c.args.self.now.callers p c.show.new.self) c.show_all.new.callers (ap (λ (cs : List CallerTerms). length cs) shown.callers ∙ c.deref_mut.ensures.len)
+    ∙ (shown.callers ∙ c.deref_mut.ensures.value) in
+    let own : HaveJustTheirOwn (set callers p c.show.new.self) c.show.new.overview.seen =
+    subst (λ (cs : List CallerTerms). HaveJustTheirOwn cs c.show.new.overview.seen) c.deref_mut.ensures.value shown.own in
+    record {
+      callers = subst (λ (cs : List CallerTerms). AreCallersOn c.args.self.now.ledger cs) (sym items)
+          (AreCallersOn-shown c.args.self.now.ledger c.board-board.result.now callers p c.index_mut-caller.result.now c.next_turn-turned.new.self c.show.new.self
+          c.next_turn-turned.result overview c.next_turn-turned.new.overview c.show.new.overview within c.requires.run.callers c.requires.run.published
+          c.board-board.ensures c.index_mut-caller.ensures.value told.turned told.process told.stands told.between told.pass told.board told.same
+          c.show.ensures.added c.show.ensures.same);
+      overview = subst (λ (o : OverviewTerms). IsOverviewOf o c.args.self.now.ledger) (sym shown.same)
+          (subst (λ (b : BoardTerms). IsOverviewOf c.show.new.overview b) c.board-board.ensures c.show.ensures.overview);
+      published = subst (λ (cs : List CallerTerms). IsAllPublished c.args.self.now.ledger.book cs c.show_all.new.overview.seen) (sym items)
+          (subst (λ (o : OverviewTerms). IsAllPublished c.args.self.now.ledger.book (set callers p c.show.new.self) o.seen) (sym shown.same)
+          (IsAllPublished-shown c.args.self.now.ledger c.board-board.result.now callers p c.index_mut-caller.result.now c.next_turn-turned.new.self c.show.new.self
+          c.next_turn-turned.result overview c.next_turn-turned.new.overview c.show.new.overview within c.requires.run.callers c.requires.run.published
+          c.board-board.ensures c.index_mut-caller.ensures.value told.turned told.process told.stands told.between told.pass told.board told.same
+          c.show.ensures.added c.show.ensures.same own));
+    }

@@ -1,0 +1,23 @@
+-- Counts of turns: those that a process's turns have answered.
+use Rattle.std.proofs.Common.{◌≡◌, ℕ, ◌+◌, ◌<◌, ◌==◌, ◌&&◌, Bool, cond, List, [], ◌∷◌, ◌++◌, length, sym, ap, arith}
+use Rattle.std.proofs.lemmas.List.Sums.{sum_by_push}
+use Rattle.at_stepper.specs.Callers.{answers_in}
+use Rattle.at_stepper.specs.Schedules.{answered_by}
+use Rattle.at_stepper.specs.declared.replaying.TurnMade.{TurnMade}
+use Rattle.at_stepper.specs.declared.turned.Turned.{Turned}
+use Rattle.at_stepper.specs.declared.turned.Turned.TheVariants.{Answer, Step}
+
+-- an element of a list that has one
+pub some_of : {X : Type 0} (xs : List X) (p : ℕ) → p < length xs → X
+some_of [] p within = absurd (omega (arith, within))
+some_of (x ∷ xs) p within = x
+
+-- how many calls a turn answers
+pub answers-cond : (turned : Turned) (answered : Bool) → answered ≡ (answers_in turned == 1) → answers_in turned ≡ cond answered 1 0
+answers-cond Step answered is = sym (ap {B = ℕ} (λ (t : Bool). cond t 1 0) is)
+answers-cond (Answer r) answered is = sym (ap {B = ℕ} (λ (t : Bool). cond t 1 0) is)
+
+-- one more turn answers a call of its process where it answers, and none of another
+pub answered_by-push : (q : ℕ) (turns : List TurnMade) (t : TurnMade)
+    → answered_by q (turns ++ t ∷ []) ≡ answered_by q turns + cond ((t.process == q) && t.answered) 1 0
+answered_by-push q turns t = sum_by_push (λ (x : TurnMade). cond ((x.process == q) && x.answered) 1 0) turns t
