@@ -3,12 +3,33 @@ use Rattle.std.proofs.Common.{◌≡◌, ◌≢◌, ◌∙◌, ℕ, Bool, true, 
 use Rattle.std.specs.Result.{IfErr, IfOk, OnOk}
 use Rattle.at_object.specs.Closings.{ClosedTerms}
 use Rattle.at_report.specs.declared.status.Status.{Status}
-use Rattle.at_report.specs.declared.status.Status.TheVariants.{Done, ReadFault, Usage, WriteFault}
+use Rattle.at_report.specs.declared.status.Status.TheVariants.{Done, NoMemory, ReadFault, Usage, WriteFault}
+use Rattle.at_report.specs.declared.status.UsageFault.{UsageFault}
 use Rattle.at_report.specs.declared.status.UsageFault.TheVariants.{Words}
 use Rattle.at_loading.specs.Faults.{IsWritten, Kind, MayRefuseOf}
 use Rattle.at_commands.specs.Claims.{Claim, MayRefuseClaim}
 use Rattle.at_commands.specs.Outcome.{Outcome}
 use Rattle.at_commands.specs.Writing.{Ends, TookAll, TookPrefix, Wrote}
+
+-- a refusal of the words, and want of memory, is neither
+pub usage-done : (fault : UsageFault) → Usage fault ≡ Done → ⊥
+usage-done fault is = cc
+
+pub usage-write_fault : (fault : UsageFault) → Usage fault ≡ WriteFault → ⊥
+usage-write_fault fault is = cc
+
+pub done-write_fault : Done ≡ WriteFault → ⊥
+done-write_fault is = cc
+
+pub memory-done : NoMemory ≡ Done → ⊥
+memory-done is = cc
+
+pub memory-write_fault : NoMemory ≡ WriteFault → ⊥
+memory-write_fault is = cc
+
+pub memory-written : IsWritten NoMemory → ⊥
+memory-written (inl done) = memory-done done
+memory-written (inr fault) = memory-write_fault fault
 
 -- none of these three is a refusal that files bring
 pub record Refuses (R : Status → Type 0) : Type 0 where

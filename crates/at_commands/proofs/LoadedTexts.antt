@@ -17,6 +17,11 @@ pub OnOk-kept : {A : Type 0} (result : Result A Status) (before between now : �
 OnOk-kept (Ok a) before between now same kept = kept ∙ same
 OnOk-kept (Err refusal) before between now same kept = kept
 
+-- what is so in any case
+pub OnOk-any : {A : Type 0} (result : Result A Status) (P : Type 0) → P → OnOk result P
+OnOk-any (Ok a) P holds = holds
+OnOk-any (Err refusal) P holds = tt
+
 -- a refusal of the further file is one of the whole
 pub IfErr-whole : {A B C : Type 0} (kind : Kind) (tells : Bool) (part : Result A Status) (whole : Result B Status) (before now : ℕ) (result : Result C Status)
     → ((refusal : Status) → tells ≡ true → part ≡ Err refusal → whole ≡ Err refusal) → IfErr result (λ refusal. MayRefuseOf kind tells part before now refusal)

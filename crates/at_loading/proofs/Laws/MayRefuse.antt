@@ -4,6 +4,8 @@ use Rattle.at_report.specs.declared.status.Status.{Status}
 use Rattle.at_report.specs.declared.status.Status.TheVariants.{Done, Usage, BadBook, BadPayments, ReadFault, WriteFault, NoMemory, TooLong, BadSchedule, BadOrder, BadMessages, NotLegal, TooManyOrders}
 use Rattle.at_report.specs.declared.status.UsageFault.{UsageFault}
 use Rattle.at_files.specs.declared.book_fault.BadBook as of_files
+use Rattle.at_files.specs.declared.deliveries.OrderWhy.{OrderWhy}
+use Rattle.at_files.specs.declared.schedule.ScheduleWhy.{ScheduleWhy}
 use Rattle.at_report.specs.declared.status.UsageFault.TheVariants as usage
 use Rattle.at_loading.specs.Faults.{HasFileNumbers, HasFurtherNumbers, IsBrought, IsFaultless, IsUnfetched, IsUnread, Kind, MayRefuseOf, RefusesFile}
 use Rattle.at_loading.specs.Faults.Kind.{payments, scheduled, messages}
@@ -22,6 +24,12 @@ usage-read_fault fault file same one two = cc
 
 pub book-read_fault : {A : Type 0} (bad : of_files.BadBook) (file : ℕ) (same : Result A Status) → same ≡ Err (BadBook bad) → same ≡ Err (ReadFault file) → ⊥
 book-read_fault bad file same one two = cc
+
+pub schedule-read_fault : {A : Type 0} (line : ℕ) (why : ScheduleWhy) (file : ℕ) (same : Result A Status) → same ≡ Err (BadSchedule line why) → same ≡ Err (ReadFault file) → ⊥
+schedule-read_fault line why file same one two = cc
+
+pub order-read_fault : {A : Type 0} (line : ℕ) (why : OrderWhy) (file : ℕ) (same : Result A Status) → same ≡ Err (BadOrder line why) → same ≡ Err (ReadFault file) → ⊥
+order-read_fault line why file same one two = cc
 
 pub memory-read_fault : {A : Type 0} (file : ℕ) (same : Result A Status) → same ≡ Err NoMemory → same ≡ Err (ReadFault file) → ⊥
 memory-read_fault file same one two = cc
@@ -103,7 +111,7 @@ HasFurtherNumbers-loading files (ReadFault file) h = omega arith
 HasFurtherNumbers-loading files (TooLong file) h = omega arith
 HasFurtherNumbers-loading files refusal h = h
 
-pub HasFurtherNumbers-unfetched : (files number : ℕ) (refusal : Status) → number ≡ files + 1 → IsUnfetched number refusal → HasFurtherNumbers files refusal
+pub HasFurtherNumbers-unfetched : (files number : ℕ) (refusal : Status) → number ≤ files + 1 → IsUnfetched number refusal → HasFurtherNumbers files refusal
 HasFurtherNumbers-unfetched files number refusal is (inl read) = rw read (omega arith)
 HasFurtherNumbers-unfetched files number refusal is (inr (inl long)) = rw long (omega arith)
 HasFurtherNumbers-unfetched files number refusal is (inr (inr none)) = rw none tt

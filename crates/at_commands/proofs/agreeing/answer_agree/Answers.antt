@@ -1,17 +1,44 @@
-use Rattle.std.proofs.Common.{inl, inr}
+use Rattle.std.proofs.Common.{inl, inr, refl}
+use Rattle.at_loading.proofs.Laws.MayRefuse.{later-kept}
 use Rattle.at_commands.specs.Agreed.{PrintsAgreed}
+use Rattle.at_commands.proofs.Endings.{memory-done, memory-write_fault, memory-written}
 use Rattle.at_commands.proofs.agreeing.answer_agree.Goals as goal
 
-pub returns-clause-answered : goal.returns-clause-answered
-returns-clause-answered g c =
+pub returns-in_default : goal.returns-in_default
+returns-in_default g c = record {
+  later = later-kept _ _ refl;
+  as_told = refl;
+  answered = record {
+    done = λ is told. absurd (memory-done is);
+    prefix = λ is told. absurd (memory-write_fault is);
+    ran = λ is. absurd (memory-written is);
+    answers = inr (inr refl);
+  };
+  done_kept = λ is. absurd (memory-done is);
+  write_fault = λ is. absurd (memory-write_fault is);
+  untouched = λ undone unwritten. (refl, c.requires.kept);
+}
+
+pub returns : goal.returns
+returns g c =
     let prints : PrintsAgreed c.args.values.now c.end_keeping.new.kept c.in-Ok.printed.text.items = rw c.end_keeping.ensures.kept c.in-Ok.ensures in
     let ends = c.end_keeping.ensures.ends in
     record {
-      done = λ is told. record { text = c.in-Ok.printed.text.items; printed = prints; taken = ends.done is told };
-      prefix = λ is told. record { text = c.in-Ok.printed.text.items; printed = prints; taken = ends.prefix is told };
-      ran = λ is. (prints.value, prints.agreed);
-      answers = elim ends.answers [
-        | inl is ↦ inl is
-        | inr is ↦ inr (inl is)
-      ];
+      later = c.end_keeping.ensures.later;
+      as_told = c.end_keeping.ensures.as_told;
+      answered = record {
+        done = λ is told. record { text = c.in-Ok.printed.text.items; printed = prints; taken = ends.done is told };
+        prefix = λ is told. record { text = c.in-Ok.printed.text.items; printed = prints; taken = ends.prefix is told };
+        ran = λ is. (prints.value, prints.agreed);
+        answers = elim ends.answers [
+          | inl is ↦ inl is
+          | inr is ↦ inr (inl is)
+        ];
+      };
+      done_kept = ends.kept;
+      write_fault = ends.fault;
+      untouched = λ undone unwritten. absurd (elim ends.answers [
+        | inl done ↦ undone done
+        | inr fault ↦ unwritten fault
+      ]);
     }

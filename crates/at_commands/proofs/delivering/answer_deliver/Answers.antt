@@ -15,8 +15,8 @@ use Rattle.at_commands.proofs.delivering.answer_deliver.Goals as goal
 abbrev text_of : Vec ℕ Global → List ℕ
 text_of p = p.items
 
-pub returns-clause-answered : goal.returns-clause-answered
-returns-clause-answered g c =
+pub returns : goal.returns
+returns g c =
     let tells = g.F.Shelf.tells c.args.shelf.now in
     let files = g.F.Shelf.file c.args.shelf.now in
     let before = g.F.Shelf.faults c.args.shelf.now in
@@ -30,32 +30,21 @@ returns-clause-answered g c =
     (rw (length-map c.args.asked.now.messages.now string_bytes) does.numbered) in
     let loads : tells ≡ true → IsWritten c.end.result → (l : Broadcast) × (broadcast files asked ≡ Ok l) = λ told written. let spells = (left.printed told written).printed in (spells.what, spells.read) in
     record {
-      done = left.done;
-      prefix = left.prefix;
-      loads = loads;
-      complete = λ what told spells shelf out. MayRefuse-loaded messages _ (broadcast files asked) what _ _ _ _ _ told (broadcast-SpellsBroadcast files asked what spells) shelf out (λ is. (Ends-faults text_of _ made _ ends never does.err (inr is)).1.fault is) left.refusal;
-      refusal = left.refusal;
-      exact = λ told faultless. MayRefuse-exact messages _ (broadcast files asked) _ _ _ told faultless loads left.refusal;
-      reached = left.reached;
-      numbered = left.numbered;
-      formed = left.formed;
+      files = does.files;
+      later = (does.later, c.end.ensures.later);
+      as_told = c.end.ensures.as_told;
+      answered = record {
+        done = left.done;
+        prefix = left.prefix;
+        loads = loads;
+        complete = λ what told spells shelf out. MayRefuse-loaded messages _ (broadcast files asked) what _ _ _ _ _ told (broadcast-SpellsBroadcast files asked what spells) shelf out (λ is. (Ends-faults text_of _ made _ ends never does.err (inr is)).1.fault is) left.refusal;
+        refusal = left.refusal;
+        exact = λ told faultless. MayRefuse-exact messages _ (broadcast files asked) _ _ _ told faultless loads left.refusal;
+        reached = left.reached;
+        numbered = left.numbered;
+        formed = left.formed;
+      };
+      done_kept = λ is. (Ends-kept text_of _ _ made _ ends never does.err does.kept (inl is), (Ends-faults text_of _ made _ ends never does.err (inl is)).1.kept is);
+      write_fault = λ is. ((Ends-faults text_of _ made _ ends never does.err (inr is)).1.fault is, Ends-kept text_of _ _ made _ ends never does.err does.kept (inr is));
+      untouched = λ undone unwritten. Ends-refusal text_of _ made _ ends c.end.ensures.untouched undone unwritten;
     }
-
-pub returns-clause-done_kept : goal.returns-clause-done_kept
-returns-clause-done_kept g c is =
-    let does = c.broadcast_text-made.ensures in
-    let never = Refuses-loading messages (g.F.Shelf.tells c.args.shelf.now) (broadcast (g.F.Shelf.file c.args.shelf.now) (delivering_shown c.args.asked.now)) (g.F.Shelf.faults c.args.shelf.now) (g.F.Shelf.faults c.broadcast_text-made.new.shelf) in (
-      Ends-kept text_of _ _ c.broadcast_text-made.result _ c.end.ensures.ends never does.err does.kept (inl is),
-      (Ends-faults text_of _ c.broadcast_text-made.result _ c.end.ensures.ends never does.err (inl is)).1.kept is,
-    )
-
-pub returns-clause-write_fault : goal.returns-clause-write_fault
-returns-clause-write_fault g c is =
-    let does = c.broadcast_text-made.ensures in
-    let never = Refuses-loading messages (g.F.Shelf.tells c.args.shelf.now) (broadcast (g.F.Shelf.file c.args.shelf.now) (delivering_shown c.args.asked.now)) (g.F.Shelf.faults c.args.shelf.now) (g.F.Shelf.faults c.broadcast_text-made.new.shelf) in (
-      (Ends-faults text_of _ c.broadcast_text-made.result _ c.end.ensures.ends never does.err (inr is)).1.fault is,
-      Ends-kept text_of _ _ c.broadcast_text-made.result _ c.end.ensures.ends never does.err does.kept (inr is),
-    )
-
-pub returns-clause-untouched : goal.returns-clause-untouched
-returns-clause-untouched g c undone unwritten = Ends-refusal text_of _ c.broadcast_text-made.result _ c.end.ensures.ends c.end.ensures.untouched undone unwritten

@@ -1,5 +1,6 @@
-use Rattle.std.proofs.Common.{[]}
+use Rattle.std.proofs.Common.{[], Err, ap, refl, arith}
 use Rattle.at_ledger.specs.Files.{contents_of}
+use Rattle.at_loading.proofs.Laws.MayRefuse.{made-refused, memory-read_fault, refusal_of}
 use Rattle.at_commands.proofs.Laws.Deliveries.{few_counted}
 use Rattle.at_commands.proofs.delivering.ordered_text.Goals as goal
 
@@ -10,3 +11,49 @@ pub load_order-requires : goal.load_order-requires
 load_order-requires g c =
     few_counted (contents_of c.args.sent.now.files.items) c.counts_of-counts.result (λ k within. (c.requires.sent k [] within).few)
     (rw c.as_slice.ensures.value at c.counts_of-counts.ensures)
+
+pub returns-in-Err : goal.returns-in-Err
+returns-in-Err g c =
+    let refused = c.in-Err.ensures in
+    let counts = rw c.as_slice.ensures.value at c.counts_of-counts.ensures in
+    record {
+      files = refused.files;
+      later = refused.later;
+      kept = tt;
+      printed = λ told. tt;
+      err = rw (c.processes-number.ensures, counts) at refused.err;
+      file = λ file is. rw c.processes-number.ensures at (refused.file file (ap Err (refusal_of _ _ _ _ is refl refl)));
+      numbered = λ files few. refused.numbered files (omega (arith, few, c.processes-number.ensures));
+    }
+
+pub returns-in-Ok-delivered_text : goal.returns-in-Ok-delivered_text
+returns-in-Ok-delivered_text g c =
+    let loads = c.in-Ok.ensures in
+    let counts = rw c.as_slice.ensures.value at c.counts_of-counts.ensures in
+    record {
+      files = loads.files;
+      later = loads.later;
+      kept = loads.kept;
+      printed = λ told. record {
+        deliveries = c.in-Ok.deliveries.items;
+        read = rw (c.processes-number.ensures, counts) at (loads.ok told);
+        spelled = rw counts at (loads.spelled told);
+        printed = rw c.as_slice-2.ensures.value at c.in-Ok-delivered_text.ensures;
+      };
+      err = tt;
+      file = λ file is. absurd (made-refused _ _ is);
+      numbered = λ files few. tt;
+    }
+
+pub returns : goal.returns
+returns g c =
+    let loads = c.in-Ok.ensures in
+    record {
+      files = loads.files;
+      later = loads.later;
+      kept = tt;
+      printed = λ told. tt;
+      err = tt;
+      file = λ file is. absurd (memory-read_fault file _ refl is);
+      numbered = λ files few. tt;
+    }

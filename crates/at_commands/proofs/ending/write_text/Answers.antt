@@ -1,11 +1,18 @@
 use Rattle.std.proofs.Common.{inl, refl}
+use Rattle.at_commands.proofs.Endings.{done-write_fault}
 use Rattle.at_commands.proofs.ending.write_text.Goals as goal
 
-pub returns-in-Ok-clause-wrote : goal.returns-in-Ok-clause-wrote
-returns-in-Ok-clause-wrote g c = record {
-  done = λ is told. c.in-Ok.ensures.all told;
-  kept = λ is. c.in-Ok.ensures.kept;
-  fault = λ is. absurd (cc);
-  prefix = λ is told. absurd (cc);
-  answers = inl refl;
-}
+pub returns-in-Ok : goal.returns-in-Ok
+returns-in-Ok g c =
+    let put = c.in-Ok.ensures in
+    record {
+      later = put.later;
+      as_told = put.as_told;
+      wrote = record {
+        done = λ is told. put.all told;
+        kept = λ is. put.kept;
+        fault = λ is. absurd (done-write_fault is);
+        prefix = λ is told. absurd (done-write_fault is);
+        answers = inl refl;
+      };
+    }

@@ -14,8 +14,8 @@ use Rattle.at_commands.proofs.replaying.answer_replay.Goals as goal
 abbrev text_of : Vec ℕ Global → List ℕ
 text_of p = p.items
 
-pub returns-clause-answered : goal.returns-clause-answered
-returns-clause-answered g c =
+pub returns : goal.returns
+returns g c =
     let tells = g.F.Shelf.tells c.args.shelf.now in
     let files = g.F.Shelf.file c.args.shelf.now in
     let before = g.F.Shelf.faults c.args.shelf.now in
@@ -29,32 +29,21 @@ returns-clause-answered g c =
     (rw (length-map c.args.asked.now.payments.now string_bytes) does.numbered) in
     let loads : tells ≡ true → IsWritten c.end.result → (l : Replay) × (replay_loaded files asked ≡ Ok l) = λ told written. let spells = (left.printed told written).printed in (spells.replay, spells.read) in
     record {
-      done = left.done;
-      prefix = left.prefix;
-      loads = loads;
-      complete = λ what told spells shelf out. MayRefuse-loaded scheduled _ (replay_loaded files asked) what _ _ _ _ _ told (replay_loaded-SpellsReplay files asked what spells) shelf out (λ is. (Ends-faults text_of _ made _ ends never does.err (inr is)).1.fault is) left.refusal;
-      refusal = left.refusal;
-      exact = λ told faultless. MayRefuse-exact scheduled _ (replay_loaded files asked) _ _ _ told faultless loads left.refusal;
-      reached = left.reached;
-      numbered = left.numbered;
-      formed = left.formed;
+      files = does.files;
+      later = (does.later, c.end.ensures.later);
+      as_told = c.end.ensures.as_told;
+      answered = record {
+        done = left.done;
+        prefix = left.prefix;
+        loads = loads;
+        complete = λ what told spells shelf out. MayRefuse-loaded scheduled _ (replay_loaded files asked) what _ _ _ _ _ told (replay_loaded-SpellsReplay files asked what spells) shelf out (λ is. (Ends-faults text_of _ made _ ends never does.err (inr is)).1.fault is) left.refusal;
+        refusal = left.refusal;
+        exact = λ told faultless. MayRefuse-exact scheduled _ (replay_loaded files asked) _ _ _ told faultless loads left.refusal;
+        reached = left.reached;
+        numbered = left.numbered;
+        formed = left.formed;
+      };
+      done_kept = λ is. (Ends-kept text_of _ _ made _ ends never does.err does.kept (inl is), (Ends-faults text_of _ made _ ends never does.err (inl is)).1.kept is);
+      write_fault = λ is. ((Ends-faults text_of _ made _ ends never does.err (inr is)).1.fault is, Ends-kept text_of _ _ made _ ends never does.err does.kept (inr is));
+      untouched = λ undone unwritten. Ends-refusal text_of _ made _ ends c.end.ensures.untouched undone unwritten;
     }
-
-pub returns-clause-done_kept : goal.returns-clause-done_kept
-returns-clause-done_kept g c is =
-    let does = c.replay_text-made.ensures in
-    let never = Refuses-loading scheduled (g.F.Shelf.tells c.args.shelf.now) (replay_loaded (g.F.Shelf.file c.args.shelf.now) (replaying_shown c.args.asked.now)) (g.F.Shelf.faults c.args.shelf.now) (g.F.Shelf.faults c.replay_text-made.new.shelf) in (
-      Ends-kept text_of _ _ c.replay_text-made.result _ c.end.ensures.ends never does.err does.kept (inl is),
-      (Ends-faults text_of _ c.replay_text-made.result _ c.end.ensures.ends never does.err (inl is)).1.kept is,
-    )
-
-pub returns-clause-write_fault : goal.returns-clause-write_fault
-returns-clause-write_fault g c is =
-    let does = c.replay_text-made.ensures in
-    let never = Refuses-loading scheduled (g.F.Shelf.tells c.args.shelf.now) (replay_loaded (g.F.Shelf.file c.args.shelf.now) (replaying_shown c.args.asked.now)) (g.F.Shelf.faults c.args.shelf.now) (g.F.Shelf.faults c.replay_text-made.new.shelf) in (
-      (Ends-faults text_of _ c.replay_text-made.result _ c.end.ensures.ends never does.err (inr is)).1.fault is,
-      Ends-kept text_of _ _ c.replay_text-made.result _ c.end.ensures.ends never does.err does.kept (inr is),
-    )
-
-pub returns-clause-untouched : goal.returns-clause-untouched
-returns-clause-untouched g c undone unwritten = Ends-refusal text_of _ c.replay_text-made.result _ c.end.ensures.ends c.end.ensures.untouched undone unwritten

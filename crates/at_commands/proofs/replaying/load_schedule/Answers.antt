@@ -1,16 +1,71 @@
-use Rattle.std.proofs.Common.{refl}
+use Rattle.std.proofs.Common.{◌∙◌, Err, ap, refl}
 use Rattle.at_loading.specs.Faults.Kind.{scheduled}
 use Rattle.at_loading.specs.Loading.{fetched}
 use Rattle.at_commands.specs.Replaying.{schedule_loaded}
-use Rattle.at_loading.proofs.Laws.MayRefuse.{MayRefuse-whole}
+use Rattle.at_loading.proofs.Laws.MayRefuse.{HasFurtherNumbers-unfetched, MayRefuse-whole, made-refused, memory-read_fault, refusal_of, schedule-read_fault}
 use Rattle.at_commands.proofs.replaying.load_schedule.Goals as goal
 
-pub returns-in-Err-clause-err : goal.returns-in-Err-clause-err
-returns-in-Err-clause-err g c =
-    MayRefuse-whole scheduled _ (fetched (g.F.Shelf.file c.args.shelf.now c.args.name.now) c.args.number)
-    (schedule_loaded (g.F.Shelf.file c.args.shelf.now) c.args.name.now c.args.number c.args.processes) _ _ c.in-Err.refusal
-    (λ told refused. rw refused refl) (c.in-Err.ensures.err scheduled)
+pub returns-in-Err : goal.returns-in-Err
+returns-in-Err g c =
+    let refused = c.in-Err.ensures in
+    record {
+      files = refused.files;
+      later = refused.later;
+      kept = tt;
+      ok = λ told. tt;
+      spelled = λ told. tt;
+      known = tt;
+      err =
+          MayRefuse-whole scheduled _ (fetched (g.F.Shelf.file c.args.shelf.now c.args.name.now) c.args.number)
+          (schedule_loaded (g.F.Shelf.file c.args.shelf.now) c.args.name.now c.args.number c.args.processes) _ _ c.in-Err.refusal
+          (λ told refusal. rw refusal refl) (refused.err scheduled);
+      file = λ file is. refused.file file (ap Err (refusal_of _ _ _ _ is refl refl));
+      numbered = λ files few. HasFurtherNumbers-unfetched files c.args.number c.in-Err.refusal few refused.why;
+    }
 
--- a schedule that was read is no refusal
-pub returns-in-Ok-read_schedule-clause-err : goal.returns-in-Ok-read_schedule-clause-err
-returns-in-Ok-read_schedule-clause-err g c = tt
+pub returns-in-Ok-read_schedule : goal.returns-in-Ok-read_schedule
+returns-in-Ok-read_schedule g c =
+    let fetches = c.in-Ok.ensures in
+    let reads = c.in-Ok-read_schedule.ensures in
+    record {
+      files = fetches.files;
+      later = fetches.later;
+      kept = fetches.kept;
+      ok = λ told. rw (fetches.ok told) (rw (rw c.as_slice.ensures.value at reads.ok) refl);
+      spelled = λ told. record { bytes = c.in-Ok.bytes.items; held = fetches.held told; spelled = rw c.as_slice.ensures.value at reads.schedules };
+      known = reads.schedules.each;
+      err = tt;
+      file = λ file is. absurd (made-refused _ _ is);
+      numbered = λ files few. tt;
+    }
+
+pub returns-in-Err-Bad : goal.returns-in-Err-Bad
+returns-in-Err-Bad g c =
+    let fetches = c.in-Ok.ensures in
+    let bad = rw c.as_slice.ensures.value at (c.read_schedule.ensures.bad c.in-Err-Bad.bad (c.in-Err-Bad.is ∙ ap Err c.in-Err-Bad.field-0-is)) in
+    record {
+      files = fetches.files;
+      later = fetches.later;
+      kept = tt;
+      ok = λ told. tt;
+      spelled = λ told. tt;
+      known = tt;
+      err = (fetches.kept, λ told. rw (fetches.ok told) (rw bad refl));
+      file = λ file is. absurd (schedule-read_fault _ _ file _ refl is);
+      numbered = λ files few. tt;
+    }
+
+pub returns : goal.returns
+returns g c =
+    let fetches = c.in-Ok.ensures in
+    record {
+      files = fetches.files;
+      later = fetches.later;
+      kept = tt;
+      ok = λ told. tt;
+      spelled = λ told. tt;
+      known = tt;
+      err = tt;
+      file = λ file is. absurd (memory-read_fault file _ refl is);
+      numbered = λ files few. tt;
+    }

@@ -17,8 +17,8 @@ use Rattle.at_commands.proofs.running.answer_files.Goals as goal
 abbrev text_of : Printed → List ℕ
 text_of p = p.text.items
 
-pub returns-clause-answered : goal.returns-clause-answered
-returns-clause-answered g c =
+pub returns : goal.returns
+returns g c =
     let tells = g.F.Shelf.tells c.args.shelf.now in
     let files = g.F.Shelf.file c.args.shelf.now in
     let before = g.F.Shelf.faults c.args.shelf.now in
@@ -35,35 +35,24 @@ returns-clause-answered g c =
     (rw (length-map c.args.form.now.payments.now string_bytes) does.numbered) in
     let loads : tells ≡ true → IsWritten c.end_keeping.result → (l : Loaded) × (loaded files asked ≡ Ok l) = λ told written. let ran = (left.printed refl written).printed in (ran.what, ran.read told) in
     record {
-      done = λ is. left.done is refl;
-      prefix = λ is. left.prefix is refl;
-      ran = λ written. let p = left.printed refl written in (p.text, p.printed);
-      checks = λ is. none-kept _ (λ p. p.closed) made _ kept c.end_keeping.ensures.kept c.end_keeping.ensures.untouched c.requires (does.checks is);
-      complete = λ what told spells shelf out. MayRefuse-loaded payments _ (loaded files asked) what _ _ _ _ _ told (loaded-Spelled files asked what spells) shelf out (λ is. (Ends-faults text_of _ made _ ends never does.err (inr is)).1.fault is) left.refusal;
-      refusal = left.refusal;
-      exact = λ told faultless. MayRefuse-exact payments _ (loaded files asked) _ _ _ told faultless loads left.refusal;
-      reached = left.reached;
-      numbered = left.numbered;
-      formed = left.formed;
+      files = does.files;
+      later = (does.later, c.end_keeping.ensures.later);
+      as_told = c.end_keeping.ensures.as_told;
+      answered = record {
+        done = λ is. left.done is refl;
+        prefix = λ is. left.prefix is refl;
+        ran = λ written. let p = left.printed refl written in (p.text, p.printed);
+        checks = λ is. none-kept _ (λ p. p.closed) made _ kept c.end_keeping.ensures.kept c.end_keeping.ensures.untouched c.requires (does.checks is);
+        complete = λ what told spells shelf out. MayRefuse-loaded payments _ (loaded files asked) what _ _ _ _ _ told (loaded-Spelled files asked what spells) shelf out (λ is. (Ends-faults text_of _ made _ ends never does.err (inr is)).1.fault is) left.refusal;
+        refusal = left.refusal;
+        exact = λ told faultless. MayRefuse-exact payments _ (loaded files asked) _ _ _ told faultless loads left.refusal;
+        reached = left.reached;
+        numbered = left.numbered;
+        formed = left.formed;
+      };
+      done_kept = λ is. (Ends-kept text_of _ _ made _ ends never does.err does.kept (inl is), (Ends-faults text_of _ made _ ends never does.err (inl is)).1.kept is);
+      write_fault = λ is. ((Ends-faults text_of _ made _ ends never does.err (inr is)).1.fault is, Ends-kept text_of _ _ made _ ends never does.err does.kept (inr is));
+      untouched = λ undone unwritten.
+          let same = Ends-refusal text_of _ made _ ends c.end_keeping.ensures.untouched undone unwritten in
+          (same.0, same.1 ∙ c.requires);
     }
-
-pub returns-clause-done_kept : goal.returns-clause-done_kept
-returns-clause-done_kept g c is =
-    let does = c.files_text-made.ensures in
-    let never = Refuses-loading payments (g.F.Shelf.tells c.args.shelf.now) (loaded (g.F.Shelf.file c.args.shelf.now) (form_shown c.args.form.now)) (g.F.Shelf.faults c.args.shelf.now) (g.F.Shelf.faults c.files_text-made.new.shelf) in (
-      Ends-kept text_of _ _ c.files_text-made.result _ c.end_keeping.ensures.ends never does.err does.kept (inl is),
-      (Ends-faults text_of _ c.files_text-made.result _ c.end_keeping.ensures.ends never does.err (inl is)).1.kept is,
-    )
-
-pub returns-clause-write_fault : goal.returns-clause-write_fault
-returns-clause-write_fault g c is =
-    let does = c.files_text-made.ensures in
-    let never = Refuses-loading payments (g.F.Shelf.tells c.args.shelf.now) (loaded (g.F.Shelf.file c.args.shelf.now) (form_shown c.args.form.now)) (g.F.Shelf.faults c.args.shelf.now) (g.F.Shelf.faults c.files_text-made.new.shelf) in (
-      (Ends-faults text_of _ c.files_text-made.result _ c.end_keeping.ensures.ends never does.err (inr is)).1.fault is,
-      Ends-kept text_of _ _ c.files_text-made.result _ c.end_keeping.ensures.ends never does.err does.kept (inr is),
-    )
-
-pub returns-clause-untouched : goal.returns-clause-untouched
-returns-clause-untouched g c undone unwritten =
-    let same = Ends-refusal text_of _ c.files_text-made.result _ c.end_keeping.ensures.ends c.end_keeping.ensures.untouched undone unwritten in
-    (same.0, same.1 ∙ c.requires)

@@ -11,8 +11,8 @@ use Rattle.at_commands.proofs.verifying.answer_verify.Goals as goal
 abbrev text_of : Vec ℕ Global → List ℕ
 text_of p = p.items
 
-pub returns-clause-answered : goal.returns-clause-answered
-returns-clause-answered g c =
+pub returns : goal.returns
+returns g c =
     let tells = g.F.Shelf.tells c.args.shelf.now in
     let files = g.F.Shelf.file c.args.shelf.now in
     let before = g.F.Shelf.faults c.args.shelf.now in
@@ -26,32 +26,21 @@ returns-clause-answered g c =
     (rw (length-map c.args.asked.now.checked.payments.now string_bytes) does.numbered) in
     let loads : tells ≡ true → IsWritten c.end.result → IsRightClaim (claimed files asked) = λ told written. let spells = (left.printed told written).printed in (spells.claim, spells.read, spells.verifies.report.is) in
     record {
-      done = left.done;
-      prefix = left.prefix;
-      right = loads;
-      complete = λ claim told spells right shelf out. MayRefuseClaim-right _ (claimed files asked) claim _ _ _ _ _ told (claimed-SpellsClaim files asked claim spells) right shelf out (λ is. (Ends-faults text_of _ made _ ends never does.err (inr is)).1.fault is) left.refusal;
-      refusal = left.refusal;
-      exact = λ told faultless. AnswersVerify-exact _ (claimed files asked) _ _ _ told faultless left.refusal (loads told);
-      reached = left.reached;
-      numbered = left.numbered;
-      formed = left.formed;
+      files = does.files;
+      later = (does.later, c.end.ensures.later);
+      as_told = c.end.ensures.as_told;
+      answered = record {
+        done = left.done;
+        prefix = left.prefix;
+        right = loads;
+        complete = λ claim told spells right shelf out. MayRefuseClaim-right _ (claimed files asked) claim _ _ _ _ _ told (claimed-SpellsClaim files asked claim spells) right shelf out (λ is. (Ends-faults text_of _ made _ ends never does.err (inr is)).1.fault is) left.refusal;
+        refusal = left.refusal;
+        exact = λ told faultless. AnswersVerify-exact _ (claimed files asked) _ _ _ told faultless left.refusal (loads told);
+        reached = left.reached;
+        numbered = left.numbered;
+        formed = left.formed;
+      };
+      done_kept = λ is. (Ends-kept text_of _ _ made _ ends never does.err does.kept (inl is), (Ends-faults text_of _ made _ ends never does.err (inl is)).1.kept is);
+      write_fault = λ is. ((Ends-faults text_of _ made _ ends never does.err (inr is)).1.fault is, Ends-kept text_of _ _ made _ ends never does.err does.kept (inr is));
+      untouched = λ undone unwritten. Ends-refusal text_of _ made _ ends c.end.ensures.untouched undone unwritten;
     }
-
-pub returns-clause-done_kept : goal.returns-clause-done_kept
-returns-clause-done_kept g c is =
-    let does = c.claim_text-made.ensures in
-    let never = Refuses-claim (g.F.Shelf.tells c.args.shelf.now) (claimed (g.F.Shelf.file c.args.shelf.now) (verifying_shown c.args.asked.now)) (g.F.Shelf.faults c.args.shelf.now) (g.F.Shelf.faults c.claim_text-made.new.shelf) in (
-      Ends-kept text_of _ _ c.claim_text-made.result _ c.end.ensures.ends never does.err does.kept (inl is),
-      (Ends-faults text_of _ c.claim_text-made.result _ c.end.ensures.ends never does.err (inl is)).1.kept is,
-    )
-
-pub returns-clause-write_fault : goal.returns-clause-write_fault
-returns-clause-write_fault g c is =
-    let does = c.claim_text-made.ensures in
-    let never = Refuses-claim (g.F.Shelf.tells c.args.shelf.now) (claimed (g.F.Shelf.file c.args.shelf.now) (verifying_shown c.args.asked.now)) (g.F.Shelf.faults c.args.shelf.now) (g.F.Shelf.faults c.claim_text-made.new.shelf) in (
-      (Ends-faults text_of _ c.claim_text-made.result _ c.end.ensures.ends never does.err (inr is)).1.fault is,
-      Ends-kept text_of _ _ c.claim_text-made.result _ c.end.ensures.ends never does.err does.kept (inr is),
-    )
-
-pub returns-clause-untouched : goal.returns-clause-untouched
-returns-clause-untouched g c undone unwritten = Ends-refusal text_of _ c.claim_text-made.result _ c.end.ensures.ends c.end.ensures.untouched undone unwritten
