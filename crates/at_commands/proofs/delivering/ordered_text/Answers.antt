@@ -57,3 +57,14 @@ returns g c =
       file = λ file is. absurd (memory-read_fault file _ refl is);
       numbered = λ files few. tt;
     }
+
+pub delivered_text-requires-clause-count : goal.delivered_text-requires-clause-count
+delivered_text-requires-clause-count g c = c.requires.count
+
+pub delivered_text-requires-clause-sent : goal.delivered_text-requires-clause-sent
+delivered_text-requires-clause-sent g c = c.requires.sent
+
+pub delivered_text-requires-clause-deliveries : goal.delivered_text-requires-clause-deliveries
+delivered_text-requires-clause-deliveries g c =
+    let counts = rw c.as_slice.ensures.value at c.counts_of-counts.ensures in
+    rw c.as_slice-2.ensures.value (rw counts at c.in-Ok.ensures.known)

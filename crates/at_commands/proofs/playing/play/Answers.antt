@@ -15,3 +15,6 @@ returns g c =
     (length-map c.args.files.items (λ file. file.items) ∙ c.requires.count) c.requires.known
     (rw c.closing.ensures.closing at c.in_ok-lines.ensures.lines) (rw c.closing.ensures.closing at c.in_ok-lines.ensures.whole)
     (rw c.book.ensures at c.in_ok-lines.ensures.legal)
+
+pub journal-requires-clause-coherent : goal.journal-requires-clause-coherent
+journal-requires-clause-coherent g c = rw (c.book.ensures, c.closing.ensures.closing) c.in_ok-closed.ensures.closed.coherent

@@ -93,3 +93,13 @@ returns g c =
       reached = λ file is. absurd (memory-read_fault file _ refl is);
       numbered = tt;
     }
+
+pub replayed_text-requires-clause-schedule : goal.replayed_text-requires-clause-schedule
+replayed_text-requires-clause-schedule g c =
+    rw c.as_slice.ensures.value (λ k d within. rw c.processes-processes.ensures at (c.in-Ok-load_schedule.ensures.known k d within))
+
+pub replayed_text-requires-clause-count : goal.replayed_text-requires-clause-count
+replayed_text-requires-clause-count g c = c.in-Ok.ensures.count
+
+pub replayed_text-requires-clause-names : goal.replayed_text-requires-clause-names
+replayed_text-requires-clause-names g c = c.in-Ok.ensures.names

@@ -79,3 +79,15 @@ returns g c =
       reached = λ file is. absurd (rw is at says.err);
       numbered = IfErr-weaker c.verdict_text.result _ _ (λ refusal is. HasFurtherNumbers-verdict _ claim refusal is) says.err;
     }
+
+pub verdict_text-requires-clause-count : goal.verdict_text-requires-clause-count
+verdict_text-requires-clause-count g c = c.in-Ok.ensures.count
+
+pub verdict_text-requires-clause-names : goal.verdict_text-requires-clause-names
+verdict_text-requires-clause-names g c = c.in-Ok.ensures.names
+
+pub verdict_text-requires-clause-known : goal.verdict_text-requires-clause-known
+verdict_text-requires-clause-known g c = c.in-Ok.ensures.known
+
+pub verdict_text-requires-clause-size : goal.verdict_text-requires-clause-size
+verdict_text-requires-clause-size g c = rw c.as_slice.ensures.value c.in-Ok-fetch_file.ensures.size

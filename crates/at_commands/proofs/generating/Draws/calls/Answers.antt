@@ -1,4 +1,4 @@
-use Rattle.std.proofs.Common.{ℕ, refl, sym, arith}
+use Rattle.std.proofs.Common.{◌≡◌, ℕ, refl, sym, arith}
 use Rattle.std.proofs.lemmas.List.FromFn.{map-range_with_len_more}
 use Rattle.at_commands.specs.Generator.{call_drawn, state_after_calls}
 use Rattle.at_commands.proofs.GeneratorLaws.{state_after_calls_more, state_after_calls_none}
@@ -17,3 +17,13 @@ loop-preserved c =
       file = rw (c.in_ok-push.ensures.items, c.loop.invariant.file, c.call.ensures.call, c.loop.invariant.state, more) refl;
       state = rw (c.call.ensures.state, c.loop.invariant.state, next) refl;
     }
+
+pub returns-clause-calls : goal.returns-clause-calls
+returns-clause-calls c =
+    let all : c.loop.counter ≡ c.args.calls = omega arith in
+    rw all at c.loop.invariant.file
+
+pub returns-clause-state : goal.returns-clause-state
+returns-clause-state c =
+    let all : c.loop.counter ≡ c.args.calls = omega arith in
+    rw all at c.loop.invariant.state
