@@ -47,24 +47,26 @@ pub returns-then-kind-eq0-clause-call : goal.returns-then-kind-eq0-clause-call
 returns-then-kind-eq0-clause-call c =
     let x = c.args.self.now.state in
     let first = c.draw-kind.ensures in
+    let kind : c.draw-kind.result % 4 ≡ kind_drawn x = first-drawn x _ _ first.number first.state in
     let second = c.draw.ensures in
-    read-drawn _ _ x _ _ (first-drawn x _ _ first.number first.state) c.if-kind-eq0.true
+    read-drawn _ _ x _ _ kind c.if-kind-eq0.true
     (second-drawn x _ _ _ _ _ second.number second.state first.state c.from.ensures)
 
 pub returns-then-kind-eq0-clause-state : goal.returns-then-kind-eq0-clause-state
 returns-then-kind-eq0-clause-state c =
     let x = c.args.self.now.state in
     let first = c.draw-kind.ensures in
+    let kind : c.draw-kind.result % 4 ≡ kind_drawn x = first-drawn x _ _ first.number first.state in
     let second = c.draw.ensures in
-    state-read x _ _ _ (first-drawn x _ _ first.number first.state) c.if-kind-eq0.true second.state first.state
+    state-read x _ _ _ kind c.if-kind-eq0.true second.state first.state
 
 pub returns-clause-call : goal.returns-clause-call
 returns-clause-call c =
     let x = c.args.self.now.state in
     let first = c.draw-kind.ensures in
+    let kind : c.draw-kind.result % 4 ≡ kind_drawn x = first-drawn x _ _ first.number first.state in
     let second = c.draw.ensures in
     let third = c.draw-2.ensures in
-    let kind = first-drawn x _ _ first.number first.state in
     let source : c.if-kind-eq1.result ≡ source_drawn c.args.processes c.args.process x =
     elim c.if-kind-eq1.branch [
       | then-kind-eq1 w ↦
@@ -81,6 +83,7 @@ pub returns-clause-state : goal.returns-clause-state
 returns-clause-state c =
     let x = c.args.self.now.state in
     let first = c.draw-kind.ensures in
+    let kind : c.draw-kind.result % 4 ≡ kind_drawn x = first-drawn x _ _ first.number first.state in
     let second = c.draw.ensures in
     let third = c.draw-2.ensures in
-    state-transfer x _ _ _ _ (first-drawn x _ _ first.number first.state) c.if-kind-eq0.false third.state second.state first.state
+    state-transfer x _ _ _ _ kind c.if-kind-eq0.false third.state second.state first.state
