@@ -4,8 +4,11 @@
 //! journal at the end. `replay` picks them by a schedule, and plays out what the schedule leaves. Each call is the state machine of
 //! at_calling, so it makes the steps of the object's call over the same board, and its receipt is accounted for as the object's are.
 //!
-//! The definitions read best in this order: `Callers`, the calls of one process; `Stepping`, those of all; `Schedules` and
-//! `Replays`, whose turn is next.
+//! A stepper has all seats, so it keeps what they have seen, put together: that is what is published. A call begins with its first turn,
+//! when its seat has seen just that.
+//!
+//! The definitions read best in this order: `Callers`, the calls of one process; `Stepping`, those of all; `Schedules`, whose turn is
+//! next; `InTurns`, what the turns that lead to a run say of its calls, its records and its journal.
 #![tactic(auto)]
 
 mod beginning;

@@ -39,6 +39,7 @@ impl Run {
         let board = self.ledger.board();
         let caller = &mut self.callers[process as usize];
         let turned = caller.next_turn(board, &mut self.overview);
+        // Right here: no other seat has made a step since the overview took all of them in, so with this one it has all again.
         caller.show(board, &mut self.overview);
         show_all(board, &mut self.callers, &mut self.overview);
         turned
@@ -62,7 +63,8 @@ impl Run {
     }
 }
 
-/// Has an overview take in each seat once more, which it has already: so it has of each process just the records that its own seat has.
+/// Has an overview take in each seat once more, which it has already. A seat has seen all that its process has published, so the overview
+/// has of each process just the records that its own seat has.
 fn show_all(board: &Board, callers: &mut [Caller], overview: &mut Overview)
     requires callers { AreCallersOn board.now callers.old }
     requires overview { IsOverviewOf overview.old board.now }
