@@ -16,7 +16,7 @@ use Rattle.at_log.specs.JournalOrder.{journal_lines}
 use Rattle.at_log.specs.declared.receipt.Receipt.{Receipt}
 use Rattle.at_object.specs.Closings.{ClosedTerms, HasAllLogs}
 use Rattle.at_object.specs.Passes.{PassTerms}
-use Rattle.at_stepper.proofs.ScheduleLaws.{IsMadeByTurns-RunsTo}
+use Rattle.at_stepper.proofs.CountedTurns.{IsMadeByTurns-RunsTo}
 use Rattle.at_stepper.proofs.TimedLaws.{AreTimed-RunsTo}
 use Rattle.at_stepper.specs.Callers.{CallerTerms}
 use Rattle.at_stepper.specs.InTurns.{IsJournalOf, RunsTo, times_of}

@@ -1,4 +1,5 @@
 pub mod LookLaws
+pub mod LoadLaws
 pub mod PublishedLaws
 pub mod CallerLaws
 pub mod StepLaws
@@ -13,6 +14,8 @@ pub mod PublishedTurns
 pub mod TimedCallers
 pub mod TimedTurns
 pub mod TimedLaws
+pub mod CountLaws
 pub mod ScheduleLaws
+pub mod CountedTurns
 pub mod ClosedLaws
 pub mod JournalLaws

@@ -168,3 +168,31 @@ look-CallMade b before after (Read account) r made kept book placed =
       look-Front after.knows r.at made.at_front,
     )
 look-CallMade b before after (Pay from targets) r made kept book placed = look-PaymentMade b before after from targets (Pay from targets) r made refl kept book placed
+
+-- a receipt rests on a snapshot that its call has made, or it stands in a round, or nowhere
+abbrev pub HasNoFront : At → Type 0
+HasNoFront at = ((round : ℕ) × (place : ℕ) × (at ≡ At.Round round place)) ⊎ (at ≡ At.Previous)
+
+abbrev pub RestsOnSnapshot : BookTerms → Knowledge → Knowledge → At → Type 0
+RestsOnSnapshot b before after at = IsSnapshot b before after (front_behind after at) ⊎ HasNoFront at
+
+snapshot-PaymentMade : (b : BookTerms) (before after : PassTerms) (source : ℕ) (targets : List TargetPair) (call : Call) (r : Receipt)
+    → PaymentMade b before after source targets call r → RestsOnSnapshot b before.knows after.knows r.at
+snapshot-PaymentMade b before after source targets call r made =
+    elim (decided_or_refused (is_owner b before.knows.first source) (has_used_up b before source) _ r made.reply) as
+    (λ _. RestsOnSnapshot b before.knows after.knows r.at) [
+      | inl refused ↦ inr (inr (made.refused_at refused))
+      | inr decided ↦
+          elim (cases_Bool (is_shared (account_of b source))) as (λ _. RestsOnSnapshot b before.knows after.knows r.at) [
+            | inl shared ↦ let paid = (made.in_round decided shared).in_round in inr (inl (paid.round, paid.place, paid.at))
+            | inr other ↦
+                inl (made.alone decided (single-PaymentMade b before after source targets call r made decided other)).snapshot
+          ]
+    ]
+
+pub snapshot-CallMade : (b : BookTerms) (before after : PassTerms) (call : Call) (r : Receipt) → CallMade b before after call r
+    → RestsOnSnapshot b before.knows after.knows r.at
+snapshot-CallMade b before after (Transfer from to amount) r made =
+    snapshot-PaymentMade b before after from ((to, amount) ∷ []) (Transfer from to amount) r made
+snapshot-CallMade b before after (Read account) r made = inl made.snapshot
+snapshot-CallMade b before after (Pay from targets) r made = snapshot-PaymentMade b before after from targets (Pay from targets) r made

@@ -1,27 +1,25 @@
 -- A run's turns have published its records, and each answered call looks at what was published at one of its moments.
-use Rattle.std.proofs.Common.{◌≡◌, ◌≢◌, ℕ, ◌+◌, ◌<◌, ◌≤◌, ◌==◌, false, true, List, [], ◌∷◌, ◌++◌, None, length, get_or, map, sym, ap, subst, ◌∙◌, arith, inl, inr}
+use Rattle.std.proofs.Common.{◌≡◌, ◌≢◌, ℕ, ◌+◌, ◌<◌, ◌≤◌, ◌==◌, true, List, [], ◌∷◌, ◌++◌, None, length, get_or, sym, ap, subst, ◌∙◌, arith, inl, inr}
 use Rattle.std.proofs.lemmas.Bool.{cases_eq, cases_lt}
 use Rattle.std.proofs.lemmas.List.{length_push}
 use Rattle.at_ledger.specs.Book.{BookTerms}
 use Rattle.at_ledger.specs.declared.call.Call.{Call}
 use Rattle.at_history.proofs.Laws.Prefixes.{IsPrefix-length}
-use Rattle.at_history.specs.Publications.{IsPrefix}
 use Rattle.at_history.specs.declared.publication.Publication.{Publication}
-use Rattle.at_log.specs.ClosingTerms.{ClosingTerms, receipts_of}
 use Rattle.at_log.specs.InTime.{look_at}
 use Rattle.at_log.specs.Receipts.{receipt_at}
 use Rattle.at_log.specs.declared.receipt.At.{At}
 use Rattle.at_log.specs.declared.receipt.At.TheVariants.{Previous}
 use Rattle.at_log.specs.declared.receipt.Receipt.{Receipt}
 use Rattle.at_object.specs.Passes.{PassTerms}
+use Rattle.at_stepper.proofs.CountLaws.{published-begun, published-ended}
 use Rattle.at_stepper.proofs.PublishedTurns.{PublishInOrder-none, PublishInOrder-push, moment_between, published_by_then-le, published_by_then-push}
 use Rattle.at_stepper.proofs.TimedCallers.{ahead-IsTurned, begins_or_on, caller_look, caller_look-le, caller_look-more, caller_receipt-more, count-IsTurned, still-IsTurned}
-use Rattle.at_stepper.proofs.TimedLaws.{AreTimedTurns-RunsTo, known_caller, look-list, receipts_of-caller}
+use Rattle.at_stepper.proofs.TimedLaws.{AreTimedTurns-RunsTo}
 use Rattle.at_stepper.proofs.TimedTurns.{AreTimedTurns, HasMore-turned, pass_seen}
-use Rattle.at_stepper.proofs.TurnCounts.{some_of}
-use Rattle.at_stepper.proofs.TurnTimes.{begun-push, ended-other, ended-own, is_next_of, is_next_of-number, next-answered, number-is_next_of, process-is_next_of}
+use Rattle.at_stepper.proofs.TurnTimes.{ended-own, is_next_of, is_next_of-number, next-answered, number-is_next_of, process-is_next_of}
 use Rattle.at_stepper.specs.Callers.{CallerTerms, IsTurned, answers_in}
-use Rattle.at_stepper.specs.InTurns.{PublishInOrder, IsMadeByTurns, LooksWithin, RunsTo, published_by_then, times_of, turns_of_call}
+use Rattle.at_stepper.specs.InTurns.{PublishInOrder, LooksWithin, RunsTo, published_by_then, times_of, turns_of_call}
 use Rattle.at_stepper.specs.InTurns.RunsTo.{goes_on, starts}
 use Rattle.at_stepper.specs.Schedules.{answered_by}
 use Rattle.at_stepper.specs.Stepping.{ChangesOne, IsNewStepper, StepperTerms}
@@ -34,7 +32,7 @@ pub record IsLookBetween (turns : List TurnMade) (q j look : ℕ) : Type 0 where
   pub until : look ≤ published_by_then turns ((times_of turns).ended q j + 1)
 
 -- so it is what was published at a moment of the call
-LooksWithin-between : (turns : List TurnMade) (published : List Publication) (p i look : ℕ) (at : At) → look_at p published at ≡ look
+pub LooksWithin-between : (turns : List TurnMade) (published : List Publication) (p i look : ℕ) (at : At) → look_at p published at ≡ look
     → (times_of turns).begun p i ≤ (times_of turns).ended p i → IsLookBetween turns p i look → LooksWithin turns published p i at
 LooksWithin-between turns published p i look at is spans between =
     let one = moment_between turns look ((times_of turns).begun p i) ((times_of turns).ended p i + 1) (omega (arith, spans)) between.since between.until in
@@ -56,19 +54,6 @@ module _ (b : BookTerms) (turns : List TurnMade) (t : TurnMade) (turned : Turned
   abbrev all : List TurnMade
   all = turns ++ t ∷ []
 
-  -- as much was published when a call began that had begun
-  published-begun : (q j : ℕ) → 0 < length (turns_of_call turns q j)
-      → published_by_then all ((times_of all).begun q j) ≡ published_by_then turns ((times_of turns).begun q j)
-  published-begun q j some =
-      ap (published_by_then all) (begun-push turns t q j some)
-      ∙ published_by_then-push turns t ((times_of turns).begun q j) (omega (arith, were.times.spans q j some, were.times.within q j some))
-
-  published-ended : (q j : ℕ) → is_next_of turns t q j ≡ false → 0 < length (turns_of_call turns q j)
-      → published_by_then all ((times_of all).ended q j + 1) ≡ published_by_then turns ((times_of turns).ended q j + 1)
-  published-ended q j other some =
-      ap (λ m. published_by_then all (m + 1)) (ended-other turns t q j other)
-      ∙ published_by_then-push turns t ((times_of turns).ended q j + 1) (omega (arith, were.times.within q j some))
-
   -- a call that was answered
   look-old : (q j : ℕ) (d : CallerTerms) → q < length before → j < length (get_or before q d).receipts
       → (receipt_at (get_or after q d).receipts j).at ≢ Previous → IsLookBetween all q j (caller_look (get_or after q d) j)
@@ -82,8 +67,8 @@ module _ (b : BookTerms) (turns : List TurnMade) (t : TurnMade) (turned : Turned
       let some = were.times.some q j (omega (arith, old, counted_then)) in
       let other = is_next_of-number turns t q j (λ number. absurd (omega (arith, old, number, counted_then))) in
       record {
-        since = omega (arith, was.since, look, published-begun q j some);
-        until = omega (arith, was.until, look, published-ended q j other some);
+        since = omega (arith, was.since, look, published-begun turns t were.times q j some);
+        until = omega (arith, was.until, look, published-ended turns t were.times q j other some);
       }
 
   -- the process's caller, and what its turn goes on from
@@ -101,7 +86,7 @@ module _ (b : BookTerms) (turns : List TurnMade) (t : TurnMade) (turned : Turned
     inside = omega (arith, own, changes.count)
 
     -- when the process's call began no more was published than its caller had seen
-    since-begun : (j : ℕ) → answered_by t.process turns ≡ j → 0 < length (turns_of_call all t.process j)
+    pub since-begun : (j : ℕ) → answered_by t.process turns ≡ j → 0 < length (turns_of_call all t.process j)
         → published_by_then all ((times_of all).begun t.process j) ≤ length one.ready.pass.knows.seen
     since-begun j is some =
         elim (begins_or_on b published was one.ready now one.stage one.is_ready) as
@@ -121,7 +106,7 @@ module _ (b : BookTerms) (turns : List TurnMade) (t : TurnMade) (turned : Turned
               subst (λ k. 0 < length (turns_of_call turns t.process k)) is (were.going t.process d own going_on.0) in
               let making = subst (λ k. published_by_then turns ((times_of turns).begun t.process k) ≤ length was.pass.knows.seen) is
               (looks.making t.process d own going_on.0) in
-              omega (arith, published-begun t.process j had, making, ap (λ (c : CallerTerms). length c.pass.knows.seen) going_on.1)
+              omega (arith, published-begun turns t were.times t.process j had, making, ap (λ (c : CallerTerms). length c.pass.knows.seen) going_on.1)
         ]
 
     -- it is answered with a look at what was published by now
@@ -199,7 +184,7 @@ module _ (b : BookTerms) (turns : List TurnMade) (t : TurnMade) (turned : Turned
             omega (
               arith,
               looks.making q d within was_going,
-              published-begun q (answered_by q turns) (were.going q d within was_going),
+              published-begun turns t were.times q (answered_by q turns) (were.going q d within was_going),
               ap (λ i. published_by_then all ((times_of all).begun q i)) answers,
               ap (λ (c : CallerTerms). length c.pass.knows.seen) same,
             )
@@ -231,7 +216,7 @@ AreLooksBetween-none b files s new = record {
 }
 
 -- and of each call the look is between
-AreLooksBetween-RunsTo : (b : BookTerms) (files : List (List Call)) (turns : List TurnMade) (s : StepperTerms) → RunsTo b files turns s
+pub AreLooksBetween-RunsTo : (b : BookTerms) (files : List (List Call)) (turns : List TurnMade) (s : StepperTerms) → RunsTo b files turns s
     → AreLooksBetween turns s.callers
 AreLooksBetween-RunsTo b files _ _ (starts s new) = AreLooksBetween-none b files s new
 AreLooksBetween-RunsTo b files _ _ (goes_on turns before after t turned runs one made) =
@@ -240,28 +225,3 @@ AreLooksBetween-RunsTo b files _ _ (goes_on turns before after t turned runs one
     (AreTimedTurns-RunsTo b files turns before runs) (AreTimedTurns-RunsTo b files (turns ++ t ∷ []) after whole) one.changes made.answered
     (PublishInOrder-RunsTo b files turns before runs) (PublishInOrder-RunsTo b files (turns ++ t ∷ []) after whole)
     (AreLooksBetween-RunsTo b files turns before runs)
-
--- so the turns have made each closing of its receipts
-module _ (b : BookTerms) (files : List (List Call)) (turns : List TurnMade) (s : StepperTerms) (c : ClosingTerms) (runs : RunsTo b files turns s)
-    (receipts : c.receipts ≡ map (λ (caller : CallerTerms). caller.receipts) s.callers) where
-  timed : AreTimedTurns turns s.callers s.published
-  timed = AreTimedTurns-RunsTo b files turns s runs
-
-  seen : (p : ℕ) (d : CallerTerms) → p < length s.callers → IsPrefix (get_or s.callers p d).pass.knows.seen s.published
-  seen = pass_seen turns s.callers s.published timed
-
-  looks_within : (p i : ℕ) → p < length c.receipts → i < length (receipts_of c p) → (receipt_at (receipts_of c p) i).at ≢ Previous
-      → LooksWithin turns s.published p i (receipt_at (receipts_of c p) i).at
-  looks_within p i within inside placed =
-      let known = known_caller turns s.callers s.published timed c s.published receipts seen p within in
-      let d = some_of s.callers p known in
-      let is = receipts_of-caller turns s.callers s.published timed c s.published receipts seen p d known in
-      let answered : i < length (get_or s.callers p d).receipts = omega (arith, inside, ap (λ (rs : List Receipt). length rs) is) in
-      LooksWithin-between turns s.published p i (caller_look (get_or s.callers p d) i) (receipt_at (receipts_of c p) i).at
-      (look-list turns s.callers s.published timed c s.published receipts seen p i within inside)
-      (timed.times.spans p i (timed.times.some p i (omega (arith, answered, timed.counted p d known))))
-      ((AreLooksBetween-RunsTo b files turns s runs).answered p i d known answered
-      (subst (λ (rs : List Receipt). (receipt_at rs i).at ≢ Previous) is placed))
-
-  pub IsMadeByTurns-RunsTo : IsMadeByTurns turns s.published c
-  IsMadeByTurns-RunsTo = record { published_are = PublishInOrder-RunsTo b files turns s runs; looks = looks_within }

@@ -13,9 +13,10 @@ use Rattle.at_log.specs.Told.{keys_of}
 use Rattle.at_log.specs.declared.receipt.At.TheVariants.{Previous}
 use Rattle.at_log.specs.declared.receipt.Receipt.{Receipt}
 use Rattle.at_object.proofs.Laws.Calls.{begins-CallMade, process-CallMade}
-use Rattle.at_object.specs.Passes.{PassTerms, Stands}
+use Rattle.at_object.specs.Passes.{PassTerms, Stands, seat_of}
 use Rattle.at_calling.specs.declared.call_stage.CallStage.{CallStage}
 use Rattle.at_stepper.proofs.KeyLaws.{key-in, key-le, key-same, look-in, look-le, look-same}
+use Rattle.at_stepper.proofs.LookLaws.{RestsOnSnapshot, snapshot-CallMade}
 use Rattle.at_stepper.specs.Callers.{BeginsCall, CallerTerms, IsReadyToTurn, IsReadyFrom, IsTurned, LeavesCaller, answers_in, next_call}
 use Rattle.at_stepper.specs.declared.turned.Turned.{Turned}
 use Rattle.at_stepper.specs.declared.turned.Turned.TheVariants.{Answer, Step}
@@ -185,6 +186,19 @@ module _ (b : BookTerms) (published : List Publication) (before ready after : Ca
       subst (λ (x : Receipt). length ready.pass.knows.seen ≤ look_at after.pass.knows.first after.pass.knows.seen x.at) (sym is)
       (answered.looked (subst (λ (x : Receipt). x.at ≢ Previous) is placed))
 
+  -- which rests on a snapshot of the call, whose seat is then the pass's
+  snapshot-left : (turned : Turned) (i : ℕ) → LeavesCaller b ready after stage turned → length ready.receipts ≤ i → i < length after.receipts
+      → RestsOnSnapshot b ready.pass.knows after.pass.knows (receipt_at after.receipts i).at × (seat_of after.pass ≡ after.seat)
+  snapshot-left Step i still past within = absurd (omega (arith, past, within, ap (λ (rs : List Receipt). length rs) still.receipts))
+  snapshot-left (Answer r) i answered past within =
+      let count = ap (λ (rs : List Receipt). length rs) answered.receipts ∙ length_push ready.receipts r in
+      let is : receipt_at after.receipts i ≡ r =
+      ap (λ rs. receipt_at rs i) answered.receipts ∙ get_or_push ready.receipts r _ i (omega (arith, past, within, count)) in (
+        subst (λ (x : Receipt). RestsOnSnapshot b ready.pass.knows after.pass.knows x.at) (sym is)
+            (snapshot-CallMade b ready.pass after.pass (next_call ready) r answered.made),
+        answered.seat,
+      )
+
 -- a caller has turned
 module _ (b : BookTerms) (published : List Publication) (turned : Turned) (before after : CallerTerms)
     (one : IsTurned b published turned before after) where
@@ -211,3 +225,9 @@ module _ (b : BookTerms) (published : List Publication) (turned : Turned) (befor
   ahead-IsTurned i past within placed =
       ahead-left b published before one.ready after one.stage turned i one.leaves
       (omega (arith, past, count-ready b published before one.ready after one.stage one.is_ready)) within placed
+
+  pub snapshot-IsTurned : (i : ℕ) → length before.receipts ≤ i → i < length after.receipts
+      → RestsOnSnapshot b one.ready.pass.knows after.pass.knows (receipt_at after.receipts i).at × (seat_of after.pass ≡ after.seat)
+  snapshot-IsTurned i past within =
+      snapshot-left b published before one.ready after one.stage turned i one.leaves
+      (omega (arith, past, count-ready b published before one.ready after one.stage one.is_ready)) within

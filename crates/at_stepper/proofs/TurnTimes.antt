@@ -1,5 +1,5 @@
 -- The turns of each call, with one turn more: a call begins with its first, and ends with its last.
-use Rattle.std.proofs.Common.{◌≡◌, ◌≢◌, ℕ, zero, suc, ◌-◌, ◌<◌, ◌≤◌, ◌==◌, ◌&&◌, Bool, true, false, cond, List, [], ◌∷◌, ◌++◌, filter, length, get_or, slice_index, take, refl, sym, ap, ◌∙◌, append-nil, arith, inl, inr, zero-add}
+use Rattle.std.proofs.Common.{◌≡◌, ◌≢◌, ℕ, zero, suc, ◌-◌, ◌<◌, ◌≤◌, ◌==◌, ◌&&◌, Bool, true, false, cond, List, [], ◌∷◌, ◌++◌, filter, length, get_or, slice_index, refl, sym, ap, ◌∙◌, append-nil, arith, inl, inr, zero-add}
 use Rattle.std.proofs.Math.Seq.{take-append_seam}
 use Rattle.std.proofs.lemmas.Bool.{and_from, and_left, and_parts, and_right, cases_Bool, cases_eq, cases_lt, eq-eqb, ne_eqb}
 use Rattle.std.proofs.lemmas.List.{get_or_append_left, get_or_push, length_push, take-append-le}
@@ -8,7 +8,7 @@ use Rattle.std.proofs.lemmas.List.FromFn.{get_or-range_with_len, length-range_wi
 use Rattle.std.specs.List.{range_with_len}
 use Rattle.at_log.proofs.Laws.Buckets.{range_with_len-more}
 use Rattle.at_stepper.proofs.TurnCounts.{answered_by-push}
-use Rattle.at_stepper.specs.InTurns.{times_of, turn_at, turns_of_call}
+use Rattle.at_stepper.specs.InTurns.{is_turn_of, times_of, turn_at, turns_of_call}
 use Rattle.at_stepper.specs.Schedules.{answered_by}
 use Rattle.at_stepper.specs.declared.replaying.TurnMade.{TurnMade}
 
@@ -20,21 +20,17 @@ filter-same test other (x ∷ xs) same =
     (λ k. cond (same zero x (omega arith) k) (x ∷ filter test xs) (filter test xs))
     ∙ ap (λ ys. cond (other x) (x ∷ ys) ys) (filter-same test other xs (λ i d within. same (suc i) d (omega (arith, within))))
 
--- the turn of a number is one of a call's
-abbrev is_turn_of : List TurnMade → ℕ → ℕ → ℕ → Bool
-is_turn_of turns p i m = ((turn_at turns m).process == p) && (answered_by p (take m turns) == i)
-
--- and so is a turn after all these
+-- a turn after all these is one of a call
 abbrev pub is_next_of : List TurnMade → TurnMade → ℕ → ℕ → Bool
 is_next_of turns t p i = (t.process == p) && (answered_by p turns == i)
 
 module _ (turns : List TurnMade) (t : TurnMade) where
-  is_turn_of-push : (p i m : ℕ) → m < length turns → is_turn_of (turns ++ t ∷ []) p i m ≡ is_turn_of turns p i m
+  pub is_turn_of-push : (p i m : ℕ) → m < length turns → is_turn_of (turns ++ t ∷ []) p i m ≡ is_turn_of turns p i m
   is_turn_of-push p i m within =
       (λ k. ((get_or_append_left turns (t ∷ []) (turn_at [] 0) m within k).process == p)
       && (answered_by p (take-append-le m turns (t ∷ []) (omega (arith, within)) k) == i))
 
-  is_turn_of-last : (p i : ℕ) → is_turn_of (turns ++ t ∷ []) p i (length turns) ≡ is_next_of turns t p i
+  pub is_turn_of-last : (p i : ℕ) → is_turn_of (turns ++ t ∷ []) p i (length turns) ≡ is_next_of turns t p i
   is_turn_of-last p i =
       (λ k. ((get_or_push turns t (turn_at [] 0) (length turns) refl k).process == p)
       && (answered_by p (take-append_seam turns (t ∷ []) k) == i))

@@ -1,12 +1,12 @@
 -- Runs by turns: which turns lead to a run, when its calls begin and end, and what its journal is.
-use Rattle.std.specs.Prelude.{◌≡◌, ◌≢◌, ℕ, ◌+◌, ◌-◌, ◌<◌, ◌≤◌, ◌==◌, ◌&&◌, ◌++◌, false, true, List, [], ◌∷◌, count_by, filter, if◌then◌else◌, length, map, slice_index, slice_index_or, take}
+use Rattle.std.specs.Prelude.{◌≡◌, ◌≢◌, ◌⊎◌, ℕ, ◌+◌, ◌-◌, ◌<◌, ◌≤◌, ◌==◌, ◌&&◌, ◌++◌, Bool, false, true, List, Option, None, Some, [], ◌∷◌, count_by, filter, if◌then◌else◌, length, map, slice_index, slice_index_or, take}
 use Rattle.std.specs.List.{range_with_len}
 use Rattle.at_journal.specs.Linearizable.{AreTimed, CallTimes, IsLinearizable}
 use Rattle.at_ledger.specs.Book.{BookTerms}
 use Rattle.at_ledger.specs.declared.call.Call.{Call}
 use Rattle.at_ledger.specs.declared.call.Line.{Line}
 use Rattle.at_history.specs.BoardState.{publication_at}
-use Rattle.at_history.specs.Publications.{publications_of}
+use Rattle.at_history.specs.Publications.{count_of, publications_of}
 use Rattle.at_history.specs.declared.publication.Publication.{Publication}
 use Rattle.at_log.specs.ClosingTerms.{ClosingTerms, log_published, receipts_of}
 use Rattle.at_log.specs.Coherent.{Coherent}
@@ -14,7 +14,9 @@ use Rattle.at_log.specs.InTime.{KeepsTime, look_at}
 use Rattle.at_log.specs.JournalOrder.{journal_lines}
 use Rattle.at_log.specs.Receipts.{receipt_at}
 use Rattle.at_log.specs.declared.receipt.At.{At}
-use Rattle.at_stepper.specs.Callers.{answers_in}
+use Rattle.at_log.specs.declared.receipt.At.TheVariants.{Front, Own, Round, Previous}
+use Rattle.at_calling.specs.Calling.{length_loaded}
+use Rattle.at_stepper.specs.Callers.{CallerTerms, answers_in}
 use Rattle.at_stepper.specs.Schedules.{AreTurnsOf, answered_by}
 use Rattle.at_stepper.specs.Stepping.{IsNewStepper, IsOver, StepperTerms, TurnsOne}
 use Rattle.at_stepper.specs.declared.replaying.Replayed.{Replayed}
@@ -35,10 +37,13 @@ pub data RunsTo (b : BookTerms) (files : List (List Call)) : List TurnMade → S
 abbrev pub turn_at : List TurnMade → ℕ → TurnMade
 turn_at turns m = slice_index_or turns m (record { process = 0; answered = false; published = false })
 
--- the turns of a call, by their numbers from 0: those of its process after so many answers to it
+-- the turn of a number, from 0, is one of a call: it is of the call's process, after so many answers to it
+abbrev pub is_turn_of : List TurnMade → ℕ → ℕ → ℕ → Bool
+is_turn_of turns p i m = ((turn_at turns m).process == p) && (answered_by p (take m turns) == i)
+
+-- all turns of a call
 abbrev pub turns_of_call : List TurnMade → ℕ → ℕ → List ℕ
-turns_of_call turns p i =
-    filter (λ m. ((turn_at turns m).process == p) && (answered_by p (take m turns) == i)) (range_with_len 0 (length turns))
+turns_of_call turns p i = filter (is_turn_of turns p i) (range_with_len 0 (length turns))
 
 -- a call begins with its first turn, and ends with its last
 abbrev pub times_of : List TurnMade → CallTimes
@@ -64,12 +69,55 @@ pub record LooksWithin (turns : List TurnMade) (published : List Publication) (p
   pub ended : moment ≤ (times_of turns).ended p i + 1
   pub look : look_at p published at ≡ published_by_then turns moment
 
--- these turns have made a closing of these records: they have published them in this order, and each call that isn't refused looks at just
--- what was published at one of its moments
-pub record IsMadeByTurns (turns : List TurnMade) (published : List Publication) (c : ClosingTerms) : Type 0 where
+-- which length a run's turn of this number has loaded, if it has. The other caller stands for one that isn't there
+unfoldable pub length_loaded_in : (b : BookTerms) (files : List (List Call)) (turns : List TurnMade) (s : StepperTerms) → RunsTo b files turns s
+    → CallerTerms → ℕ → Option ℕ
+length_loaded_in b files _ _ (starts s new) other m = None
+length_loaded_in b files _ _ (goes_on turns before after t turned runs one made) other m =
+    if m == length turns then length_loaded (one.changes.here other).stage else length_loaded_in b files turns before runs other m
+
+-- a turn of the call has loaded a length, and no later one of its turns has. So the count has just the records of that process which the
+-- turns before it have published
+pub record IsLastLoad (turns : List TurnMade) (loaded : ℕ → Option ℕ) (published : List Publication) (p i q count : ℕ) : Type 0 where
+  pub turn : ℕ
+  pub since : (times_of turns).begun p i ≤ turn
+  pub until : turn ≤ (times_of turns).ended p i
+  pub process_is : (turn_at turns turn).process ≡ p
+  pub loads : loaded turn ≡ Some q
+  pub last : (m : ℕ) → turn < m → m < length turns → is_turn_of turns p i m ≡ true → loaded m ≢ Some q
+  pub count_is : count ≡ count_of q (take (published_by_then turns turn) published)
+
+-- each of the counts is what the call has loaded last
+abbrev pub AreLoaded : List TurnMade → (ℕ → Option ℕ) → List Publication → ℕ → ℕ → List ℕ → Type 0
+AreLoaded turns loaded published p i counts = (q : ℕ) → q < length counts → IsLastLoad turns loaded published p i q (slice_index counts q)
+
+-- the counts are the view of a record that another process has published from the call's first turn to its last
+pub record AreBorrowed (turns : List TurnMade) (published : List Publication) (p i : ℕ) (counts : List ℕ) : Type 0 where
+  pub number : ℕ
+  pub since : published_by_then turns ((times_of turns).begun p i) ≤ number
+  pub until : number < published_by_then turns ((times_of turns).ended p i + 1)
+  pub other : (publication_at published number).process ≢ p
+  pub same : (publication_at published number).view ≡ counts
+
+abbrev pub AreLoadedOrBorrowed : List TurnMade → (ℕ → Option ℕ) → List Publication → ℕ → ℕ → List ℕ → Type 0
+AreLoadedOrBorrowed turns loaded published p i counts = AreLoaded turns loaded published p i counts ⊎ AreBorrowed turns published p i counts
+
+-- so it is of the front of a receipt, or of the view of its own record
+abbrev pub CountsLoads : List TurnMade → (ℕ → Option ℕ) → List Publication → ℕ → ℕ → At → Type 0
+CountsLoads turns loaded published p i (Front view) = AreLoadedOrBorrowed turns loaded published p i view
+CountsLoads turns loaded published p i (Own number) =
+    AreLoadedOrBorrowed turns loaded published p i (publication_at (publications_of p published) number).view
+CountsLoads turns loaded published p i (Round round place) = Unit {0}
+CountsLoads turns loaded published p i Previous = Unit {0}
+
+-- these turns, with what each has loaded, have made a closing of these records: they have published them in this order, each call that isn't
+-- refused looks at just what was published at one of its moments, and its look counts what the call has loaded last, or is borrowed
+pub record IsMadeByTurns (turns : List TurnMade) (loaded : CallerTerms → ℕ → Option ℕ) (published : List Publication) (c : ClosingTerms) : Type 0 where
   pub published_are : PublishInOrder turns published
-  pub looks : (p i : ℕ) → p < length c.receipts → i < length (receipts_of c p) → (receipt_at (receipts_of c p) i).at ≢ At.Previous →
+  pub looks : (p i : ℕ) → p < length c.receipts → i < length (receipts_of c p) → (receipt_at (receipts_of c p) i).at ≢ Previous →
       LooksWithin turns published p i (receipt_at (receipts_of c p) i).at
+  pub counts : (other : CallerTerms) (p i : ℕ) → p < length c.receipts → i < length (receipts_of c p) →
+      CountsLoads turns (loaded other) published p i (receipt_at (receipts_of c p) i).at
 
 -- the lines are the journal of a run: those of a coherent closing of its receipts and of what is published, in the order of its keys. Whatever
 -- turns led to the run, they have made the closing, its calls have their times, and the lines are linearizable
@@ -80,8 +128,8 @@ pub record IsJournalOf (s : StepperTerms) (lines : List Line) : Type 0 where
   pub logs : (p : ℕ) → p < length s.callers → log_published closing p ≡ publications_of p s.published
   pub in_time : KeepsTime s.published closing
   pub lines_are : lines ≡ journal_lines closing
-  pub scheduled : (b : BookTerms) (files : List (List Call)) (turns : List TurnMade) → RunsTo b files turns s →
-      IsMadeByTurns turns s.published closing
+  pub scheduled : (b : BookTerms) (files : List (List Call)) (turns : List TurnMade) (runs : RunsTo b files turns s) →
+      IsMadeByTurns turns (length_loaded_in b files turns s runs) s.published closing
   pub timed : (b : BookTerms) (files : List (List Call)) (turns : List TurnMade) → RunsTo b files turns s → AreTimed closing (times_of turns)
   pub linearizable : (b : BookTerms) (files : List (List Call)) (turns : List TurnMade) → RunsTo b files turns s →
       IsLinearizable b files (times_of turns) lines
