@@ -1,17 +1,15 @@
 -- The texts that are numbers are the canonical decimals.
-use Rattle.std.proofs.Common.{◌≢◌, eqb, ◌≡◌, ℕ, ◌^◌, ◌<◌, ◌↔◌, Bool, true, false, ◌&&◌, nat_lt, List, length, get_or, Some, None, decimal, refl, sym, ap, ◌∙◌, arith, rules, inl, inr, ◌⊎◌, Result, Ok, Err, IsUtf8, if◌then◌else◌}
-use Rattle.std.specs.Result.{result_ok}
-use Rattle.std.specs.Str.Parse.{ParsesUnsigned}
+use Rattle.std.proofs.Common.{◌≡◌, ℕ, ◌^◌, ◌<◌, ◌↔◌, Bool, true, false, ◌&&◌, nat_lt, List, length, get_or, Some, None, decimal, refl, sym, ap, ◌∙◌, arith, rules, inl, inr, ◌⊎◌, ◌+◌, ◌*◌, ◌≤◌, take, if◌then◌else◌}
 use borrow.Author.Tests.{ltb-true}
-use Rattle.std.proofs.lemmas.Str.{IsUtf8-from_ascii}
-use Rattle.std.specs.Char.{is_ascii_digit}
+use Rattle.std.specs.Char.{digit_value, is_ascii_digit}
 use Rattle.std.specs.List.{list_all}
 use Rattle.std.specs.Str.Parse.{digits_value}
 use Rattle.std.proofs.lemmas.Grind.{common_steps}
-use Rattle.std.proofs.lemmas.Bool.Decides.{eqb_tells, nat_tests}
-use Rattle.std.proofs.lemmas.List.{length-drop}
-use Rattle.std.proofs.lemmas.Str.Parse.{IsDigitsTest, IsNumeralModel, numerals_by_value, parse_plain, parse_plus, not_in_digits}
-use Rattle.std.proofs.lemmas.Fmt.{digits_decimal, digits_value-decimal, decimal-digits_value, first_decimal, decimal_digit, IsAscii-from_digits}
+use Rattle.std.proofs.lemmas.Bool.Decides.{nat_tests}
+use Rattle.std.proofs.lemmas.Int.Digits.{digits_value_more}
+use Rattle.std.proofs.lemmas.List.Folds.{list_all_at, list_all_more}
+use Rattle.std.proofs.lemmas.Str.Parse.{IsDigitsTest, IsNumeralModel, digits_value-take-le, numerals_by_value}
+use Rattle.std.proofs.lemmas.Fmt.{digits_decimal, digits_value-decimal, decimal-digits_value, first_decimal, decimal_digit}
 use Rattle.at_base.specs.Numbers.{begins_canonical, is_canonical, number_of}
 
 -- each byte is a digit
@@ -97,36 +95,6 @@ number_of-refused : (text : List ℕ) (canonical : Bool) → is_canonical text �
 number_of-refused text true is refused = number_of_long text is (λ fits. refused (IsCanonical-is_canonical text is) fits)
 number_of-refused text false is refused = number_of-other text is
 
--- std's reading of a text with no sign in front gives its number, where its begin is canonical
-number_of-parsed_plain : {E : Type 0} (text : List ℕ) (r : Result ℕ E) → begins_canonical text ≡ true → get_or text 0 0 ≢ 43 → ParsesUnsigned 64 10 text r
-    → result_ok r ≡ number_of text
-number_of-parsed_plain {E} text (Ok n) begins plain parses =
-    let is = parse_plain own {E = E} 64 text (Ok n) parses plain in
-    let canonical : is_canonical text ≡ true = rw (is.0.0, begins) refl in
-    ap Some is.1 ∙ sym (number_of_fits text canonical is.0.2)
-number_of-parsed_plain {E} text (Err e) begins plain parses =
-    let is = parse_plain own {E = E} 64 text (Err e) parses plain in
-    sym (number_of-refused text (is_canonical text) refl (λ parts fits. is (parts.digits, parts.some, fits)))
-
--- a sign alone is no number, for std as for us
-number_of-parsed_sign : {E : Type 0} (text : List ℕ) (r : Result ℕ E) → begins_canonical text ≡ true → get_or text 0 0 ≡ 43 → ParsesUnsigned 64 10 text r
-    → result_ok r ≡ number_of text
-number_of-parsed_sign {E} text (Ok n) begins sign parses =
-    let one : length text ≡ 1 = grind (arith, nat_tests) in
-    let is = parse_plus own {E = E} 64 text (Ok n) parses sign in
-    absurd (omega (arith, is.0.1, length-drop 1 text))
-number_of-parsed_sign {E} text (Err e) begins sign parses =
-    let one : length text ≡ 1 = grind (arith, nat_tests) in
-    sym (number_of-refused text (is_canonical text) refl (λ parts fits. not_in_digits own text 43 parts.digits (λ range. omega (arith, range)) 0 parts.some sign))
-
-number_of-parsed_by : {E : Type 0} (text : List ℕ) (r : Result ℕ E) → begins_canonical text ≡ true → ParsesUnsigned 64 10 text r
-    → ((eqb (get_or text 0 0) 43 ≡ true) × (get_or text 0 0 ≡ 43)) ⊎ ((eqb (get_or text 0 0) 43 ≡ false) × (get_or text 0 0 ≢ 43)) → result_ok r ≡ number_of text
-number_of-parsed_by text r begins parses (inl sign) = number_of-parsed_sign text r begins sign.1 parses
-number_of-parsed_by text r begins parses (inr plain) = number_of-parsed_plain text r begins plain.1 parses
-
-pub number_of-parsed : {E : Type 0} (text : List ℕ) (r : Result ℕ E) → begins_canonical text ≡ true → ParsesUnsigned 64 10 text r → result_ok r ≡ number_of text
-number_of-parsed {E} text r begins parses = number_of-parsed_by text r begins parses (eqb_tells (get_or text 0 0) 43)
-
 and_false : (b : Bool) → (b && false) ≡ false
 and_false true = refl
 and_false false = refl
@@ -135,7 +103,22 @@ and_false false = refl
 pub number_of-begins : (text : List ℕ) → begins_canonical text ≡ false → number_of text ≡ None
 number_of-begins text begins = number_of-other text (rw begins (and_false (list_all is_ascii_digit text)))
 
--- bytes that are no text are no number
-pub number_of-not_text : (text : List ℕ) → ¬ (IsUtf8 text) → number_of text ≡ None
-number_of-not_text text not_text =
-    number_of-refused text (is_canonical text) refl (λ parts fits. not_text (IsUtf8-from_ascii text (IsAscii-from_digits text (own.to text parts.digits))))
+-- a text of which one byte is no digit is no number
+pub number_of-not_digit : (text : List ℕ) (i : ℕ) → i < length text → is_ascii_digit (get_or text i 0) ≡ false → number_of text ≡ None
+number_of-not_digit text i inside other =
+    let not_all : list_all is_ascii_digit text ≡ false = list_all_at is_ascii_digit text i 0 inside other in
+    number_of-other text (rw not_all refl)
+
+-- a text that is too long a number at one of its digits is none
+pub number_of-too_long : (text : List ℕ) (i : ℕ) → i < length text → 2 ^ 64 ≤ digits_value 10 (take i text) * 10 + digit_value (get_or text i 0) → number_of text ≡ None
+number_of-too_long text i inside long =
+    number_of-refused text (is_canonical text) refl (λ parts fits.
+    omega (arith, long, fits, digits_value_more 10 text i inside, digits_value-take-le 10 text (i + 1) (omega arith)))
+
+-- digits that begin canonically are a number, where their value fits
+pub number_of-digits : (text : List ℕ) → AreDigits text → begins_canonical text ≡ true → digits_value 10 text < 2 ^ 64 → number_of text ≡ Some (digits_value 10 text)
+number_of-digits text digits begins fits = number_of_fits text (rw (digits, begins) refl) fits
+
+-- a digit more
+pub AreDigits-take_more : (text : List ℕ) (i : ℕ) → i < length text → AreDigits (take i text) → is_ascii_digit (get_or text i 0) ≡ true → AreDigits (take (i + 1) text)
+AreDigits-take_more text i inside before digit = list_all_more is_ascii_digit text i 0 inside ∙ rw (before, digit) refl

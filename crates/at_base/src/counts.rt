@@ -3,7 +3,6 @@
 ghost use Rattle.std.specs.Prelude.{◌≡◌, ◌^◌, ◌<◌, ◌≤◌, ◌↔◌, length, replicate, slice_index, slice_set, sum, IsTrue};
 ghost use Rattle.at_base.specs.Counts.{Covers};
 
-use arrayvec::ArrayVec;
 use std::marker::Model;
 
 /// The most counts of a list.
@@ -12,17 +11,18 @@ pub const COUNTS_MAX: u32 = 16;
 /// One to sixteen counts, one for each process. It takes no memory.
 #[derive(Debug, Drop)]
 pub struct Counts {
-    list: ArrayVec<u32, 16>,
+    list: [u32; 16],
+    processes: u32,
 }
 
 impl Model for Counts {
-    ghost use Rattle.std.specs.Prelude.{ℕ, ◌≤◌, List, length};
+    ghost use Rattle.std.specs.Prelude.{◌≡◌, ℕ, ◌≤◌, List, length, take};
 
     ghost Value = { List ℕ };
 
-    ghost view = { λ c. c.list.items };
+    ghost view = { λ c. take c.processes c.list };
 
-    ghost invariant = { λ c. (1 ≤ length c.list.items) × (length c.list.items ≤ 16) };
+    ghost invariant = { λ c. (1 ≤ c.processes) × (c.processes ≤ 16) × (length c.list ≡ 16) };
 }
 
 impl Counts {
@@ -32,11 +32,17 @@ impl Counts {
         requires few { n ≤ COUNTS_MAX }
         ensures { result ≡ replicate n 0 }
     {
-        let mut list = ArrayVec::new();
-        for _turn in 0..n {
-            list.push(0);
+        Counts {
+            list: [0; 16],
+            processes: n,
         }
-        Counts { list }
+    }
+
+    /// The counts as a slice.
+    fn entries(&self) -> &[u32]
+        ensures { result.now ≡ self.now }
+    {
+        &self.list[..self.processes as usize]
     }
 
     pub fn len(&self) -> u32
@@ -44,7 +50,7 @@ impl Counts {
         ensures some { 1 ≤ result }
         ensures few { result ≤ COUNTS_MAX }
     {
-        self.list.len() as u32
+        self.processes
     }
 
     /// The count of process `p`.
@@ -67,7 +73,7 @@ impl Counts {
         requires { sum self.now < 2 ^ 32 }
         ensures { result ≡ sum self.now }
     {
-        self.list.iter().sum()
+        self.entries().iter().sum()
     }
 
     /// The sum, which always fits 64 bits.
@@ -87,9 +93,9 @@ impl Counts {
         requires { length self.now ≡ length other.now }
         ensures { IsTrue result ↔ Covers self.now other.now }
     {
-        self.list
+        self.entries()
             .iter()
-            .zip(other.list.iter())
+            .zip(other.entries().iter())
             .all(|(mine, theirs)| theirs <= mine)
     }
 
@@ -97,10 +103,9 @@ impl Counts {
     pub fn copy(&self) -> Counts
         ensures { result ≡ self.now }
     {
-        let mut list = ArrayVec::new();
-        for count in self.list.iter() {
-            list.push(*count);
+        Counts {
+            list: self.list,
+            processes: self.processes,
         }
-        Counts { list }
     }
 }

@@ -1,16 +1,25 @@
 //! Numbers as text: canonical decimals.
 
-ghost use Rattle.std.specs.Prelude.{◌≡◌, ℕ, ◌^◌, ◌<◌, ◌↔◌, ◌++◌, Some, OnOk, OnErr, decimal};
+ghost use Rattle.std.specs.Prelude.{◌≡◌, ℕ, ◌+◌, ◌*◌, ◌^◌, ◌<◌, ◌≤◌, ◌↔◌, ◌++◌, true, Some, None, IfSome, OnOk, OnErr, decimal};
+ghost use Rattle.std.specs.Char.{digit_value, is_ascii_digit};
 ghost use Rattle.at_base.specs.Numbers.{begins_canonical, number_of};
 
 use crate::NoMemory;
-use std::str;
 
 /// Whether no sign and no leading zero stands first: such texts are canonical where they are digits alone.
 fn begins_canonically(text: &[u8]) -> bool
     ensures { result ≡ begins_canonical text.now }
 {
     text.len() == 1 || (!text.is_empty() && text[0] > b'0')
+}
+
+/// The number with one more digit at its end, if that fits 64 bits.
+fn with_digit(number: u64, digit: u8) -> Option<u64>
+    requires { is_ascii_digit digit ≡ true }
+    ensures fits { IfSome result (λ n. n ≡ number * 10 + digit_value digit) }
+    ensures long { result ≡ None → 2 ^ 64 ≤ number * 10 + digit_value digit }
+{
+    number.checked_mul(10)?.checked_add(u64::from(digit - b'0'))
 }
 
 /// The number that the text is, if it is one.
@@ -20,10 +29,17 @@ fn number_in(text: &[u8]) -> Option<u64>
     if !begins_canonically(text) {
         return None;
     }
-    let Ok(digits) = str::from_utf8(text) else {
-        return None;
-    };
-    digits.parse::<u64>().ok()
+    let mut number = 0;
+    for byte in text.iter() {
+        if !byte.is_ascii_digit() {
+            return None;
+        }
+        let Some(longer) = with_digit(number, *byte) else {
+            return None;
+        };
+        number = longer;
+    }
+    Some(number)
 }
 
 /// Reads a number. Signs, leading zeros, spaces and an empty text are refused, and so is a number over 64 bits.
