@@ -55,7 +55,7 @@ field_of-number_at fields i n h = (number_of-some (field_of fields i) n h).0
 pub number_at-lt : (fields : Fields) (i n : ℕ) → number_at fields i ≡ Some n → n < 2 ^ 64
 number_at-lt fields i n h = (number_of-some (field_of fields i) n h).1
 
-get_or-field_of : (fields : Fields) (i : ℕ) → get_or fields i [] ≡ field_of fields i
+pub get_or-field_of : (fields : Fields) (i : ℕ) → get_or fields i [] ≡ field_of fields i
 unfolding field_at
 get_or-field_of [] i = refl
 get_or-field_of (f ∷ fields) zero = refl

@@ -1,4 +1,5 @@
 pub mod RecordLaws
+pub mod LineLaws
 pub mod FieldLaws
 pub mod NameSetLaws
 pub mod NameLaws

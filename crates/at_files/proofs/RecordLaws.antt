@@ -70,7 +70,7 @@ records_from-enough (suc n) (suc m) s xs e h k =
     records_next-same (records_from default_config n) (records_from default_config m) (next_record default_config s [] [] xs)
     (λ q is. records_from-enough n m q.1 q.2 (next-between s [] [] xs q is) (omega (arith, next-shrinks s xs q e is)) (omega (arith, next-shrinks s xs q e is)))
 
-records_read_from-next : (s : State) (xs : List ℕ) → ends_at_end s ≡ false → records_read_from s xs ≡ records_next records_read_from (next_record default_config s [] [] xs)
+pub records_read_from-next : (s : State) (xs : List ℕ) → ends_at_end s ≡ false → records_read_from s xs ≡ records_next records_read_from (next_record default_config s [] [] xs)
 unfolding records_from
 records_read_from-next s xs e =
     rw add-one

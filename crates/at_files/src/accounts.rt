@@ -2,7 +2,6 @@
 
 ghost use Rattle.std.specs.Prelude.{◌≡◌, ◌+◌, ◌<◌, length, Err, Ok, OnOk, IfErr, IfOk, option_map};
 ghost use Rattle.at_ledger.specs.Limits.{most_accounts};
-ghost use Rattle.csv.specs.Records.{fields_of};
 ghost use Rattle.at_ledger.specs.Draft.{account_fault, terms_with, with_account};
 ghost use Rattle.at_files.specs.Names.{AreNamesOf};
 ghost use Rattle.at_files.specs.BookRecords.{book_with_rooms, limits_of, named_terms, numbered_terms, with_named_record, with_plain_record, with_account_record, within_limits};
@@ -13,8 +12,8 @@ use crate::fields::{field_of, has_shape, number_at};
 use crate::first_records::{add_name, bad_book};
 use crate::name_set::NameSet;
 use crate::owners::{owners_named, read_owners};
+use crate::record::Record;
 use at_ledger::{ACCOUNTS_MAX, BookBuilder, BookFault};
-use csv::ByteRecord;
 use std::alloc::Global;
 use std::marker::Model;
 
@@ -67,9 +66,9 @@ pub(crate) fn limits_of(
     alloc: Global,
     version: u32,
     processes: NameSet,
-    fields: &ByteRecord,
+    fields: &Record<'_>,
 ) -> Result<Begun, BookWhy>
-    ensures { result ≡ limits_of version processes (fields_of fields.now) }
+    ensures { result ≡ limits_of version processes fields.now }
 {
     if has_shape(fields, b"limits", 3) {
         book_with_rooms(
@@ -158,15 +157,15 @@ fn add_plain_record(
     alloc: Global,
     begun: &mut Begun,
     account: u32,
-    fields: &ByteRecord,
+    fields: &Record<'_>,
 ) -> Result<(), ReadBookFault>
     requires account { account ≡ length begun.old.book.accounts }
     requires room { account < most_accounts }
     requires version { begun.old.names.version ≡ 1 }
     requires names { AreNamesOf begun.old.book begun.old.names }
-    ensures ok { OnOk result (with_plain_record begun.old (fields_of fields.now) ≡ Ok begun.new) }
+    ensures ok { OnOk result (with_plain_record begun.old fields.now ≡ Ok begun.new) }
     ensures bad { (b : BadBook) → result ≡ Err (ReadBookFault.Bad b)
-        → at_line (account + 4) (with_plain_record begun.old (fields_of fields.now)) ≡ Err b }
+        → at_line (account + 4) (with_plain_record begun.old fields.now) ≡ Err b }
 {
     let Ok(owners) = read_owners(alloc, field_of(fields, 3)) else {
         return Err(ReadBookFault::NoMemory);
@@ -194,13 +193,13 @@ fn add_named_record(
     alloc: Global,
     begun: &mut Begun,
     account: u32,
-    fields: &ByteRecord,
+    fields: &Record<'_>,
 ) -> Result<(), ReadBookFault>
     requires account { account ≡ length begun.old.book.accounts }
     requires room { account < most_accounts }
-    ensures ok { OnOk result (with_named_record begun.old (fields_of fields.now) ≡ Ok begun.new) }
+    ensures ok { OnOk result (with_named_record begun.old fields.now ≡ Ok begun.new) }
     ensures bad { (b : BadBook) → result ≡ Err (ReadBookFault.Bad b)
-        → at_line (account + 4) (with_named_record begun.old (fields_of fields.now)) ≡ Err b }
+        → at_line (account + 4) (with_named_record begun.old fields.now) ≡ Err b }
 {
     if let Err(fault) = add_name(&mut begun.accounts, account + 4, field_of(fields, 1)) {
         return Err(fault);
@@ -223,15 +222,15 @@ pub(crate) fn add_record(
     alloc: Global,
     begun: &mut Begun,
     account: u32,
-    fields: &ByteRecord,
+    fields: &Record<'_>,
 ) -> Result<(), ReadBookFault>
     requires account { account ≡ length begun.old.book.accounts }
     requires room { account < most_accounts }
     requires names { AreNamesOf begun.old.book begun.old.names }
-    ensures ok { OnOk result (with_account_record begun.old (fields_of fields.now) ≡ Ok begun.new) }
+    ensures ok { OnOk result (with_account_record begun.old fields.now ≡ Ok begun.new) }
     ensures names { OnOk result (AreNamesOf begun.new.book begun.new.names) }
     ensures bad { (b : BadBook) → result ≡ Err (ReadBookFault.Bad b)
-        → at_line (account + 4) (with_account_record begun.old (fields_of fields.now)) ≡ Err b }
+        → at_line (account + 4) (with_account_record begun.old fields.now) ≡ Err b }
 {
     if !has_shape(fields, b"account", 4) {
         return Err(bad_book(account + 4, BookWhy::Shape));

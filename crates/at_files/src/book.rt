@@ -11,13 +11,13 @@ use crate::book_fault::{BadBook, BookWhy, ReadBookFault};
 use crate::first_records::{bad_book, processes_of, version_of};
 use crate::name_set::NameSet;
 use crate::names::Names;
+use crate::record::Record;
 use crate::records::Records;
 use at_ledger::{ACCOUNTS_MAX, Book, BookError};
-use csv::ByteRecord;
 use std::alloc::Global;
 
 /// Reads record 1.
-fn read_title(records: &mut Records<'_>, fields: &mut ByteRecord) -> Result<u32, ReadBookFault>
+fn read_title<'a>(records: &mut Records<'a>, fields: &mut Record<'a>) -> Result<u32, ReadBookFault>
     ensures ok { IfOk result
         (λ version. book_of_records records.old ≡ processes_from version records.new) }
     ensures known { IfOk result (λ version. (version ≡ 1) ⊎ (version ≡ 2)) }
@@ -37,11 +37,11 @@ fn read_title(records: &mut Records<'_>, fields: &mut ByteRecord) -> Result<u32,
 }
 
 /// Reads record 2.
-fn read_processes(
+fn read_processes<'a>(
     alloc: Global,
     version: u32,
-    records: &mut Records<'_>,
-    fields: &mut ByteRecord,
+    records: &mut Records<'a>,
+    fields: &mut Record<'a>,
 ) -> Result<NameSet, ReadBookFault>
     ensures ok { IfOk result
         (λ processes. processes_from version records.old ≡ limits_from
@@ -63,12 +63,12 @@ fn read_processes(
 }
 
 /// Reads record 3.
-fn read_limits(
+fn read_limits<'a>(
     alloc: Global,
     version: u32,
     processes: NameSet,
-    records: &mut Records<'_>,
-    fields: &mut ByteRecord,
+    records: &mut Records<'a>,
+    fields: &mut Record<'a>,
 ) -> Result<Begun, ReadBookFault>
     requires { AreNames version processes }
     ensures ok { IfOk result
@@ -93,11 +93,11 @@ fn read_limits(
 /// Reads the records from the fourth on into a book without accounts.
 ///
 /// It holds only references: what is owned stands in its caller.
-fn read_accounts(
+fn read_accounts<'a>(
     alloc: Global,
     begun: &mut Begun,
-    records: &mut Records<'_>,
-    fields: &mut ByteRecord,
+    records: &mut Records<'a>,
+    fields: &mut Record<'a>,
 ) -> Result<(), ReadBookFault>
     requires empty { begun.old.book.accounts ≡ [] }
     requires names { AreNamesOf begun.old.book begun.old.names }
@@ -147,10 +147,10 @@ fn finish_book(begun: Begun) -> Result<(Book, Names), ReadBookFault>
 }
 
 /// Reads all records.
-fn read_terms(
+fn read_terms<'a>(
     alloc: Global,
-    records: &mut Records<'_>,
-    fields: &mut ByteRecord,
+    records: &mut Records<'a>,
+    fields: &mut Record<'a>,
 ) -> Result<(Book, Names), ReadBookFault>
     ensures ok { IfOk result
         (λ r. book_of_records records.old ≡ Ok (record { book = r.0; names = r.1 })) }
@@ -191,7 +191,7 @@ pub fn read_book(alloc: Global, bytes: &[u8]) -> Result<(Book, Names), ReadBookF
         → book_of_records (file_records bytes.now) ≡ Err b }
 {
     let mut records = Records::new(alloc, bytes);
-    let mut fields = ByteRecord::new(alloc);
+    let mut fields = Record::new(alloc);
     match read_terms(alloc, &mut records, &mut fields) {
         Ok(read) => Ok(read),
         Err(fault) => Err(fault),

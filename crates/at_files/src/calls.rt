@@ -2,7 +2,6 @@
 
 ghost use Rattle.std.specs.Prelude.{◌≡◌, ◌+◌, ◌*◌, ◌≤◌, ◌<◌, true, drop, length};
 ghost use Rattle.at_ledger.specs.Limits.{most_targets};
-ghost use Rattle.csv.specs.Records.{fields_of};
 ghost use Rattle.at_files.specs.Names.{position_of};
 ghost use Rattle.at_files.specs.Records.{field_of, number_at};
 ghost use Rattle.at_files.specs.Payments.{call_of, has_amounts, is_pay, named_call_of, named_pay, named_read, named_transfer, plain_call_of, read_of, target_of, targets_spelled, transfer_of};
@@ -10,8 +9,8 @@ ghost use Rattle.at_files.specs.Payments.{call_of, has_amounts, is_pay, named_ca
 use crate::fields::{field_of, has_shape, number_at};
 use crate::names::Names;
 use crate::payments_fault::PaymentsWhy;
+use crate::record::Record;
 use at_ledger::{Call, Targets};
-use csv::ByteRecord;
 
 /// A transfer between two of so many accounts.
 fn transfer_of(
@@ -53,8 +52,8 @@ fn read_of(accounts: u32, account: Option<u64>) -> Result<Call, PaymentsWhy>
 }
 
 /// The call that a record spells, where accounts are given by their numbers.
-fn plain_call_of(accounts: u32, fields: &ByteRecord) -> Result<Call, PaymentsWhy>
-    ensures { result ≡ plain_call_of accounts (fields_of fields.now) }
+fn plain_call_of(accounts: u32, fields: &Record<'_>) -> Result<Call, PaymentsWhy>
+    ensures { result ≡ plain_call_of accounts fields.now }
 {
     if has_shape(fields, b"transfer", 4) {
         transfer_of(
@@ -98,8 +97,8 @@ fn named_read(account: Option<u32>) -> Result<Call, PaymentsWhy>
 }
 
 /// Whether the record is a pay-out to one, two, three or four targets.
-fn is_pay(fields: &ByteRecord) -> bool
-    ensures { result ≡ is_pay (fields_of fields.now) }
+fn is_pay(fields: &Record<'_>) -> bool
+    ensures { result ≡ is_pay fields.now }
 {
     has_shape(fields, b"pay", 4)
         || has_shape(fields, b"pay", 6)
@@ -108,9 +107,9 @@ fn is_pay(fields: &ByteRecord) -> bool
 }
 
 /// How many targets a pay-out has.
-fn target_count(fields: &ByteRecord) -> usize
-    requires { is_pay (fields_of fields.now) ≡ true }
-    ensures fields { length (fields_of fields.now) ≡ 2 * result + 2 }
+fn target_count(fields: &Record<'_>) -> usize
+    requires { is_pay fields.now ≡ true }
+    ensures fields { length fields.now ≡ 2 * result + 2 }
     ensures some { 1 ≤ result }
     ensures few { result ≤ most_targets }
 {
@@ -118,9 +117,9 @@ fn target_count(fields: &ByteRecord) -> usize
 }
 
 /// Whether each target has a number as its amount.
-fn has_amounts(fields: &ByteRecord) -> bool
-    requires { is_pay (fields_of fields.now) ≡ true }
-    ensures { result ≡ has_amounts (drop 2 (fields_of fields.now)) }
+fn has_amounts(fields: &Record<'_>) -> bool
+    requires { is_pay fields.now ≡ true }
+    ensures { result ≡ has_amounts (drop 2 fields.now) }
 {
     for i in 0..target_count(fields) {
         if number_at(fields, 2 * i + 3).is_none() {
@@ -131,11 +130,11 @@ fn has_amounts(fields: &ByteRecord) -> bool
 }
 
 /// A target of a pay-out, from 0, if its account and its amount are there.
-fn target_of(names: &Names, fields: &ByteRecord, i: usize) -> Option<(u32, u64)>
+fn target_of(names: &Names, fields: &Record<'_>, i: usize) -> Option<(u32, u64)>
     requires { i < most_targets }
     ensures { result ≡ target_of
-        (position_of names.now.accounts (field_of (fields_of fields.now) (2 * i + 2)))
-        (number_at (fields_of fields.now) (2 * i + 3)) }
+        (position_of names.now.accounts (field_of fields.now (2 * i + 2)))
+        (number_at fields.now (2 * i + 3)) }
 {
     match (
         names.find(field_of(fields, 2 * i + 2)),
@@ -147,9 +146,9 @@ fn target_of(names: &Names, fields: &ByteRecord, i: usize) -> Option<(u32, u64)>
 }
 
 /// The targets of a pay-out, if all of them are there.
-fn targets_spelled(names: &Names, fields: &ByteRecord) -> Option<Targets>
-    requires { is_pay (fields_of fields.now) ≡ true }
-    ensures { result ≡ targets_spelled names.now.accounts (drop 2 (fields_of fields.now)) }
+fn targets_spelled(names: &Names, fields: &Record<'_>) -> Option<Targets>
+    requires { is_pay fields.now ≡ true }
+    ensures { result ≡ targets_spelled names.now.accounts (drop 2 fields.now) }
 {
     let count = target_count(fields);
     let Some((to, amount)) = target_of(names, fields, 0) else {
@@ -166,12 +165,12 @@ fn targets_spelled(names: &Names, fields: &ByteRecord) -> Option<Targets>
 }
 
 /// A pay-out between accounts that are given by their names.
-fn named_pay(names: &Names, fields: &ByteRecord) -> Result<Call, PaymentsWhy>
-    requires { is_pay (fields_of fields.now) ≡ true }
+fn named_pay(names: &Names, fields: &Record<'_>) -> Result<Call, PaymentsWhy>
+    requires { is_pay fields.now ≡ true }
     ensures { result ≡ named_pay
-        (position_of names.now.accounts (field_of (fields_of fields.now) 1))
-        (has_amounts (drop 2 (fields_of fields.now)))
-        (targets_spelled names.now.accounts (drop 2 (fields_of fields.now))) }
+        (position_of names.now.accounts (field_of fields.now 1))
+        (has_amounts (drop 2 fields.now))
+        (targets_spelled names.now.accounts (drop 2 fields.now)) }
 {
     if !has_amounts(fields) {
         return Err(PaymentsWhy::Number);
@@ -186,8 +185,8 @@ fn named_pay(names: &Names, fields: &ByteRecord) -> Result<Call, PaymentsWhy>
 }
 
 /// The call that a record spells, where accounts are given by their names.
-fn named_call_of(names: &Names, fields: &ByteRecord) -> Result<Call, PaymentsWhy>
-    ensures { result ≡ named_call_of names.now.accounts (fields_of fields.now) }
+fn named_call_of(names: &Names, fields: &Record<'_>) -> Result<Call, PaymentsWhy>
+    ensures { result ≡ named_call_of names.now.accounts fields.now }
 {
     if has_shape(fields, b"transfer", 4) {
         named_transfer(
@@ -205,8 +204,8 @@ fn named_call_of(names: &Names, fields: &ByteRecord) -> Result<Call, PaymentsWhy
 }
 
 /// The call that a record spells beside the names of a book.
-pub(crate) fn call_of(names: &Names, fields: &ByteRecord) -> Result<Call, PaymentsWhy>
-    ensures { result ≡ call_of names.now (fields_of fields.now) }
+pub(crate) fn call_of(names: &Names, fields: &Record<'_>) -> Result<Call, PaymentsWhy>
+    ensures { result ≡ call_of names.now fields.now }
 {
     if names.version() == 2 {
         named_call_of(names, fields)

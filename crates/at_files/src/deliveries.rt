@@ -1,15 +1,14 @@
 //! The deliveries of messages to nodes.
 
 ghost use Rattle.std.specs.Prelude.{◌≡◌, ◌≤◌, List, Ok, Err, All, IfErr, IfOk};
-ghost use Rattle.csv.specs.Records.{fields_of};
 ghost use Rattle.at_files.specs.Limits.{most_messages};
 ghost use Rattle.at_files.specs.Records.{file_records};
 ghost use Rattle.at_files.specs.Deliveries.{Delivers, deliveries_of, delivery_of, delivery_to};
 
 use crate::fields::number_at;
+use crate::record::Record;
 use crate::spelled::{BadRecord, ReadFault, RecordForm, read_items};
 use at_base::Counts;
-use csv::ByteRecord;
 use std::alloc::Global;
 use thiserror::Error;
 
@@ -81,7 +80,7 @@ impl<'a> RecordForm for DeliveryForm<'a> {
 
     ghost item = { λ form. delivery_of form.counts.now };
 
-    fn item_of(&self, fields: &ByteRecord) -> Result<Delivery, OrderWhy> {
+    fn item_of(&self, fields: &Record<'_>) -> Result<Delivery, OrderWhy> {
         if fields.len() != 3 {
             return Err(OrderWhy::Shape);
         }

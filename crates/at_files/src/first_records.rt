@@ -2,7 +2,6 @@
 
 ghost use Rattle.std.specs.Prelude.{◌≡◌, ◌≤◌, [], drop, Err, Ok, OnOk, IfOk};
 ghost use Rattle.at_ledger.specs.Limits.{most_processes};
-ghost use Rattle.csv.specs.Records.{fields_of};
 ghost use Rattle.at_files.specs.BookRecords.{counted_processes, named_processes, process_count, processes_of, version_of, with_name, with_process, with_processes};
 ghost use Rattle.at_files.specs.BookFile.{at_line};
 
@@ -10,8 +9,8 @@ use crate::book_fault::{BadBook, BookWhy, ReadBookFault};
 use crate::fields::{field_of, has_shape, is_word, number_at};
 use crate::name_set::{NameSet, is_name};
 use crate::names::plain_names;
+use crate::record::Record;
 use at_ledger::{BookBuilder, BookError, PROCESSES_MAX};
-use csv::ByteRecord;
 use std::alloc::Global;
 
 /// An fault at a line.
@@ -22,8 +21,8 @@ pub(crate) fn bad_book(line: u32, why: BookWhy) -> ReadBookFault
 }
 
 /// The version that record 1 gives.
-pub(crate) fn version_of(fields: &ByteRecord) -> Result<u32, BookWhy>
-    ensures { result ≡ version_of (fields_of fields.now) }
+pub(crate) fn version_of(fields: &Record<'_>) -> Result<u32, BookWhy>
+    ensures { result ≡ version_of fields.now }
 {
     if !has_shape(fields, b"book", 2) {
         return Err(BookWhy::Shape);
@@ -69,11 +68,11 @@ fn add_process(names: &mut NameSet, name: &[u8]) -> Result<(), ReadBookFault>
 }
 
 /// The processes that the fields after the first name.
-fn names_of_processes(alloc: Global, fields: &ByteRecord) -> Result<NameSet, ReadBookFault>
+fn names_of_processes(alloc: Global, fields: &Record<'_>) -> Result<NameSet, ReadBookFault>
     ensures ok { IfOk result
-        (λ names. with_processes [] (drop 1 (fields_of fields.now)) ≡ Ok names) }
+        (λ names. with_processes [] (drop 1 fields.now) ≡ Ok names) }
     ensures bad { (b : BadBook) → result ≡ Err (ReadBookFault.Bad b)
-        → at_line 2 (with_processes [] (drop 1 (fields_of fields.now))) ≡ Err b }
+        → at_line 2 (with_processes [] (drop 1 fields.now)) ≡ Err b }
 {
     let mut names = NameSet::new(alloc);
     for i in 1..fields.len() {
@@ -85,10 +84,10 @@ fn names_of_processes(alloc: Global, fields: &ByteRecord) -> Result<NameSet, Rea
 }
 
 /// The processes of record 2 in version 2.
-fn named_processes(alloc: Global, fields: &ByteRecord) -> Result<NameSet, ReadBookFault>
-    ensures ok { IfOk result (λ names. named_processes (fields_of fields.now) ≡ Ok names) }
+fn named_processes(alloc: Global, fields: &Record<'_>) -> Result<NameSet, ReadBookFault>
+    ensures ok { IfOk result (λ names. named_processes fields.now ≡ Ok names) }
     ensures bad { (b : BadBook) → result ≡ Err (ReadBookFault.Bad b)
-        → at_line 2 (named_processes (fields_of fields.now)) ≡ Err b }
+        → at_line 2 (named_processes fields.now) ≡ Err b }
 {
     if !is_word(field_of(fields, 0), b"processes") {
         return Err(bad_book(2, BookWhy::Shape));
@@ -114,10 +113,10 @@ fn process_count(alloc: Global, processes: Option<u64>) -> Result<u64, BookWhy>
 }
 
 /// The processes of record 2 in version 1.
-fn counted_processes(alloc: Global, fields: &ByteRecord) -> Result<NameSet, ReadBookFault>
-    ensures ok { IfOk result (λ names. counted_processes (fields_of fields.now) ≡ Ok names) }
+fn counted_processes(alloc: Global, fields: &Record<'_>) -> Result<NameSet, ReadBookFault>
+    ensures ok { IfOk result (λ names. counted_processes fields.now ≡ Ok names) }
     ensures bad { (b : BadBook) → result ≡ Err (ReadBookFault.Bad b)
-        → at_line 2 (counted_processes (fields_of fields.now)) ≡ Err b }
+        → at_line 2 (counted_processes fields.now) ≡ Err b }
 {
     if !has_shape(fields, b"processes", 2) {
         return Err(bad_book(2, BookWhy::Shape));
@@ -136,11 +135,11 @@ fn counted_processes(alloc: Global, fields: &ByteRecord) -> Result<NameSet, Read
 pub(crate) fn processes_of(
     alloc: Global,
     version: u32,
-    fields: &ByteRecord,
+    fields: &Record<'_>,
 ) -> Result<NameSet, ReadBookFault>
-    ensures ok { IfOk result (λ names. processes_of version (fields_of fields.now) ≡ Ok names) }
+    ensures ok { IfOk result (λ names. processes_of version fields.now ≡ Ok names) }
     ensures bad { (b : BadBook) → result ≡ Err (ReadBookFault.Bad b)
-        → at_line 2 (processes_of version (fields_of fields.now)) ≡ Err b }
+        → at_line 2 (processes_of version fields.now) ≡ Err b }
 {
     if version == 2 {
         named_processes(alloc, fields)

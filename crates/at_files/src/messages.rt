@@ -1,7 +1,6 @@
 //! The messages of one process.
 
 ghost use Rattle.std.specs.Prelude.{◌≡◌, ◌+◌, ◌≤◌, List, Ok, Err, Some, None, IfErr, IfOk, IfSome, drop, length, map, option_map, nat_le, if◌then◌else◌};
-ghost use Rattle.csv.specs.Records.{fields_of};
 ghost use Rattle.at_broadcast.specs.declared.message.Message.{Message};
 ghost use Rattle.at_files.specs.BookRecords.{numbers_of};
 ghost use Rattle.at_files.specs.Limits.{most_messages};
@@ -9,12 +8,12 @@ ghost use Rattle.at_files.specs.Records.{file_records};
 ghost use Rattle.at_files.specs.Messages.{Sends, are_counts, message_between, message_read, message_spelled, messages_spelled};
 
 use crate::fields::{has_shape, number_at};
+use crate::record::Record;
 use crate::spelled::{BadRecord, ReadFault, RecordForm, read_items};
 use arrayvec::ArrayVec;
 use at_base::Counts;
 use at_broadcast::{MESSAGES_MAX, Message};
 use at_ledger::Book;
-use csv::ByteRecord;
 use std::alloc::Global;
 use thiserror::Error;
 
@@ -45,13 +44,13 @@ pub type BadMessages = BadRecord<MessagesWhy>;
 pub type ReadMessagesFault = ReadFault<MessagesWhy>;
 
 /// The numbers that the fields from a position on are.
-fn numbers_from(fields: &ByteRecord, first: usize) -> Option<ArrayVec<u64, 16>>
-    requires some { first ≤ length (fields_of fields.now) }
-    requires few { length (fields_of fields.now) ≤ first + 16 }
+fn numbers_from(fields: &Record<'_>, first: usize) -> Option<ArrayVec<u64, 16>>
+    requires some { first ≤ length fields.now }
+    requires few { length fields.now ≤ first + 16 }
     ensures numbers { option_map (λ numbers. numbers.items) result
-        ≡ numbers_of (drop first (fields_of fields.now)) }
+        ≡ numbers_of (drop first fields.now) }
     ensures each { IfSome result
-        (λ numbers. first + length numbers.items ≡ length (fields_of fields.now)) }
+        (λ numbers. first + length numbers.items ≡ length fields.now) }
 {
     let mut numbers = ArrayVec::new();
     for i in first..fields.len() {
@@ -132,7 +131,7 @@ impl<'a> RecordForm for MessageForm<'a> {
 
     ghost item = { λ form. message_spelled form.book.now };
 
-    fn item_of(&self, fields: &ByteRecord) -> Result<Message, MessagesWhy> {
+    fn item_of(&self, fields: &Record<'_>) -> Result<Message, MessagesWhy> {
         let accounts = self.book.accounts();
         let processes = self.book.processes() as usize;
         if !has_shape(fields, b"send", processes + 4) {

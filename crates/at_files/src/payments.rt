@@ -8,9 +8,9 @@ ghost use Rattle.at_files.specs.Payments.{call_of, payments_fault, payments_of, 
 use crate::calls::call_of;
 use crate::names::Names;
 use crate::payments_fault::{BadPayments, CALLS_MAX, PaymentsWhy, ReadPaymentsFault};
+use crate::record::Record;
 use crate::spelled::{BadRecord, ReadFault, RecordForm, read_items};
 use at_ledger::{Book, Call};
-use csv::ByteRecord;
 use std::alloc::Global;
 
 /// What a record of a payment file has to be, beside the names of a book.
@@ -26,7 +26,7 @@ impl<'a> RecordForm for CallForm<'a> {
 
     ghost item = { λ form. call_of form.names.now };
 
-    fn item_of(&self, fields: &ByteRecord) -> Result<Call, PaymentsWhy> {
+    fn item_of(&self, fields: &Record<'_>) -> Result<Call, PaymentsWhy> {
         call_of(self.names, fields)
     }
 }

@@ -1,40 +1,32 @@
 //! The records of a file, one after another.
 
-ghost use Rattle.std.specs.Prelude.{◌≡◌, ◌∷◌, [], if◌then◌else◌, IfOk, OnErr};
-ghost use Rattle.csv.specs.Records.{fields_of};
+ghost use Rattle.std.specs.Prelude.{◌≡◌, ◌∷◌, [], true, if◌then◌else◌, IfOk, OnErr};
+ghost use Rattle.csv.specs.Reading.{strip_bom};
+ghost use Rattle.at_files.specs.Reading.{IsPlain};
 ghost use Rattle.at_files.specs.Records.{file_records};
 
 use crate::NoMemory;
-use csv::{ByteRecord, Reader, ReaderBuilder};
-use std::alloc::{AllocError, Global};
+use crate::csv_records::CsvRecords;
+use crate::lines::Lines;
+use crate::record::Record;
+use memchr::memchr2;
+use std::alloc::Global;
 use std::marker::Model;
 
-/// The records that are left of a file.
+/// The records that are left of a file: its lines, or what `csv` reads where they may be more or less than that.
+#[derive(Drop)]
 pub(crate) struct Records<'a> {
-    reader: Reader<&'a [u8]>,
-    ended: bool,
-}
-
-// written out, so that each end of a function that owns one calls it, and doesn't drop the fields there
-impl<'a> Drop for Records<'a> {
-    fn drop(self) {
-        let Records {
-            reader: _,
-            ended: _,
-        } = self;
-    }
+    lines: Lines<'a>,
+    read: Option<CsvRecords<'a>>,
 }
 
 impl<'a> Model for Records<'a> {
-    ghost use Rattle.std.specs.Prelude.{◌≡◌, false, [], List, if◌then◌else◌};
+    ghost use Rattle.std.specs.Prelude.{List, unwrap_or};
     ghost use Rattle.at_files.specs.Records.{Fields};
-    ghost use Rattle.at_files.specs.Reading.{records_left, IsBetweenRecords};
 
     ghost Value = { List Fields };
 
-    ghost view = { λ r. if r.ended then [] else records_left r.reader };
-
-    ghost invariant = { λ r. r.ended ≡ false → IsBetweenRecords r.reader };
+    ghost view = { λ r. unwrap_or r.read r.lines };
 }
 
 impl<'a> Records<'a> {
@@ -42,31 +34,43 @@ impl<'a> Records<'a> {
     pub(crate) fn new(alloc: Global, bytes: &'a [u8]) -> Records<'a>
         ensures { result ≡ file_records bytes.now }
     {
-        let reader = ReaderBuilder::new()
-            .has_headers(false)
-            .flexible(true)
-            .from_reader(alloc, bytes);
-        Records {
-            reader,
-            ended: false,
+        if is_plain(bytes) {
+            Records {
+                lines: Lines::new(bytes),
+                read: None,
+            }
+        } else {
+            Records {
+                lines: Lines::new(&[]),
+                read: Some(CsvRecords::new(alloc, bytes)),
+            }
         }
     }
 
-    /// Reads the next record into `record`, and answers whether there was one. An error ends the records, and each
-    /// one is answered as want of memory: no clause of `csv` rules out another over bytes that are there.
-    pub(crate) fn next(&mut self, fields: &mut ByteRecord) -> Result<bool, NoMemory>
+    /// Reads the next record into `fields`, and answers whether there was one. Without memory there are no more.
+    pub(crate) fn next(&mut self, fields: &mut Record<'a>) -> Result<bool, NoMemory>
         ensures ok { IfOk result
-            (λ found. self.old ≡ (if found then fields_of fields.new ∷ self.new else [])) }
+            (λ found. self.old ≡ (if found then fields.new ∷ self.new else [])) }
         ensures err { OnErr result (self.new ≡ []) }
     {
-        if self.ended {
-            return Ok(false);
+        match &mut self.read {
+            Some(records) => records.next(fields),
+            None => self.lines.next(fields),
         }
-        self.ended = true;
-        let Ok(found) = self.reader.read_byte_record(fields) else {
-            return Err(AllocError);
-        };
-        self.ended = !found;
-        Ok(found)
     }
+}
+
+/// Whether no mark of order stands first.
+fn is_unmarked(bytes: &[u8]) -> bool
+    ensures { result ≡ true → strip_bom bytes.now ≡ bytes.now }
+{
+    bytes.is_empty() || bytes[0] != 0xEF
+}
+
+/// Whether each record of the file is a line: it has no mark of order, no quote and no carriage return.
+fn is_plain(bytes: &[u8]) -> bool
+    ensures plain { result ≡ true → IsPlain bytes.now }
+    ensures unmarked { result ≡ true → strip_bom bytes.now ≡ bytes.now }
+{
+    is_unmarked(bytes) && memchr2(b'"', b'\r', bytes).is_none()
 }

@@ -1,13 +1,12 @@
 //! The schedule: whose turn each turn is.
 
 ghost use Rattle.std.specs.Prelude.{◌≡◌, ℕ, List, Ok, Err, IfErr, IfOk};
-ghost use Rattle.csv.specs.Records.{fields_of};
 ghost use Rattle.at_files.specs.Records.{file_records};
 ghost use Rattle.at_files.specs.Schedule.{Schedules, schedule_of, turn_among, turn_of};
 
 use crate::fields::number_at;
+use crate::record::Record;
 use crate::spelled::{BadRecord, ReadFault, RecordForm, read_items};
-use csv::ByteRecord;
 use std::alloc::Global;
 use thiserror::Error;
 
@@ -60,7 +59,7 @@ impl RecordForm for TurnForm {
 
     ghost item = { λ form. turn_of form.processes };
 
-    fn item_of(&self, fields: &ByteRecord) -> Result<u32, ScheduleWhy> {
+    fn item_of(&self, fields: &Record<'_>) -> Result<u32, ScheduleWhy> {
         if fields.len() != 1 {
             return Err(ScheduleWhy::Shape);
         }

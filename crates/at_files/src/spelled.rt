@@ -1,12 +1,11 @@
 //! Files of which each record spells one thing.
 
 ghost use Rattle.std.specs.Prelude.{◌≡◌, ◌+◌, ◌^◌, ◌<◌, Result, Err, Ok, IfOk, OnOk, []};
-ghost use Rattle.csv.specs.Records.{fields_of};
 ghost use Rattle.at_files.specs.Records.{Fields, file_records};
 ghost use Rattle.at_files.specs.Spelled.{items_of, with_item};
 
+use crate::record::Record;
 use crate::records::Records;
-use csv::ByteRecord;
 use std::alloc::Global;
 use std::fmt::{Debug, Display};
 use thiserror::Error;
@@ -40,22 +39,22 @@ pub(crate) trait RecordForm {
     ghost item: { Self → Fields → Result Self.Item Self.Why };
 
     /// What the record spells.
-    fn item_of(&self, fields: &ByteRecord) -> Result<Self::Item, Self::Why>
-        ensures { result ≡ item self.now (fields_of fields.now) };
+    fn item_of(&self, fields: &Record<'_>) -> Result<Self::Item, Self::Why>
+        ensures { result ≡ item self.now fields.now };
 }
 
 /// Adds what the record of a line spells to the items.
 fn add_item<F: RecordForm>(
     form: &F,
     line: u32,
-    fields: &ByteRecord,
+    fields: &Record<'_>,
     items: &mut Vec<F::Item>,
 ) -> Result<(), ReadFault<F::Why>>
     ensures ok { OnOk result
-        (with_item line items.old.items (F.item form.now (fields_of fields.now))
+        (with_item line items.old.items (F.item form.now fields.now)
         ≡ Ok items.new.items) }
     ensures bad { (b : BadRecord F.Why) → result ≡ Err (ReadFault.Bad b)
-        → with_item line items.old.items (F.item form.now (fields_of fields.now)) ≡ Err b }
+        → with_item line items.old.items (F.item form.now fields.now) ≡ Err b }
 {
     let item = match form.item_of(fields) {
         Ok(item) => item,
@@ -70,12 +69,12 @@ fn add_item<F: RecordForm>(
 /// Reads the records of a file into the items, of which there are none yet.
 ///
 /// It holds only references: what is owned stands in its caller.
-fn read_into<F: RecordForm>(
+fn read_into<'a, F: RecordForm>(
     form: &F,
     most: u32,
     over: F::Why,
-    records: &mut Records<'_>,
-    fields: &mut ByteRecord,
+    records: &mut Records<'a>,
+    fields: &mut Record<'a>,
     items: &mut Vec<F::Item>,
 ) -> Result<(), ReadFault<F::Why>>
     requires most { most + 1 < 2 ^ 32 }
@@ -125,7 +124,7 @@ pub(crate) fn read_items<F: RecordForm>(
         → items_of (F.item form.now) most over (file_records bytes.now) ≡ Err b }
 {
     let mut records = Records::new(alloc, bytes);
-    let mut fields = ByteRecord::new(alloc);
+    let mut fields = Record::new(alloc);
     let mut items = Vec::new(alloc);
     match read_into(form, most, over, &mut records, &mut fields, &mut items) {
         Ok(()) => Ok(items),

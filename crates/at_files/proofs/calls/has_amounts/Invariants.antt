@@ -1,7 +1,6 @@
 use Rattle.std.proofs.Common.{◌≡◌, ◌+◌, ◌*◌, drop}
-use Rattle.csv.specs.Records.{fields_of}
 use Rattle.at_files.specs.Payments.{has_amounts}
 use Rattle.at_files.proofs.calls.has_amounts.Given as goal
 
 abbrev pub invariant-loop-i : goal.invariant-loop-i
-invariant-loop-i l = has_amounts (drop 2 (fields_of l.fields)) ≡ has_amounts (drop (2 * l.i + 2) (fields_of l.fields))
+invariant-loop-i l = has_amounts (drop 2 l.fields) ≡ has_amounts (drop (2 * l.i + 2) l.fields)

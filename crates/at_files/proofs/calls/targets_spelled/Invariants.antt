@@ -1,6 +1,5 @@
-use Rattle.csv.specs.Records.{fields_of}
 use Rattle.at_files.proofs.TargetLaws.{AreTaken}
 use Rattle.at_files.proofs.calls.targets_spelled.Given as goal
 
 abbrev pub invariant-loop-i : goal.invariant-loop-i
-invariant-loop-i l = AreTaken l.names.accounts (fields_of l.fields) l.targets l.i
+invariant-loop-i l = AreTaken l.names.accounts l.fields l.targets l.i

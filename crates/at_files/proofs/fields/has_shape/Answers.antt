@@ -1,10 +1,9 @@
 use Rattle.std.proofs.Common.{◌≡◌, ◌==◌, length, true, refl, sym, ◌∙◌, arith}
 use Rattle.std.proofs.lemmas.Bool.Decides.{nat_tests}
-use Rattle.csv.specs.Records.{fields_of}
 use Rattle.at_files.proofs.fields.has_shape.Goals as goal
 
 pub returns-then-len-count : goal.returns-then-len-count
 returns-then-len-count c =
-    let same : length (fields_of c.args.fields.now) ≡ c.args.count = sym c.len.ensures ∙ c.if-len-count.true in
-    let test : (length (fields_of c.args.fields.now) == c.args.count) ≡ true = grind (arith, nat_tests) in
+    let same : length c.args.fields.now ≡ c.args.count = sym c.len.ensures ∙ c.if-len-count.true in
+    let test : (length c.args.fields.now == c.args.count) ≡ true = grind (arith, nat_tests) in
     c.is_word.ensures ∙ rw (c.field_of.ensures, test) refl

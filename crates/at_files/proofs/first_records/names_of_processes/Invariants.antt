@@ -1,7 +1,6 @@
 use Rattle.std.proofs.Common.{◌≡◌, [], drop}
-use Rattle.csv.specs.Records.{fields_of}
 use Rattle.at_files.specs.BookRecords.{with_processes}
 use Rattle.at_files.proofs.first_records.names_of_processes.Given as goal
 
 abbrev pub invariant-loop-i : goal.invariant-loop-i
-invariant-loop-i l = with_processes [] (drop 1 (fields_of l.fields)) ≡ with_processes l.names (drop l.i (fields_of l.fields))
+invariant-loop-i l = with_processes [] (drop 1 l.fields) ≡ with_processes l.names (drop l.i l.fields)

@@ -2,7 +2,7 @@ use Rattle.std.proofs.Common.{sym, arith}
 use Rattle.std.proofs.lemmas.Grind.{common_steps}
 use Rattle.at_files.specs.Reading.{IsBetweenRecords}
 use Rattle.at_files.proofs.RecordLaws.{records_left-read, IsBetweenRecords-read}
-use Rattle.at_files.proofs.records.Records.next.Goals as goal
+use Rattle.at_files.proofs.csv_records.CsvRecords.next.Goals as goal
 
 pub invariant_of-self-2 : goal.invariant_of-self-2
 invariant_of-self-2 c =
