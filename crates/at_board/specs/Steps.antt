@@ -11,3 +11,4 @@ pub mod LoadRecordWord
 pub mod LoadLength
 pub mod Note
 pub mod Learn
+pub mod Made

@@ -11,8 +11,8 @@
 //!
 //! The definitions read best in this order. Where the words lie, what they hold, and what they stand for: `Words`. What a seat
 //! knows: `Knowledge`, with `Parts` first. The rule: `Rule`. What each call asks and tells: `Steps`, a file for each. How a board
-//! begins and ends: `Ends`. `Steps/Plays` and `Steps/Meetings` tie the steps to the table, and `Knowledge/Fresh` and
-//! `Knowledge/Overviews` are for the crates above.
+//! begins and ends: `Ends`. `Steps/Made` says of each step that a value names what it tells, and `Steps/Plays` and `Steps/Meetings` tie
+//! the steps to the table. `Knowledge/Fresh` and `Knowledge/Overviews` are for the crates above.
 #![tactic(auto)]
 
 mod addresses;
@@ -37,6 +37,7 @@ mod plays;
 mod publish;
 mod rule;
 mod seat;
+mod step;
 mod store_record_word;
 mod store_request_word;
 mod words;
@@ -47,6 +48,7 @@ pub use crate::knowledge::{Asking, Knowledge, LoadedWord, Loads, Part, SeenDecis
 pub use crate::note::BoardNote;
 pub use crate::overview::Overview;
 pub use crate::seat::BoardSeat;
+pub use crate::step::{BoardStep, BoardWord};
 pub use crate::words::{
     RECORD_WORDS, REQUEST_WORDS, entry_of, pack_targets, record_word, targets_from, unpack_targets,
 };
