@@ -1,6 +1,6 @@
 -- Totals that catch up, from one turn to the next.
-use Rattle.std.proofs.Common.{◌≡◌, ◌↔◌, ℕ, ◌+◌, ◌-◌, ◌*◌, ◌^◌, ◌<◌, ◌≤◌, Bool, true, false, not, IsTrue, List, length, get_or, set, refl, sym, ap, subst, arith, inl, inr, Option, Some, None, get_or-set_other, get_or-set_same, length-set}
-use Rattle.std.proofs.lemmas.Bool.{cases_eq, cases_lt}
+use Rattle.std.proofs.Common.{◌≡◌, ◌↔◌, ℕ, ◌+◌, ◌-◌, ◌*◌, ◌^◌, ◌<◌, ◌≤◌, Bool, true, false, not, IsTrue, List, length, get_or, set, refl, sym, ap, subst, arith, inl, inr, Option, Some, None, get_or-set_other, get_or-set_same, length-set, if◌then◌else◌, ◌∙◌}
+use Rattle.std.proofs.lemmas.Bool.{cases_eq, cases_lt, eq-eqb, ne_eqb}
 use Rattle.std.specs.List.{sum}
 use Rattle.std.specs.Option.{is_some}
 use Rattle.at_base.specs.Counts.{Covers}
@@ -13,6 +13,8 @@ use Rattle.at_history.specs.declared.publication.Entry.{Entry}
 use Rattle.at_history.specs.declared.publication.Publication.{Publication}
 use Rattle.at_board.specs.Knowledge.Seats.{IsKept}
 use Rattle.at_board.specs.declared.knowledge.Knowledge.{Knowledge}
+use Rattle.at_board.specs.declared.step.BoardStep.{BoardStep}
+use Rattle.at_board.specs.declared.step.BoardWord.{BoardWord}
 use Rattle.at_board.specs.declared.words.TheConstants.{RECORD_WORDS}
 use Rattle.at_fold.proofs.Laws.CatchingUp.{MayCount-IsCatchingUp, count_of-IsCatchingUp, IsCatchingUp-more, upto-IsCatchingUp}
 use Rattle.at_fold.proofs.Laws.LoadedRecords.{sum-caught}
@@ -20,9 +22,9 @@ use Rattle.at_fold.specs.CatchingUp.{IsCatchingUp}
 use Rattle.at_fold.specs.HasCounted.{HasCounted, MayCount}
 use Rattle.at_fold.specs.Sums.{TotalSums}
 use Rattle.at_log.specs.Loading.{IsEntryOf}
-use Rattle.at_machines.specs.CatchingUp.{CountsNext, loaded_of}
+use Rattle.at_machines.specs.CatchingUp.{CountsNext, catch_step, loaded_of}
 use Rattle.at_machines.specs.KeptCatchingUp.{IsCatchingUpSo, IsLoadingNext}
-use Rattle.at_machines.specs.Loading.{LoadingTerms, starting_loading}
+use Rattle.at_machines.specs.Loading.{LoadingTerms, entry_step, starting_loading}
 
 -- of the processes up to this one nothing is left to count
 past : (b : BookTerms) (seen : List Publication) (counts start : List ℕ) (t : TotalSums) (p p' : ℕ) → IsCatchingUp b seen counts start t p → p' ≤ length counts
@@ -96,6 +98,25 @@ pub left-IsCatchingUpSo : (v : Knowledge) (counts : List ℕ) (t : TotalSums) (p
 left-IsCatchingUpSo v counts t p l so =
     let left : sum t.upto < sum counts = sum-left v.book v.seen counts t.upto t p so.catching so.loading_so.0 so.loading_so.1 in
     omega (arith, left, so.loading_so.2)
+
+-- the next load, where a record is loaded and where none is
+pub catch_step-Some : (v : Knowledge) (counts : List ℕ) (t : TotalSums) (p : ℕ) (l : LoadingTerms) → IsCatchingUpSo v counts t p (Some l)
+    → entry_step l ≡ catch_step (record { counts = counts; knows = v; totals = t; process = p; loaded = l.loaded })
+catch_step-Some v counts t p l so =
+    let few : l.loaded < RECORD_WORDS = so.loading_so.2 in
+    let left = left-IsCatchingUpSo v counts t p l so in
+    let step : BoardStep = BoardStep.Load (BoardWord.Record p (get_or t.upto p 0) l.loaded) in
+    ap (λ k. if k then None else Some (BoardStep.Load (BoardWord.Record l.process l.number l.loaded))) (ne_eqb l.loaded RECORD_WORDS (λ all. absurd (omega (arith, all, few))))
+    ∙ (ap (λ (k : LoadingTerms). Some (BoardStep.Load (BoardWord.Record k.process k.number l.loaded))) so.loading_so.3
+    ∙ sym (ap (λ k. if k then None else Some step)
+    (ne_eqb (RECORD_WORDS * (sum counts - sum t.upto) - l.loaded) 0 (λ none. absurd (omega (arith, none, left))))))
+
+pub catch_step-None : (v : Knowledge) (counts : List ℕ) (t : TotalSums) (p : ℕ) → IsCatchingUpSo v counts t p None
+    → catch_step (record { counts = counts; knows = v; totals = t; process = p; loaded = 0 }) ≡ None
+catch_step-None v counts t p so =
+    let step : BoardStep = BoardStep.Load (BoardWord.Record p (get_or t.upto p 0) 0) in
+    ap (λ k. if k then None else Some step)
+    (eq-eqb (RECORD_WORDS * (sum counts - sum t.upto) - 0) 0 (omega (arith, ap (λ (l : List ℕ). sum l) (upto-IsCatchingUpSo v counts t p so))))
 
 -- whether no record is loaded
 pub upto-ended : (v : Knowledge) (counts : List ℕ) (t : TotalSums) (p : ℕ) (loading : Option LoadingTerms) (ended : Bool)

@@ -1,2 +1,3 @@
--- The laws that crates above at_machines cite: how many steps a snapshot can have.
+-- The laws that crates above at_machines cite: how many steps a snapshot can have, and which step each turn makes.
 pub mod Snapshots
+pub mod Steps

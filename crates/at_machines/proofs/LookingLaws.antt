@@ -1,5 +1,5 @@
 -- A look from one turn to the next.
-use Rattle.std.proofs.Common.{◌≡◌, ℕ, ◌≤◌, List, length, sym, subst, ◌∙◌, arith}
+use Rattle.std.proofs.Common.{◌≡◌, ℕ, ◌+◌, ◌≤◌, List, ap, length, sym, subst, ◌∙◌, arith}
 use Rattle.std.specs.List.{sum}
 use Rattle.at_ledger.specs.Book.{BookTerms}
 use Rattle.at_history.proofs.Laws.Fronts.{length-IsFront, place-IsFront-le, sum-Covers-le}
@@ -12,10 +12,11 @@ use Rattle.at_fold.specs.Sums.{TotalSums}
 use Rattle.at_single.proofs.Laws.Looks.{Covers-IsSnapshot}
 use Rattle.at_single.specs.Looks.{HasLooked}
 use Rattle.at_snapshot.specs.Collected.{HasLoaded}
+use Rattle.at_machines.specs.CatchingUp.{CatchingUpTerms, loads_left}
 use Rattle.at_machines.specs.KeptLooking.{IsLookingSo}
 use Rattle.at_machines.specs.KeptSnapshots.{IsSnapped}
 use Rattle.at_machines.specs.Snapping.{SnappingTerms}
-use Rattle.at_machines.specs.declared.look_stage.LookStage.TheVariants.{Snap}
+use Rattle.at_machines.specs.declared.look_stage.LookStage.TheVariants.{CatchUp, Snap}
 
 -- a front counts at most what is seen
 pub sum-IsSnapped : (b : BookTerms) (v w : Knowledge) (front : List ℕ) → IsSnapped b v w front → sum front ≤ length w.seen
@@ -49,3 +50,23 @@ module _ (start mark w : Knowledge) (was totals : TotalSums) (turns : ℕ) (s : 
     upto = upto;
     more = more-IsSnapped start.book start w was front so.counted snapped;
   }
+
+-- one more word is loaded
+pub IsLookingSo-caught : (start mark : Knowledge) (was totals now : TotalSums) (turns : ℕ) (c d : CatchingUpTerms)
+    → IsLookingSo start mark was totals turns (CatchUp c) → d.knows ≡ c.knows → d.totals ≡ now → d.counts ≡ c.counts
+    → loads_left d + 1 ≡ loads_left c → sum was.upto ≤ sum now.upto → IsLookingSo start mark was now (turns + 1) (CatchUp d)
+IsLookingSo-caught start mark was totals now turns c d so knows totals_are counts left grown =
+    let same : sum d.counts ≡ sum c.counts = ap (λ (xs : List ℕ). sum xs) counts in
+    record {
+      kept = so.kept;
+      book = so.book;
+      counted = so.counted;
+      stage_so = record {
+        knows_is = knows ∙ so.stage_so.knows_is;
+        totals_are = totals_are;
+        snapped = subst (IsSnapped start.book start mark) (sym counts) so.stage_so.snapped;
+        more = omega (arith, so.stage_so.more, same);
+        grown = grown;
+        few = omega (arith, so.stage_so.few, left, same);
+      };
+    }

@@ -1,8 +1,13 @@
 -- Appends that are made one store a turn.
-use Rattle.std.specs.Prelude.{ℕ, ◌+◌, ◌==◌, slice_index, if◌then◌else◌}
+use Rattle.std.specs.Prelude.{ℕ, ◌+◌, ◌==◌, slice_index, Option, None, Some, if◌then◌else◌}
+use Rattle.at_ledger.specs.Book.{BookTerms}
 use Rattle.at_history.specs.declared.publication.Publication.{Publication}
 use Rattle.at_board.specs.declared.knowledge.Knowledge.{Knowledge}
+use Rattle.at_board.specs.declared.step.BoardStep.{BoardStep}
+use Rattle.at_board.specs.declared.step.BoardWord.{BoardWord}
+use Rattle.at_board.specs.Knowledge.Parts.{own_part}
 use Rattle.at_board.specs.Steps.StoreRecordWord.{StoresWord}
+use Rattle.at_board.specs.Words.Addresses.{record_width}
 use Rattle.at_board.specs.Words.Packed.{record_words}
 use Rattle.at_log.specs.declared.record.Record.{Record}
 use Rattle.at_log.specs.ClosingTerms.{published_by}
@@ -28,6 +33,16 @@ publication_of a = published_by a.start.first a.rec
 -- how many records the next store publishes, of a record with so many words of which so many are stored: one after the last word
 abbrev pub published_after : ℕ → ℕ → ℕ
 published_after width stored = if stored == width then 1 else 0
+
+-- the next store of a record of which so many words are stored: of its next word, and after the last one of the length of the seat's process
+abbrev pub store_step : BookTerms → Knowledge → ℕ → BoardStep
+store_step b v stored =
+    if stored == record_width b then BoardStep.Store (BoardWord.Length v.first)
+    else BoardStep.Store (BoardWord.Record v.first (own_part v).published stored)
+
+-- the next store of an append: none where its record is published
+abbrev pub append_step : BookTerms → AppendingTerms → Option BoardStep
+append_step b a = if a.stored == record_width b + 1 then None else Some (store_step b a.mark a.stored)
 
 -- the seat has then stored the next word of the record, and nothing else
 abbrev pub StoresNextWord : AppendingTerms → Knowledge → Type 0

@@ -1,12 +1,17 @@
 -- Asking that is made one store a turn.
-use Rattle.std.specs.Prelude.{ℕ, ◌+◌, List, slice_index}
-use Rattle.at_ledger.specs.Book.{BookTerms, HasSlot}
+use Rattle.std.specs.Prelude.{ℕ, ◌+◌, ◌==◌, List, length, slice_index, Option, None, Some, if◌then◌else◌}
+use Rattle.at_ledger.specs.Account.{slot_in}
+use Rattle.at_ledger.specs.Book.{BookTerms, HasSlot, account_of}
 use Rattle.at_ledger.specs.Call.{TargetPair}
 use Rattle.at_history.specs.declared.request.Request.{Request}
+use Rattle.at_board.specs.Knowledge.Parts.{asking_on, own_part}
 use Rattle.at_board.specs.Steps.Announce.{Announces}
 use Rattle.at_board.specs.Steps.StoreRequestWord.{StoresRequestWord}
 use Rattle.at_board.specs.Words.Packed.{request_words}
 use Rattle.at_board.specs.declared.knowledge.Knowledge.{Knowledge}
+use Rattle.at_board.specs.declared.step.BoardStep.{BoardStep}
+use Rattle.at_board.specs.declared.step.BoardWord.{BoardWord}
+use Rattle.at_board.specs.declared.words.TheConstants.{REQUEST_WORDS}
 use Rattle.at_rows.specs.Asks.{asked_for}
 
 -- asking by what its seat knew at the start and after the last turn, by the account, the targets and the `since`, and by how many
@@ -30,9 +35,24 @@ asking_after a v = record { start = a.start; mark = v; account = a.account; targ
 abbrev pub request_asked : AskingTerms → Request
 request_asked a = asked_for a.targets a.since
 
--- the seat has then stored the next word of the request, and nothing else
-abbrev pub StoresNextRequestWord : AskingTerms → Knowledge → Type 0
-StoresNextRequestWord a v = StoresRequestWord a.mark v a.account a.stored (slice_index (request_words (request_asked a)) a.stored)
+-- the next store, in a slot of the account: of the next word of the request, and after the last one of the announced word
+abbrev pub ask_step_in : AskingTerms → ℕ → BoardStep
+ask_step_in a slot =
+    if a.stored == REQUEST_WORDS then BoardStep.Store (BoardWord.Announced a.account slot)
+    else BoardStep.Store (BoardWord.Request a.account slot (length (asking_on (own_part a.mark) a.account).announced) a.stored)
+
+-- in the slot of the seat's process: none where the request is announced
+abbrev pub ask_step_of : AskingTerms → Option ℕ → Option BoardStep
+ask_step_of a None = None
+ask_step_of a (Some slot) = if a.stored == REQUEST_WORDS + 1 then None else Some (ask_step_in a slot)
+
+abbrev pub ask_step : BookTerms → AskingTerms → Option BoardStep
+ask_step b a = ask_step_of a (slot_in (account_of b a.account) a.mark.first)
+
+-- the seat has then stored the next word of the request, in the slot of its process, and nothing else
+abbrev pub StoresNextRequestWord : BookTerms → AskingTerms → Knowledge → Type 0
+StoresNextRequestWord b a v = (slot : ℕ) × HasSlot b a.mark.first a.account slot
+    × StoresRequestWord a.mark v a.account a.stored (slice_index (request_words (request_asked a)) a.stored)
 
 -- the seat has then announced the request in the slot of its process, and nothing else
 abbrev pub AnnouncesAsked : BookTerms → AskingTerms → Knowledge → Type 0

@@ -1,21 +1,38 @@
 -- Totals that catch up with counts, one load a turn.
-use Rattle.std.specs.Prelude.{◌≡◌, ℕ, ◌+◌, ◌-◌, ◌*◌, ◌<◌, List, slice_index, slice_set, sum, Option, Some, None}
+use Rattle.std.specs.Prelude.{◌≡◌, ℕ, ◌+◌, ◌-◌, ◌*◌, ◌<◌, ◌==◌, List, slice_index, slice_set, sum, Option, Some, None, if◌then◌else◌}
+use Rattle.at_ledger.specs.Book.{BookTerms}
+use Rattle.at_board.specs.Steps.LoadRecordWord.{MayLoadWord}
 use Rattle.at_board.specs.declared.knowledge.Knowledge.{Knowledge}
+use Rattle.at_board.specs.declared.step.BoardStep.{BoardStep}
+use Rattle.at_board.specs.declared.step.BoardWord.{BoardWord}
 use Rattle.at_board.specs.declared.words.TheConstants.{RECORD_WORDS}
 use Rattle.at_fold.specs.Sums.{TotalSums}
 use Rattle.at_machines.specs.Loading.{LoadingTerms}
 
 -- totals that catch up, by the counts that they are to reach, by what their seat knows, by what they have counted after the last turn,
--- and by how many words of the next record are loaded
+-- by the process of the next record, and by how many of its words are loaded
 pub record CatchingUpTerms : Type 0 where
   pub counts : List ℕ
   pub knows : Knowledge
   pub totals : TotalSums
+  pub process : ℕ
   pub loaded : ℕ
 
 -- the loads that are left: of each word of the records that the counts count and the totals don't
 abbrev pub loads_left : CatchingUpTerms → ℕ
 loads_left c = RECORD_WORDS * (sum c.counts - sum c.totals.upto) - c.loaded
+
+-- the next record is the first one of its process that isn't counted
+abbrev pub number_left : CatchingUpTerms → ℕ
+number_left c = slice_index c.totals.upto c.process
+
+-- the next load: of the next word of that record, and none where all are counted
+abbrev pub catch_step : CatchingUpTerms → Option BoardStep
+catch_step c = if loads_left c == 0 then None else Some (BoardStep.Load (BoardWord.Record c.process (number_left c) c.loaded))
+
+-- some load is left, and the seat has seen that record
+abbrev pub MayLoadLeft : BookTerms → Knowledge → CatchingUpTerms → Type 0
+MayLoadLeft b v c = (0 < loads_left c) × MayLoadWord b v c.process (number_left c) c.loaded
 
 -- the process is the first one of which the counts count more than the totals
 pub record IsFirstLeft (counts upto : List ℕ) (p : ℕ) : Type 0 where

@@ -1,5 +1,5 @@
 -- Rounds of shared payments that are decided and published one step a turn.
-use Rattle.std.specs.Prelude.{◌≡◌, ℕ, ◌+◌, ◌-◌, ◌<◌, ◌≤◌, List}
+use Rattle.std.specs.Prelude.{◌≡◌, ℕ, ◌+◌, ◌-◌, ◌<◌, ◌≤◌, List, Option, None, Some}
 use Rattle.at_base.specs.declared.decision.Decision.{Decision}
 use Rattle.at_ledger.specs.Book.{BookTerms}
 use Rattle.at_history.specs.Fronts.{prefix_of}
@@ -10,12 +10,14 @@ use Rattle.at_board.specs.Steps.Publish.{Publishes}
 use Rattle.at_board.specs.Steps.StoreRecordWord.{StoresWord}
 use Rattle.at_board.specs.Words.Addresses.{record_width}
 use Rattle.at_board.specs.declared.knowledge.Knowledge.{Knowledge}
+use Rattle.at_board.specs.declared.step.BoardStep.{BoardStep}
+use Rattle.at_board.specs.declared.step.BoardWord.{BoardWord}
 use Rattle.at_board.specs.declared.words.TheConstants.{RECORD_WORDS, REQUEST_WORDS}
 use Rattle.at_fold.specs.Sums.{TotalSums}
 use Rattle.at_rounds.specs.Answers.{DecidesAs}
 use Rattle.at_shared.specs.HelpingTerms.{HelpingTerms}
 use Rattle.at_shared.specs.Settling.{round_steps}
-use Rattle.at_machines.specs.Appending.{published_after}
+use Rattle.at_machines.specs.Appending.{published_after, store_step}
 use Rattle.at_machines.specs.declared.round_stage.RoundStage.{RoundStage}
 use Rattle.at_machines.specs.declared.round_stage.RoundStage.TheVariants.{Proposing, Loading, Publishing, Ended}
 
@@ -85,6 +87,13 @@ publishes_in b nothing = 0
 -- the round that is decided: the next one of the account at the front
 abbrev pub round_in : DecidingTerms → ℕ
 round_in c = rounds c.helping.account (prefix_of c.front c.start.seen)
+
+-- the next step
+abbrev pub step_in_round : BookTerms → DecidingTerms → NextOfRound → Option BoardStep
+step_in_round b c exchange = Some (BoardStep.Exchange (BoardWord.Cell c.helping.account (round_in c)))
+step_in_round b c (request_word d word) = Some (BoardStep.Load (BoardWord.Request c.helping.account d.slot d.number word))
+step_in_round b c (record_word d word) = Some (store_step b c.mark word)
+step_in_round b c nothing = None
 
 -- just this step was made, and then that comes
 abbrev pub MakesStep : BookTerms → DecidingTerms → Knowledge → NextOfRound → NextOfRound → Type 0

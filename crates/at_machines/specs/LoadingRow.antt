@@ -1,9 +1,11 @@
 -- Rows of owners that are loaded one word a turn.
-use Rattle.std.specs.Prelude.{◌≡◌, ◌≢◌, ℕ, ◌+◌, ◌<◌, ◌⊎◌}
+use Rattle.std.specs.Prelude.{◌≡◌, ◌≢◌, ℕ, ◌+◌, ◌<◌, ◌⊎◌, Option, None, Some}
 use Rattle.at_ledger.specs.Book.{BookTerms}
 use Rattle.at_board.specs.Steps.LoadAnnounced.{LoadsAnnounced}
 use Rattle.at_board.specs.Steps.LoadRequestWord.{LoadsRequestWord}
 use Rattle.at_board.specs.declared.knowledge.Knowledge.{Knowledge}
+use Rattle.at_board.specs.declared.step.BoardStep.{BoardStep}
+use Rattle.at_board.specs.declared.step.BoardWord.{BoardWord}
 use Rattle.at_board.specs.declared.words.TheConstants.{REQUEST_WORDS}
 use Rattle.at_rows.specs.declared.open_request.OpenRequest.{OpenRequest}
 use Rattle.at_machines.specs.declared.row_stage.RowStage.{RowStage}
@@ -37,6 +39,12 @@ abbrev pub next_in_row : RowStage → NextRowLoad
 next_in_row Announced = announced_word
 next_in_row (Last l) = request_word l.number l.loaded
 next_in_row Ended = nothing
+
+-- the step of that load, of a slot of the account
+abbrev pub row_step : ℕ → ℕ → NextRowLoad → Option BoardStep
+row_step a slot announced_word = Some (BoardStep.Load (BoardWord.Announced a slot))
+row_step a slot (request_word number word) = Some (BoardStep.Load (BoardWord.Request a slot number word))
+row_step a slot nothing = None
 
 -- how many loads of the row were made before this one
 abbrev pub row_turns : NextRowLoad → ℕ

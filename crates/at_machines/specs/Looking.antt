@@ -1,16 +1,18 @@
 -- Looks that are made one load a turn: a snapshot, and then the records that it counts and the totals don't.
-use Rattle.std.specs.Prelude.{◌≡◌, ℕ, ◌+◌, ◌-◌, ◌*◌, ◌<◌, ◌≤◌, List, sum, Option, None}
+use Rattle.std.specs.Prelude.{◌≡◌, ℕ, ◌+◌, ◌-◌, ◌*◌, ◌<◌, ◌≤◌, List, sum, Option, None, Some}
 use Rattle.at_ledger.specs.Book.{BookTerms}
 use Rattle.at_history.specs.Fronts.{places_max}
 use Rattle.at_history.specs.declared.publication.Publication.{Publication}
 use Rattle.at_board.specs.Counting.{stepped}
 use Rattle.at_board.specs.Knowledge.Seats.{SeatTerms}
 use Rattle.at_board.specs.declared.knowledge.Knowledge.{Knowledge}
+use Rattle.at_board.specs.declared.step.BoardStep.{BoardStep}
+use Rattle.at_board.specs.declared.step.BoardWord.{BoardWord}
 use Rattle.at_board.specs.declared.words.TheConstants.{RECORD_WORDS}
 use Rattle.at_fold.specs.Sums.{TotalSums}
 use Rattle.at_snapshot.specs.Snapshots.{snapshot_steps}
-use Rattle.at_machines.specs.CatchingUp.{LoadsNextWord, loads_left}
-use Rattle.at_machines.specs.Snapping.{MakesLoad, length_in}
+use Rattle.at_machines.specs.CatchingUp.{LoadsNextWord, MayLoadLeft, catch_step, loads_left}
+use Rattle.at_machines.specs.Snapping.{MakesLoad, length_in, step_in}
 use Rattle.at_machines.specs.declared.look_stage.LookStage.{LookStage}
 use Rattle.at_machines.specs.declared.look_stage.LookStage.TheVariants.{CatchUp, Snap}
 
@@ -30,15 +32,25 @@ abbrev pub look_turns_left : LookStage → ℕ
 look_turns_left (Snap s) = s.left + RECORD_WORDS * places_max
 look_turns_left (CatchUp c) = loads_left c
 
--- just the load was made that came next, where the seats of the caller had seen this. A word of a record tells the seat nothing new
+-- just the load was made that came next, where the seats of the caller had seen this. A word of a record, which the seat has seen, tells it
+-- nothing new
 abbrev pub MakesLookLoad : BookTerms → List Publication → LookStage → SeatTerms → SeatTerms → TotalSums → Type 0
 MakesLookLoad b seen (Snap s) before after now = MakesLoad b seen s.next before after
-MakesLookLoad b seen (CatchUp c) before after now = (after ≡ stepped before 1) × LoadsNextWord c now
+MakesLookLoad b seen (CatchUp c) before after now = (after ≡ stepped before 1) × LoadsNextWord c now × MayLoadLeft b before.knows c
 
 -- the process whose length the next turn loads, if it loads one
 abbrev pub length_at : LookStage → Option ℕ
 length_at (Snap s) = length_in s.next
 length_at (CatchUp c) = None
+
+-- and the step of that turn
+abbrev pub step_at : LookStage → Option BoardStep
+step_at (Snap s) = step_in s.next
+step_at (CatchUp c) = catch_step c
+
+-- each look begins with the load of the length of process 0
+abbrev pub first_load : Option BoardStep
+first_load = Some (BoardStep.Load (BoardWord.Length 0))
 
 -- so many turns are at most those of a snapshot, and of the loads of the records that are among so many and weren't counted before
 abbrev pub IsWithin : ℕ → TotalSums → ℕ → ℕ → Type 0

@@ -4,16 +4,21 @@ use Rattle.at_ledger.specs.Book.{BookTerms}
 use Rattle.at_history.specs.Publications.{IsPrefix}
 use Rattle.at_history.specs.declared.publication.Publication.{Publication}
 use Rattle.at_board.specs.Counting.{stepped}
+use Rattle.at_board.specs.Steps.LoadRecordWord.{MayLoadWord}
 use Rattle.at_board.specs.Knowledge.Seats.{SeatTerms}
 use Rattle.at_board.specs.declared.knowledge.Knowledge.{Knowledge}
+use Rattle.at_board.specs.declared.step.BoardStep.{BoardStep}
+use Rattle.at_board.specs.declared.step.BoardWord.{BoardWord}
+use Rattle.at_board.specs.declared.words.TheConstants.{RECORD_WORDS}
 use Rattle.at_machines.specs.Collecting.{LoadsLengthOf}
 use Rattle.at_machines.specs.declared.stage.Stage.{Stage}
 use Rattle.at_machines.specs.declared.stage.Stage.TheVariants.{Borrow, Collect, Ended}
 
--- what the next turn loads: the length of a process, the word of the view that serves which has this number there, or nothing
+-- what the next turn loads: the length of a process, the word of this number of the view that serves, which is that of a record of a process,
+-- or nothing
 pub data NextLoad : Type 0 where
   length_of : (process : ℕ) → NextLoad
-  view_word : (number : ℕ) → NextLoad
+  view_word : (process number word : ℕ) → NextLoad
   nothing : NextLoad
 
 -- a snapshot by what its seat knew at the start and after the last turn, by what comes next, and by how many turns are left at most
@@ -23,35 +28,41 @@ pub record SnappingTerms : Type 0 where
   pub next : NextLoad
   pub left : ℕ
 
--- just this load was made. With a length the seat has seen all that the seats of its caller had seen before; a word of a view tells it
--- nothing new
+-- just this load was made. With a length the seat has seen all that the seats of its caller had seen before; a word of a view, whose record
+-- it has seen, tells it nothing new
 abbrev pub MakesLoad : BookTerms → List Publication → NextLoad → SeatTerms → SeatTerms → Type 0
 MakesLoad b seen (length_of p) before after = LoadsLengthOf b before.knows after.knows p × IsPrefix seen after.knows.seen
-MakesLoad b seen (view_word k) before after = after ≡ stepped before 1
+MakesLoad b seen (view_word p i k) before after = (after ≡ stepped before 1) × MayLoadWord b before.knows p i (RECORD_WORDS + k)
 MakesLoad b seen nothing before after = ⊥
 
 -- the process whose length that is, if it is one
 abbrev pub length_in : NextLoad → Option ℕ
 length_in (length_of p) = Some p
-length_in (view_word k) = None
+length_in (view_word p i k) = None
 length_in nothing = None
+
+-- and the step of that load
+abbrev pub step_in : NextLoad → Option BoardStep
+step_in (length_of p) = Some (BoardStep.Load (BoardWord.Length p))
+step_in (view_word p i k) = Some (BoardStep.Load (BoardWord.Record p i (RECORD_WORDS + k)))
+step_in nothing = None
 
 -- a collect or a view begins, or nothing is left
 abbrev pub BeginsAnew : NextLoad → Type 0
 BeginsAnew (length_of p) = p ≡ 0
-BeginsAnew (view_word k) = k ≡ 0
+BeginsAnew (view_word p i k) = k ≡ 0
 BeginsAnew nothing = Unit {0}
 
 -- what may come after a load, of n processes: the lengths come in the order of the processes, and the words by rising number
 abbrev pub MayFollow : ℕ → NextLoad → NextLoad → Type 0
 MayFollow n (length_of p) next = (p + 1 < n → next ≡ length_of (p + 1)) × (p + 1 ≡ n → BeginsAnew next)
-MayFollow n (view_word k) next = (k + 1 < n → next ≡ view_word (k + 1)) × (k + 1 ≡ n → next ≡ nothing)
+MayFollow n (view_word p i k) next = (k + 1 < n → next ≡ view_word p i (k + 1)) × (k + 1 ≡ n → next ≡ nothing)
 MayFollow n nothing next = ⊥
 
 -- what comes next in a stage
 abbrev pub next_of : Stage → NextLoad
 next_of (Collect c) = length_of c.loaded
-next_of (Borrow l) = view_word l.loaded
+next_of (Borrow l) = view_word l.process l.number l.loaded
 next_of Ended = nothing
 
 -- the loads that are left at most of n processes, after so many whole collects: of this collect, of those that may follow it up to

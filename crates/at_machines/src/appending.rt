@@ -7,9 +7,9 @@ ghost use Rattle.at_board.specs.Steps.Publish.{Publishes};
 ghost use Rattle.at_board.specs.Words.Addresses.{record_width};
 ghost use Rattle.at_log.specs.Appending.{MayAppend};
 ghost use Rattle.at_log.specs.LastRecord.{IsLast};
-ghost use Rattle.at_machines.specs.Appending.{StoresNextWord, appending_after, publication_of, starting_appending};
+ghost use Rattle.at_machines.specs.Appending.{StoresNextWord, append_step, appending_after, publication_of, starting_appending};
 
-use at_board::{Board, BoardSeat, Entry, RECORD_WORDS, record_word};
+use at_board::{Board, BoardSeat, BoardStep, BoardWord, Entry, RECORD_WORDS, record_word};
 use at_log::Record;
 use std::marker::Model;
 use std::snapshot::Snapshot;
@@ -57,6 +57,29 @@ impl Appending {
         ensures { result.now ≡ self.now.rec.entry }
     {
         &self.rec.entry
+    }
+
+    /// The step that the next turn makes, if some store is left.
+    pub fn next(&self, board: &Board, seat: &BoardSeat) -> Option<BoardStep>
+        requires board { IsOf seat.now board.now }
+        requires mark { seat.now.knows ≡ self.now.mark }
+        ensures { result ≡ append_step board.now.book self.now }
+    {
+        board.book().known();
+        let width = RECORD_WORDS + board.book().processes();
+        if self.stored == width + 1 {
+            return None;
+        }
+        let process = seat.process();
+        Some(BoardStep::Store(if self.stored == width {
+            BoardWord::Length { process }
+        } else {
+            BoardWord::Record {
+                process,
+                number: seat.published(),
+                word: self.stored,
+            }
+        }))
     }
 
     /// Stores the next word of the record, in one step, and publishes it once all are stored. Whether this turn has published it.

@@ -8,9 +8,9 @@ ghost use Rattle.at_board.specs.Steps.Announce.{Announces};
 ghost use Rattle.at_board.specs.declared.words.TheConstants.{REQUEST_WORDS};
 ghost use Rattle.at_ledger.specs.Book.{HasSlot};
 ghost use Rattle.at_rows.specs.Asks.{HasAsked, HasLoadedNothing, MayAskFor, asked_for, opened};
-ghost use Rattle.at_machines.specs.Asking.{AnnouncesAsked, StoresNextRequestWord, asking_after, request_asked, starting_to_ask};
+ghost use Rattle.at_machines.specs.Asking.{AnnouncesAsked, StoresNextRequestWord, ask_step, asking_after, request_asked, starting_to_ask};
 
-use at_board::{Board, BoardSeat, REQUEST_WORDS};
+use at_board::{Board, BoardSeat, BoardStep, BoardWord, REQUEST_WORDS};
 use at_ledger::Targets;
 use at_rows::{OpenRequest, request_word};
 use std::marker::Model;
@@ -71,6 +71,29 @@ impl Asking {
         }
     }
 
+    /// The step that the next turn makes, if some store is left.
+    pub fn next(&self, board: &Board, seat: &BoardSeat) -> Option<BoardStep>
+        requires board { IsOf seat.now board.now }
+        requires mark { seat.now.knows ≡ self.now.mark }
+        ensures { result ≡ ask_step board.now.book self.now }
+    {
+        let account = self.account;
+        let slot = board.book().slot_of(account, seat.process())?;
+        if self.stored == REQUEST_WORDS + 1 {
+            return None;
+        }
+        Some(BoardStep::Store(if self.stored == REQUEST_WORDS {
+            BoardWord::Announced { account, slot }
+        } else {
+            BoardWord::Request {
+                account,
+                slot,
+                number: seat.announced(account),
+                word: self.stored,
+            }
+        }))
+    }
+
     /// Stores the next word of the request, in one step, and announces it once all are stored. That turn answers its number among
     /// those of its slot.
     pub fn turn(&mut self, board: &Board, seat: &mut BoardSeat) -> Option<u32>
@@ -79,7 +102,7 @@ impl Asking {
         requires left { self.old.stored ≤ REQUEST_WORDS }
         ensures after { self.new ≡ asking_after self.old seat.new.knows }
         ensures word { self.old.stored < REQUEST_WORDS
-            → StoresNextRequestWord self.old seat.new.knows }
+            → StoresNextRequestWord board.now.book self.old seat.new.knows }
         ensures ends { IsSome result ↔ (self.old.stored ≡ REQUEST_WORDS) }
         ensures announces { IfSome result (λ number. AnnouncesAsked board.now.book self.old
             seat.new.knows) }

@@ -8,12 +8,12 @@ ghost use Rattle.at_board.specs.declared.words.TheConstants.{RECORD_WORDS};
 ghost use Rattle.at_fold.specs.CatchingUp.{IsCatchingUp};
 ghost use Rattle.at_fold.specs.HasCounted.{HasCounted, HasRecords, StaysCounted};
 ghost use Rattle.at_history.specs.Publications.{count_of};
-ghost use Rattle.at_machines.specs.CatchingUp.{LoadsNextWord, loads_left};
+ghost use Rattle.at_machines.specs.CatchingUp.{LoadsNextWord, MayLoadLeft, catch_step, loads_left};
 ghost use Rattle.at_machines.specs.Loading.{starting_loading};
 
 use crate::loading_entry::LoadingEntry;
 use at_base::Counts;
-use at_board::{Board, BoardSeat};
+use at_board::{Board, BoardSeat, BoardStep};
 use at_fold::Totals;
 use std::marker::Model;
 use std::snapshot::Snapshot;
@@ -42,6 +42,7 @@ impl Model for CatchingUp {
       counts = c.counts;
       knows = c.seat.value.knows;
       totals = c.totals.value;
+      process = c.process;
       loaded = loaded_of c.loading;
     } };
 
@@ -95,6 +96,16 @@ impl CatchingUp {
         self.loading.is_none()
     }
 
+    /// The step that the next turn makes, if some load is left.
+    pub fn next(&self) -> Option<BoardStep>
+        ensures { result ≡ catch_step self.now }
+    {
+        match &self.loading {
+            Some(loading) => loading.next(),
+            None => None,
+        }
+    }
+
     /// Loads the next word of the next record, in one step, and counts the record once its entry is whole. After the last one it
     /// answers the counts.
     pub fn turn(
@@ -111,6 +122,7 @@ impl CatchingUp {
         ensures knows { self.new.knows ≡ self.old.knows }
         ensures totals { self.new.totals ≡ totals.new }
         ensures word { LoadsNextWord self.old totals.new }
+        ensures record { MayLoadLeft board.now.book seat.old.knows self.old }
         ensures left { loads_left self.new + 1 ≡ loads_left self.old }
         ensures part { self.new.loaded < RECORD_WORDS }
         ensures ends { IsSome result ↔ (loads_left self.new ≡ 0) }

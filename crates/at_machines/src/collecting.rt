@@ -7,10 +7,10 @@ ghost use Rattle.at_board.specs.Knowledge.Seats.{IsOf};
 ghost use Rattle.at_board.specs.Steps.LoadLength.{LoadsLength};
 ghost use Rattle.at_history.specs.Publications.{IsPrefix};
 ghost use Rattle.at_snapshot.specs.Collected.{IsCollect, collect_of};
-ghost use Rattle.at_machines.specs.Collecting.{LoadsLengthOf, collecting_after, starting_collecting};
+ghost use Rattle.at_machines.specs.Collecting.{LoadsLengthOf, collect_step, collecting_after, starting_collecting};
 
 use at_base::Counts;
-use at_board::{Board, BoardSeat, Overview};
+use at_board::{Board, BoardSeat, BoardStep, BoardWord, Overview};
 use std::marker::Model;
 use std::snapshot::Snapshot;
 
@@ -51,6 +51,18 @@ impl Collecting {
             start: Snapshot::of(seat),
             mark: Snapshot::of(seat),
         }
+    }
+
+    /// The step that the next turn makes, if some length is left.
+    pub fn next(&self) -> Option<BoardStep>
+        ensures { result ≡ collect_step self.now }
+    {
+        if self.loaded == self.counts.len() {
+            return None;
+        }
+        Some(BoardStep::Load(BoardWord::Length {
+            process: self.loaded,
+        }))
     }
 
     /// Loads the length of the next process, in one step, after it has taken in what the overview has. After the last one it answers

@@ -10,10 +10,10 @@ ghost use Rattle.at_ledger.specs.Book.{account_of};
 ghost use Rattle.at_rows.specs.Asks.{HasAsked};
 ghost use Rattle.at_rows.specs.Rows.{AreCandidates, CollectsRows};
 ghost use Rattle.at_machines.specs.CollectingRows.{MakesNextLoad, rows_after, starting_rows};
-ghost use Rattle.at_machines.specs.LoadingRow.{NextRowLoad};
+ghost use Rattle.at_machines.specs.LoadingRow.{NextRowLoad, row_step};
 
 use crate::loading_row::LoadingRow;
-use at_board::{Board, BoardSeat};
+use at_board::{Board, BoardSeat, BoardStep};
 use at_rows::{Asked, OpenRequest};
 use std::marker::Model;
 use std::mem::replace;
@@ -69,6 +69,13 @@ impl CollectingRows {
         ensures { result ≡ self.now.own }
     {
         self.row.own()
+    }
+
+    /// The step that the next turn makes, if some load is left.
+    pub fn next(&self) -> Option<BoardStep>
+        ensures { result ≡ row_step self.now.account self.now.slot self.now.next }
+    {
+        self.row.next()
     }
 
     /// Makes the next load, in one step. After the last one it answers the requests that were found.

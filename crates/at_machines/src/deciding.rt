@@ -11,14 +11,14 @@ ghost use Rattle.at_log.specs.LastRecord.{IsLast};
 ghost use Rattle.at_shared.specs.HelpTurns.{DecidesNext};
 ghost use Rattle.at_shared.specs.Helpings.{IsHelpingAt};
 ghost use Rattle.at_machines.specs.Appending.{publication_of};
-ghost use Rattle.at_machines.specs.Deciding.{MakesRoundStep, deciding_after, exchanges_in, round_in, starting_deciding};
+ghost use Rattle.at_machines.specs.Deciding.{MakesRoundStep, deciding_after, exchanges_in, round_in, starting_deciding, step_in_round};
 ghost use Rattle.at_machines.specs.LoadingRequest.{starting_request};
 
 use crate::appending::Appending;
 use crate::loading_request::LoadingRequest;
 use crate::round_stage::RoundStage;
 use at_base::{Counts, Decision};
-use at_board::{Board, BoardSeat};
+use at_board::{Board, BoardSeat, BoardStep, BoardWord};
 use at_fold::Totals;
 use at_rounds::propose;
 use at_shared::{Helping, record_of_round};
@@ -106,6 +106,23 @@ impl Deciding {
         ensures { result ≡ round_in self.now }
     {
         self.round
+    }
+
+    /// The step that the next turn makes, if some step is left.
+    pub fn next(&self, board: &Board, seat: &BoardSeat) -> Option<BoardStep>
+        requires board { IsOf seat.now board.now }
+        requires mark { seat.now.knows ≡ self.now.mark }
+        ensures { result ≡ step_in_round board.now.book self.now self.now.next }
+    {
+        match &self.stage {
+            RoundStage::Proposing(_) => Some(BoardStep::Exchange(BoardWord::Cell {
+                account: self.account,
+                round: self.round,
+            })),
+            RoundStage::Loading(_, loading) => loading.next(),
+            RoundStage::Publishing(_, appending) => appending.next(board, seat),
+            RoundStage::Ended => None,
+        }
     }
 
     /// Makes the next step of the round, in one step. The last one publishes and counts its record, and answers the decision.

@@ -4,11 +4,12 @@ ghost use Rattle.std.specs.Prelude.{◌≡◌, ◌+◌, ◌<◌, ◌↔◌, IfSo
 ghost use Rattle.at_board.specs.Counting.{stepped};
 ghost use Rattle.at_board.specs.Knowledge.Records.{SeesRecord};
 ghost use Rattle.at_board.specs.Knowledge.Seats.{IsOf};
+ghost use Rattle.at_board.specs.Steps.LoadRecordWord.{MayLoadWord};
 ghost use Rattle.at_board.specs.declared.words.TheConstants.{RECORD_WORDS};
 ghost use Rattle.at_log.specs.Loading.{IsEntryOf};
-ghost use Rattle.at_machines.specs.Loading.{loading_after, starting_loading};
+ghost use Rattle.at_machines.specs.Loading.{entry_step, loading_after, starting_loading};
 
-use at_board::{Board, BoardSeat, Entry, RECORD_WORDS, entry_of};
+use at_board::{Board, BoardSeat, BoardStep, BoardWord, Entry, RECORD_WORDS, entry_of};
 use std::marker::Model;
 use std::snapshot::Snapshot;
 
@@ -53,6 +54,20 @@ impl LoadingEntry {
         }
     }
 
+    /// The step that the next turn makes, if some word is left.
+    pub fn next(&self) -> Option<BoardStep>
+        ensures { result ≡ entry_step self.now }
+    {
+        if self.loaded == RECORD_WORDS {
+            return None;
+        }
+        Some(BoardStep::Load(BoardWord::Record {
+            process: self.process,
+            number: self.number,
+            word: self.loaded,
+        }))
+    }
+
     /// Loads the next word of the entry, in one step. After the last one it answers the entry.
     pub fn turn(&mut self, board: &Board, seat: &mut BoardSeat) -> Option<Entry>
         requires board { IsOf seat.old board.now }
@@ -62,6 +77,8 @@ impl LoadingEntry {
         ensures ends { IsSome result ↔ (self.new.loaded ≡ RECORD_WORDS) }
         ensures entry { IfSome result (λ entry. IsEntryOf self.old.knows self.old.process
             self.old.number entry) }
+        ensures record { MayLoadWord board.now.book seat.old.knows self.old.process self.old.number
+            self.old.loaded }
         ensures same { seat.new ≡ stepped seat.old 1 }
     {
         board.book().known();

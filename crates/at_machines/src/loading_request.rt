@@ -6,9 +6,9 @@ ghost use Rattle.at_board.specs.Knowledge.Seats.{IsOf};
 ghost use Rattle.at_board.specs.Steps.LoadRequestWord.{KnowsOf};
 ghost use Rattle.at_board.specs.declared.words.TheConstants.{REQUEST_WORDS};
 ghost use Rattle.at_rows.specs.Loads.{LoadsRequest};
-ghost use Rattle.at_machines.specs.LoadingRequest.{LoadsNextRequestWord, request_after, starting_request};
+ghost use Rattle.at_machines.specs.LoadingRequest.{LoadsNextRequestWord, request_after, request_step, starting_request};
 
-use at_board::{Board, BoardSeat, REQUEST_WORDS};
+use at_board::{Board, BoardSeat, BoardStep, BoardWord, REQUEST_WORDS};
 use at_rows::{OpenRequest, request_from};
 use std::marker::Model;
 use std::snapshot::Snapshot;
@@ -58,6 +58,21 @@ impl LoadingRequest {
             start: Snapshot::of(seat),
             mark: Snapshot::of(seat),
         }
+    }
+
+    /// The step that the next turn makes, if some word is left.
+    pub fn next(&self) -> Option<BoardStep>
+        ensures { result ≡ request_step self.now }
+    {
+        if self.loaded == REQUEST_WORDS {
+            return None;
+        }
+        Some(BoardStep::Load(BoardWord::Request {
+            account: self.account,
+            slot: self.slot,
+            number: self.number,
+            word: self.loaded,
+        }))
     }
 
     /// Loads the next word of the request, in one step. After the last one it answers the request, whole as it was announced.

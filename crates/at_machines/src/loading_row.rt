@@ -8,11 +8,11 @@ ghost use Rattle.at_ledger.specs.Account.{slots_of};
 ghost use Rattle.at_ledger.specs.Book.{account_of};
 ghost use Rattle.at_rows.specs.OpenRequests.{request_of};
 ghost use Rattle.at_rows.specs.Rows.{LoadsRow, row_steps};
-ghost use Rattle.at_machines.specs.LoadingRow.{MakesRowLoad, NextRowLoad, row_after, row_turns, starting_row};
+ghost use Rattle.at_machines.specs.LoadingRow.{MakesRowLoad, NextRowLoad, row_after, row_step, row_turns, starting_row};
 
 use crate::loading_request::LoadingRequest;
 use crate::row_stage::RowStage;
-use at_board::{Board, BoardSeat};
+use at_board::{Board, BoardSeat, BoardStep, BoardWord};
 use at_rows::OpenRequest;
 use std::marker::Model;
 use std::snapshot::Snapshot;
@@ -79,6 +79,20 @@ impl LoadingRow {
         ensures { result ≡ self.now.own }
     {
         self.own.copy()
+    }
+
+    /// The step that the next turn makes, if some load is left.
+    pub(crate) fn next(&self) -> Option<BoardStep>
+        ensures { result ≡ row_step self.now.account self.now.slot self.now.next }
+    {
+        match &self.stage {
+            RowStage::Announced => Some(BoardStep::Load(BoardWord::Announced {
+                account: self.account,
+                slot: self.slot,
+            })),
+            RowStage::Last(loading) => loading.next(),
+            RowStage::Ended => None,
+        }
     }
 
     /// Makes the next load of the row, in one step. After the last one it answers what is found there, if anything is.

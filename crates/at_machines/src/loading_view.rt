@@ -4,11 +4,13 @@ ghost use Rattle.std.specs.Prelude.{◌≡◌, ◌+◌, ◌<◌, ◌↔◌, IfSo
 ghost use Rattle.at_board.specs.Counting.{stepped};
 ghost use Rattle.at_board.specs.Knowledge.Records.{SeesRecord};
 ghost use Rattle.at_board.specs.Knowledge.Seats.{IsOf};
+ghost use Rattle.at_board.specs.Steps.LoadRecordWord.{MayLoadWord};
+ghost use Rattle.at_board.specs.declared.words.TheConstants.{RECORD_WORDS};
 ghost use Rattle.at_log.specs.Loading.{IsViewOf};
-ghost use Rattle.at_machines.specs.Loading.{loading_after, starting_loading};
+ghost use Rattle.at_machines.specs.Loading.{loading_after, starting_loading, view_step};
 
 use at_base::Counts;
-use at_board::{Board, BoardSeat, RECORD_WORDS};
+use at_board::{Board, BoardSeat, BoardStep, BoardWord, RECORD_WORDS};
 use std::marker::Model;
 use std::snapshot::Snapshot;
 
@@ -55,6 +57,20 @@ impl LoadingView {
         }
     }
 
+    /// The step that the next turn makes, if some word is left.
+    pub fn next(&self) -> Option<BoardStep>
+        ensures { result ≡ view_step self.now }
+    {
+        if self.loaded == self.view.len() {
+            return None;
+        }
+        Some(BoardStep::Load(BoardWord::Record {
+            process: self.process,
+            number: self.number,
+            word: RECORD_WORDS + self.loaded,
+        }))
+    }
+
     /// Loads the next word of the view, in one step. After the last one it answers the view.
     pub fn turn(&mut self, board: &Board, seat: &mut BoardSeat) -> Option<Counts>
         requires board { IsOf seat.old board.now }
@@ -64,6 +80,8 @@ impl LoadingView {
         ensures ends { IsSome result ↔ (self.new.loaded ≡ board.now.book.processes) }
         ensures view { IfSome result (λ view. IsViewOf self.old.knows self.old.process
             self.old.number view) }
+        ensures record { MayLoadWord board.now.book seat.old.knows self.old.process self.old.number
+            (RECORD_WORDS + self.old.loaded) }
         ensures same { seat.new ≡ stepped seat.old 1 }
     {
         board.book().known();

@@ -8,14 +8,14 @@ ghost use Rattle.at_fold.specs.HasCounted.{HasCounted, StaysCounted};
 ghost use Rattle.at_single.specs.Looks.{HasLooked};
 ghost use Rattle.at_snapshot.specs.Collected.{HasLoaded};
 ghost use Rattle.at_snapshot.specs.Snapshots.{snapshot_steps};
-ghost use Rattle.at_machines.specs.Looking.{IsWithin, IsWithinOneMore, MakesLookLoad, look_turns_left};
+ghost use Rattle.at_machines.specs.Looking.{IsWithin, IsWithinOneMore, MakesLookLoad, first_load, look_turns_left, step_at};
 
 use crate::catching_up::CatchingUp;
 use crate::look_stage::LookStage;
 use crate::next_stage::become_next;
 use crate::snapping::Snapping;
 use at_base::Counts;
-use at_board::{Board, BoardSeat, Overview};
+use at_board::{Board, BoardSeat, BoardStep, Overview};
 use at_fold::Totals;
 use std::marker::Model;
 use std::snapshot::Snapshot;
@@ -66,6 +66,7 @@ impl Looking {
         ensures totals { result.totals ≡ totals.now }
         ensures turns { result.turns ≡ 0 }
         ensures left { 0 < look_turns_left result.stage }
+        ensures first { step_at result.stage ≡ first_load }
     {
         seat.known();
         Looking {
@@ -83,6 +84,16 @@ impl Looking {
         ensures { result ≡ self.now.turns }
     {
         self.turns
+    }
+
+    /// The step that the next turn makes, if some load is left.
+    pub fn next(&self) -> Option<BoardStep>
+        ensures { result ≡ step_at self.now.stage }
+    {
+        match &self.stage {
+            LookStage::Snap(snapping) => snapping.next(),
+            LookStage::CatchUp(catching) => catching.next(),
+        }
     }
 
     /// Makes the next load of the look, in one step. With the last one, the totals have counted what the snapshot counts, and it

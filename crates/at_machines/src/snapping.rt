@@ -6,12 +6,12 @@ ghost use Rattle.at_board.specs.Knowledge.Overviews.{IsOverviewOf};
 ghost use Rattle.at_board.specs.Knowledge.Seats.{IsOf};
 ghost use Rattle.at_snapshot.specs.Collected.{HasLoaded};
 ghost use Rattle.at_snapshot.specs.Snapshots.{HasCollected, IsSnapshot, snapshot_steps};
-ghost use Rattle.at_machines.specs.Snapping.{MakesLoad, MayFollow, length_of};
+ghost use Rattle.at_machines.specs.Snapping.{MakesLoad, MayFollow, length_of, step_in};
 
 use crate::collecting::Collecting;
 use crate::stage::Stage;
 use at_base::Counts;
-use at_board::{Board, BoardSeat, Overview};
+use at_board::{Board, BoardSeat, BoardStep, Overview};
 use at_snapshot::Collects;
 use std::marker::Model;
 use std::snapshot::Snapshot;
@@ -64,6 +64,17 @@ impl Snapping {
             stage: Stage::Collect(Collecting::start(board, seat)),
             start: Snapshot::of(seat),
             mark: Snapshot::of(seat),
+        }
+    }
+
+    /// The step that the next turn makes, if some load is left.
+    pub fn next(&self) -> Option<BoardStep>
+        ensures { result ≡ step_in self.now.next }
+    {
+        match &self.stage {
+            Stage::Collect(collecting) => collecting.next(),
+            Stage::Borrow(loading) => loading.next(),
+            Stage::Ended => None,
         }
     }
 

@@ -169,7 +169,21 @@ returns-else-self-lt-REQUEST_WORDS-clause-board c =
     }
 
 pub returns-then-self-lt-REQUEST_WORDS-clause-word : goal.returns-then-self-lt-REQUEST_WORDS-clause-word
-returns-then-self-lt-REQUEST_WORDS-clause-word c = grind (arith, common_steps)
+returns-then-self-lt-REQUEST_WORDS-clause-word c = λ left.
+    let at = (goal.at.returns-then-self-lt-REQUEST_WORDS-clause-word c).After-self in
+    let a : AskingTerms = c.args.self.now in
+    let w : Knowledge = c.store_request_word.new.seat.knows in
+    let n = c.request_word-word.result in
+    let is = c.self.view_is in
+    let word : n ≡ get_or (request_words (request_asked a)) a.stored 0 =
+    c.request_word-word.ensures ∙ ap (λ (t : AskingTerms). get_or (request_words (request_asked t)) t.stored 0) is in
+    let told : StoresRequestWord a.mark w a.account a.stored n =
+    subst (λ (v : Knowledge). StoresRequestWord v w a.account a.stored n) c.requires.mark
+    (subst (λ (t : AskingTerms). StoresRequestWord c.args.seat.now.knows w t.account t.stored n) is c.store_request_word.ensures.stored) in (
+      (before at).may.0,
+      (MayStoreRequest-IsAskingSo c.args.board.now.book a (book at) (omega (arith, left)) (before at)).slot_in,
+      subst (StoresRequestWord a.mark w a.account a.stored) word told,
+    )
 
 pub returns-else-self-lt-REQUEST_WORDS-clause-after : goal.returns-else-self-lt-REQUEST_WORDS-clause-after
 returns-else-self-lt-REQUEST_WORDS-clause-after c = grind (arith, common_steps)

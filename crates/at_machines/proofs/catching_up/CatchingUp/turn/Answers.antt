@@ -2,6 +2,7 @@ use Rattle.std.proofs.Common.{◌≡◌, ℕ, ◌+◌, List, Some, get_or, set, 
 use Rattle.std.proofs.lemmas.Grind.{common_steps}
 use Rattle.at_ledger.specs.Book.{BookTerms}
 use Rattle.at_board.specs.Knowledge.Seats.{SeatTerms}
+use Rattle.at_board.specs.Steps.LoadRecordWord.{MayLoadWord}
 use Rattle.at_board.specs.declared.knowledge.Knowledge.{Knowledge}
 use Rattle.at_board.specs.declared.words.TheConstants.{RECORD_WORDS}
 use Rattle.at_fold.proofs.Laws.MorePublished.{StaysCounted-HasCounted}
@@ -10,7 +11,7 @@ use Rattle.at_fold.specs.CatchingUp.{IsCatchingUp}
 use Rattle.at_fold.specs.HasCounted.{HasCounted, StaysCounted}
 use Rattle.at_fold.specs.Sums.{TotalSums}
 use Rattle.at_machines.proofs.CatchingUpLaws.{CountsNext-counted, IsCatchingUp-counted, MayCount-IsCatchingUpSo, more-IsCatchingUpSo, none_left}
-use Rattle.at_machines.specs.CatchingUp.{CatchingUpTerms, CountsNext, loaded_of, loads_left}
+use Rattle.at_machines.specs.CatchingUp.{CatchingUpTerms, CountsNext, MayLoadLeft, loaded_of, loads_left}
 use Rattle.at_machines.specs.KeptCatchingUp.{IsCatchingUpSo}
 use Rattle.at_machines.specs.Loading.{LoadingTerms}
 use Rattle.at_machines.proofs.catching_up.CatchingUp.turn.Goals.{After-turn, After-count}
@@ -59,6 +60,30 @@ overflow_add-upto c =
       c.counted-upto.ensures,
       more-IsCatchingUpSo c.args.seat.now.knows c.self.inside.counts c.args.totals.now c.self.inside.process c.in-Some.loading so,
     )
+
+-- the record of which a word was loaded is the one that is left
+left_record : (c : After-turn) → MayLoadWord c.args.board.now.book c.args.seat.now.knows c.in-Some.loading.process c.in-Some.loading.number c.in-Some.loading.loaded
+    → MayLoadLeft c.args.board.now.book c.args.seat.now.knows c.args.self.now
+left_record c told =
+    let b : BookTerms = c.args.board.now.book in
+    let v : Knowledge = c.args.seat.now.knows in
+    let p : ℕ = c.self.inside.process in
+    let l : LoadingTerms = c.in-Some.loading in
+    let is : p ≡ c.args.self.now.process = ap (λ (s : CatchingUpTerms). s.process) c.self.view_is in
+    let loaded : l.loaded ≡ c.args.self.now.loaded = ap loaded_of (sym c.in-Some.is) ∙ ap (λ (s : CatchingUpTerms). s.loaded) c.self.view_is in
+    let here : MayLoadWord b v p (get_or c.args.totals.now.upto p 0) l.loaded =
+    subst (λ (k : LoadingTerms). MayLoadWord b v k.process k.number l.loaded) (before c).loading_so.3 told in (
+      c.requires.left,
+      subst (MayLoadWord b v c.args.self.now.process (get_or c.args.self.now.totals.upto c.args.self.now.process 0)) loaded
+          (subst (λ q. MayLoadWord b v q (get_or c.args.self.now.totals.upto q 0) l.loaded) is
+          (subst (λ (t : TotalSums). MayLoadWord b v p (get_or t.upto p 0) l.loaded) c.requires.totals here)),
+    )
+
+pub returns-in_err-entry-clause-record : goal.returns-in_err-entry-clause-record
+returns-in_err-entry-clause-record c = left_record (goal.at.returns-in_err-entry-clause-record c).After-turn c.turn.ensures.record
+
+pub returns-clause-record : goal.returns-clause-record
+returns-clause-record c = left_record (goal.at.After-count (goal.at.returns-clause-record c).After-count).After-turn c.turn.ensures.record
 
 -- one record more is counted
 counted : (c : After-count) → HasCounted c.count.new.self c.args.seat.now.knows.book c.args.seat.now.knows.seen

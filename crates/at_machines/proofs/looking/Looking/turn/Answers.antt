@@ -1,4 +1,4 @@
-use Rattle.std.proofs.Common.{◌≡◌, ◌≤◌, ℕ, List, length, IfSome, sym, ap, subst, ◌∙◌, arith}
+use Rattle.std.proofs.Common.{◌≡◌, ◌+◌, ◌≤◌, ℕ, List, length, IfSome, sym, ap, subst, ◌∙◌, arith}
 use Rattle.std.proofs.lemmas.Grind.{common_steps}
 use Rattle.std.specs.List.{sum}
 use Rattle.at_base.specs.Counts.{Covers}
@@ -13,7 +13,7 @@ use Rattle.at_single.specs.Looks.{HasLooked}
 use Rattle.at_snapshot.specs.Collected.{HasLoaded}
 use Rattle.at_snapshot.specs.Snapshots.{snapshot_steps}
 use Rattle.at_machines.proofs.Laws.Snapshots.{snapshot_steps-le}
-use Rattle.at_machines.proofs.LookingLaws.{HasLooked-snapped, StaysCounted-HasLoaded, few-IsSnapped, sum-IsSnapped}
+use Rattle.at_machines.proofs.LookingLaws.{HasLooked-snapped, IsLookingSo-caught, StaysCounted-HasLoaded, few-IsSnapped, sum-IsSnapped}
 use Rattle.at_machines.specs.KeptLooking.{IsLookingSo}
 use Rattle.at_machines.specs.KeptSnapshots.{IsSnapped}
 use Rattle.at_machines.specs.Looking.{LookingTerms, MakesLookLoad, look_turns_left}
@@ -146,7 +146,7 @@ before_catching c =
 pub returns-in-CatchUp-clause-load : goal.returns-in-CatchUp-clause-load
 returns-in-CatchUp-clause-load c =
     subst (λ (s : LookStage). MakesLookLoad c.args.board.now.book c.args.overview.now.seen s c.args.seat.now c.turn-caught.new.seat c.turn-caught.new.totals)
-    (sym (catches (goal.at.returns-in-CatchUp-clause-load c).After-turn-caught)) (c.turn-caught.ensures.same, c.turn-caught.ensures.word)
+    (sym (catches (goal.at.returns-in-CatchUp-clause-load c).After-turn-caught)) (c.turn-caught.ensures.same, c.turn-caught.ensures.word, c.turn-caught.ensures.record)
 
 pub overflow_add-self-in-CatchUp : goal.overflow_add-self-in-CatchUp
 overflow_add-self-in-CatchUp c =
@@ -228,7 +228,16 @@ pub returns-in-CatchUp-clause-left : goal.returns-in-CatchUp-clause-left
 returns-in-CatchUp-clause-left c = grind (arith, common_steps)
 
 pub invariant_of-self-in-CatchUp : goal.invariant_of-self-in-CatchUp
-invariant_of-self-in-CatchUp c = grind (arith, common_steps)
+invariant_of-self-in-CatchUp c =
+    let at = (goal.at.invariant_of-self-in-CatchUp c).After-turn-caught in
+    let i = c.self.inside in
+    let was : TotalSums = i.was.value in
+    let told = c.turn-caught.ensures in
+    let so = subst (IsLookingSo i.start.value.knows i.mark.value.knows was i.totals.value i.turns) c.in-CatchUp.is c.self.invariant in
+    let grown : sum was.upto ≤ sum c.turn-caught.new.totals.upto = omega (arith, grows at, ap (λ (t : LookingTerms). sum t.was.upto) c.self.view_is) in
+    subst (λ (t : TotalSums). IsLookingSo i.start.value.knows i.mark.value.knows was t (i.turns + 1) (CatchUp c.turn-caught.new.self)) (sym c.of-in-CatchUp.ensures)
+    (IsLookingSo-caught i.start.value.knows i.mark.value.knows was i.totals.value c.turn-caught.new.totals i.turns c.in-CatchUp.catching c.turn-caught.new.self so
+    told.knows told.totals told.counts told.left grown)
 
 pub returns-in_err-front-in-Snap-clause-turns : goal.returns-in_err-front-in-Snap-clause-turns
 returns-in_err-front-in-Snap-clause-turns c = grind (arith, common_steps)
