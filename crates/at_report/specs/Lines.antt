@@ -8,6 +8,7 @@ use Rattle.at_ledger.specs.declared.call.Reply.{Reply}
 use Rattle.at_ledger.specs.declared.call.Reply.TheVariants.{Done, Short, NotOwner, Full, Balance}
 use Rattle.at_ledger.specs.declared.call.Line.{Line}
 use Rattle.at_files.specs.Names.{NameList, account_name, process_name}
+use Rattle.at_report.specs.declared.line_at.LineAt.{LineAt}
 
 -- a word of a text, and the words of a line
 abbrev pub Word : Type 0
@@ -61,3 +62,7 @@ reply_word (Balance n) = decimal n
 abbrev pub journal_words : NameList → Line → Words
 journal_words names l =
     process_name names l.process ∷ decimal l.number ∷ (call_words names l.call ++ reply_word l.reply ∷ [])
+
+-- a line, wherever its call stands
+abbrev pub line_shown : LineAt → Line
+line_shown l = record { process = l.process; number = l.number; call = l.call.now; reply = l.reply }

@@ -3,9 +3,10 @@
 ghost use Rattle.std.specs.Prelude.{◌≡◌, ◌<◌, [], ◌∷◌, ◌++◌, length, take, decimal, OnOk, OnErr};
 ghost use Rattle.std.specs.Io.{StartsWith};
 ghost use Rattle.at_ledger.specs.Call.{AreTargetsOn, IsCallOn, IsLineOn, target_at};
-ghost use Rattle.at_report.specs.Lines.{spaced, line_text, targets_words, call_words, reply_word, journal_words};
+ghost use Rattle.at_report.specs.Lines.{spaced, line_shown, line_text, targets_words, call_words, reply_word, journal_words};
 
 use crate::NoMemory;
+use crate::line_at::{LineAt, at_line};
 use at_files::Names;
 use at_ledger::{Call, Line, Reply, Targets};
 
@@ -142,18 +143,38 @@ pub(crate) fn all_or_nothing(
 }
 
 /// Adds what a line of the journal is made of, one part after another.
-fn push_parts(out: &mut Vec<u8>, names: &Names, line: &Line) -> Result<(), NoMemory>
-    requires { IsLineOn (length names.now.processes) (length names.now.accounts) line.now }
+fn push_parts(out: &mut Vec<u8>, names: &Names, line: &LineAt<'_>) -> Result<(), NoMemory>
+    requires { IsLineOn (length names.now.processes) (length names.now.accounts)
+        (line_shown line.now) }
     ensures text { OnOk result
-        (out.new.items ≡ out.old.items ++ line_text (journal_words names.now line.now)) }
+        (out.new.items ≡ out.old.items ++ line_text
+        (journal_words names.now (line_shown line.now))) }
     ensures begun { OnErr result (StartsWith out.new.items out.old.items) }
 {
     out.extend_from_slice(names.process(line.process))?;
     push_number(out, u64::from(line.number))?;
-    push_call(out, names, &line.call)?;
+    push_call(out, names, line.call)?;
     push_reply(out, line.reply)?;
     out.push(b'\n')?;
     Ok(())
+}
+
+/// Adds a line of the journal whose call stands elsewhere, with its newline.
+pub(crate) fn push_line_at(
+    out: &mut Vec<u8>,
+    names: &Names,
+    line: &LineAt<'_>,
+) -> Result<(), NoMemory>
+    requires { IsLineOn (length names.now.processes) (length names.now.accounts)
+        (line_shown line.now) }
+    ensures text { OnOk result
+        (out.new.items ≡ out.old.items ++ line_text
+        (journal_words names.now (line_shown line.now))) }
+    ensures kept { OnErr result (out.new.items ≡ out.old.items) }
+{
+    let length = out.len();
+    let added = push_parts(out, names, line);
+    all_or_nothing(out, length, added)
 }
 
 /// Adds a line of the journal, with its newline.
@@ -163,7 +184,5 @@ pub fn push_line(out: &mut Vec<u8>, names: &Names, line: &Line) -> Result<(), No
         (out.new.items ≡ out.old.items ++ line_text (journal_words names.now line.now)) }
     ensures kept { OnErr result (out.new.items ≡ out.old.items) }
 {
-    let length = out.len();
-    let added = push_parts(out, names, line);
-    all_or_nothing(out, length, added)
+    push_line_at(out, names, &at_line(line))
 }

@@ -10,7 +10,8 @@ ghost use Rattle.at_report.specs.Lines.{line_text, lines_text};
 ghost use Rattle.at_report.specs.Report.{IsPrinted, agreed_line, audit_lines, balance_lines, checked_line, heading_words, printed_journal, report_text, verified_line};
 
 use crate::NoMemory;
-use crate::lines::{all_or_nothing, push_line, push_number, push_numbered};
+use crate::line_at::Journal;
+use crate::lines::{all_or_nothing, push_line_at, push_number, push_numbered};
 use crate::replaying::replay;
 use at_files::Names;
 use at_ledger::{Book, Line, State};
@@ -72,20 +73,21 @@ pub fn push_audit(
 }
 
 /// Adds the end of a report of these lines: what is left after all of them.
-pub(crate) fn push_end(
+pub(crate) fn push_end<J: Journal>(
     alloc: Global,
     out: &mut Vec<u8>,
     book: &Book,
     names: &Names,
-    lines: &[Line],
+    journal: &J,
 ) -> Result<(), NoMemory>
     requires names { length names.now.accounts ≡ length book.now.accounts }
-    requires lines { All (IsLineOn book.now.processes (length book.now.accounts)) lines.now }
+    requires lines { All (IsLineOn book.now.processes (length book.now.accounts))
+        (J.lines journal.now) }
     ensures { OnOk result
         (out.new.items ≡ out.old.items ++ lines_text
-        (audit_lines names.now (last_state book.now lines.now))) }
+        (audit_lines names.now (last_state book.now (J.lines journal.now)))) }
 {
-    let state = replay(alloc, book, lines)?;
+    let state = replay(alloc, book, journal)?;
     push_audit(out, book, names, &state)
 }
 
@@ -100,38 +102,68 @@ pub fn push_heading(out: &mut Vec<u8>, lines: u64) -> Result<(), NoMemory>
 }
 
 /// Adds how many lines there are, and then each of them.
-fn push_journal(out: &mut Vec<u8>, names: &Names, lines: &[Line]) -> Result<(), NoMemory>
-    requires { All (IsLineOn (length names.now.processes) (length names.now.accounts)) lines.now }
+fn push_journal<J: Journal>(
+    out: &mut Vec<u8>,
+    names: &Names,
+    journal: &J,
+) -> Result<(), NoMemory>
+    requires { All (IsLineOn (length names.now.processes) (length names.now.accounts))
+        (J.lines journal.now) }
     ensures { OnOk result
-        (out.new.items ≡ out.old.items ++ lines_text (printed_journal names.now lines.now)) }
+        (out.new.items ≡ out.old.items ++ lines_text
+        (printed_journal names.now (J.lines journal.now))) }
 {
-    push_heading(out, lines.len() as u64)?;
-    for line in lines {
-        push_line(out, names, line)?;
+    push_heading(out, journal.len() as u64)?;
+    for i in 0..journal.len() {
+        push_line_at(out, names, &journal.line(i))?;
     }
     Ok(())
 }
 
 /// The bytes of the report.
-fn write_report(
+fn write_report<J: Journal>(
     alloc: Global,
     book: &Book,
     names: &Names,
-    lines: &[Line],
+    journal: &J,
 ) -> Result<Vec<u8>, NoMemory>
     requires names { AreNamesOf book.now names.now }
-    requires lines { All (IsLineOn book.now.processes (length book.now.accounts)) lines.now }
-    ensures { IfOk result (λ text. text.items ≡ report_text book.now names.now lines.now) }
+    requires lines { All (IsLineOn book.now.processes (length book.now.accounts))
+        (J.lines journal.now) }
+    ensures { IfOk result
+        (λ text. text.items ≡ report_text book.now names.now (J.lines journal.now)) }
 {
     let mut out = Vec::new(alloc);
-    push_journal(&mut out, names, lines)?;
-    push_end(alloc, &mut out, book, names, lines)?;
+    push_journal(&mut out, names, journal)?;
+    push_end(alloc, &mut out, book, names, journal)?;
     Ok(out)
 }
 
-/// The report of a list of lines: the journal, and the balances and the total after all its lines. `names` are the
-/// book's. No other list of lines has this report. The text takes some 40 bytes for each line, and the work grows with
+/// The report of lines that stand elsewhere: the journal, and the balances and the total after all its lines. `names` are
+/// the book's. No other list of lines has this report. The text takes some 40 bytes for each line, and the work grows with
 /// lines and accounts alone.
+pub fn journal_report<J: Journal>(
+    alloc: Global,
+    book: &Book,
+    names: &Names,
+    journal: &J,
+) -> Result<Vec<u8>, NoMemory>
+    requires names { AreNamesOf book.now names.now }
+    requires lines { All (IsLineOn book.now.processes (length book.now.accounts))
+        (J.lines journal.now) }
+    ensures text { IfOk result
+        (λ text. text.items ≡ report_text book.now names.now (J.lines journal.now)) }
+    ensures spells { IfOk result (λ text. (others : List Line) → length others < 2 ^ 64
+        → All (IsPrinted book.now) (J.lines journal.now) → All (IsPrinted book.now) others
+        → text.items ≡ report_text book.now names.now others → J.lines journal.now ≡ others) }
+{
+    let _known = book.accounts();
+    let _known = journal.len();
+    let text = write_report(alloc, book, names, journal)?;
+    Ok(text)
+}
+
+/// The report of a list of lines, as `journal_report` makes it.
 pub fn report(
     alloc: Global,
     book: &Book,
@@ -145,10 +177,7 @@ pub fn report(
         → All (IsPrinted book.now) lines.now → All (IsPrinted book.now) others
         → text.items ≡ report_text book.now names.now others → lines.now ≡ others) }
 {
-    let _known = book.accounts();
-    let _known = lines.len();
-    let text = write_report(alloc, book, names, lines)?;
-    Ok(text)
+    journal_report(alloc, book, names, &lines)
 }
 
 /// The line of a check: how many processes and accounts the book has, and how many calls its files have together.

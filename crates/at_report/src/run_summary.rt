@@ -94,6 +94,6 @@ pub fn summary(
 {
     let mut out = made_lines(alloc, lines, first, book.processes(), calls)?;
     let names = Names::plain(alloc, book)?;
-    push_end(alloc, &mut out, book, &names, lines)?;
+    push_end(alloc, &mut out, book, &names, &lines)?;
     Ok(out)
 }

@@ -6,10 +6,11 @@ use Rattle.at_ledger.specs.declared.call.Call.{Call}
 use Rattle.at_ledger.specs.declared.call.Line.{Line}
 use Rattle.at_ledger.specs.Run.{asked_in, run_from}
 use Rattle.at_ledger.proofs.Run.{last-take_more, run_from-nil}
+use Rattle.at_report.specs.Lines.{line_shown}
 use Rattle.at_report.proofs.replaying.replay.Goals as goal
 
-pub loop-line-init : goal.loop-line-init
-loop-line-init c = record { last = rw run_from-nil refl; book = refl }
+pub loop-i-init : goal.loop-i-init
+loop-i-init g c = record { last = rw run_from-nil refl; book = refl }
 
 -- the state after one more line
 last-line : (s now : LedgerState) (lines : List Line) (i : ℕ) (l : Line) → i < length lines → l ≡ get_or lines i l
@@ -22,13 +23,14 @@ last-line s now lines i l within is was =
     let more = last-take_more s (asked_in lines) i asked within_asked in
     sym (rw (call, ← was) at more)
 
-pub loop-line-preserved : goal.loop-line-preserved
-loop-line-preserved c =
-    let within : c.loop-line.line-index < length c.args.lines.now = omega arith in
+pub loop-i-preserved : goal.loop-i-preserved
+loop-i-preserved g c =
+    let lines = g.J.Journal.lines c.args.journal.now in
+    let within : c.loop-i.i < length lines = omega arith in
     record {
-      last = c.step.ensures.state ∙ last-line c.in_ok-state.state c.loop-line.state c.args.lines.now c.loop-line.line-index c.line-item.result within c.line-item.is c.loop-line.invariant.last;
-      book = c.step.ensures.book ∙ c.loop-line.invariant.book;
+      last = c.step.ensures.state ∙ last-line c.in_ok-state.state c.loop-i.state lines c.loop-i.i (line_shown c.line-line.result) within c.line-line.ensures c.loop-i.invariant.last;
+      book = c.step.ensures.book ∙ c.loop-i.invariant.book;
     }
 
 pub returns-clause-last : goal.returns-clause-last
-returns-clause-last c = grind (arith, common_steps)
+returns-clause-last g c = grind (arith, common_steps)

@@ -3,7 +3,7 @@ use Rattle.std.proofs.lemmas.Grind.{common_steps}
 use Rattle.at_report.proofs.run_report.write_report.Goals as goal
 
 pub returns : goal.returns
-returns c = grind (arith, common_steps)
+returns g c = grind (arith, common_steps)
 
 pub push_journal-requires : goal.push_journal-requires
-push_journal-requires c = grind (arith, common_steps)
+push_journal-requires g c = grind (arith, common_steps)
