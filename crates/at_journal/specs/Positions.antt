@@ -16,10 +16,6 @@ use Rattle.at_journal.specs.Order.{no_number}
 use Rattle.at_journal.specs.declared.keyed.Keyed.{Keyed}
 use Rattle.at_journal.specs.declared.order.Numbered.{Numbered}
 
--- each is the number of a receipt
-abbrev pub AreReceipts : ClosingTerms → List Keyed → Type 0
-AreReceipts c all = All (λ x. x.process < length c.receipts × x.number < length (receipts_of c x.process)) all
-
 -- where those of a process stand
 abbrev pub positions_of : ℕ → List Numbered → List ℕ
 positions_of process all = filter (λ m. (slice_index_or all m no_number).process == process) (range_with_len 0 (length all))

@@ -1,9 +1,10 @@
 //! The journal of a coherent closing: its calls in one legal order.
 //!
-//! `journal` answers every receipt of the closing once, as a line, and the lines are a run of the ledger. It needs the closing
-//! alone, and takes time in proportion to N log N in the number of its records and receipts.
+//! `journal` answers every receipt of the closing once, as a line, and the lines are a run of the ledger. `journal_calls` answers
+//! their order alone. Both need the closing alone, and take time in proportion to N log N in the number of its records and receipts.
 #![tactic(auto)]
 
+mod calls;
 mod fronts;
 mod keyed;
 mod lines;
@@ -19,11 +20,9 @@ ghost use Rattle.at_log.specs.JournalOrder.{journal_lines, journal_order};
 ghost use Rattle.at_journal.specs.Calls.{calls_in};
 ghost use Rattle.at_journal.specs.Linearizable.{AreTimed, CallTimes, IsLinearizable};
 
-use crate::fronts::held_fronts;
-use crate::keyed::put_in_order;
-use crate::lines::{keyed_calls, lines};
-use crate::order::{order_of, total_of};
-use crate::positions::round_positions;
+pub use crate::calls::journal_calls;
+pub use crate::keyed::CallAt;
+use crate::lines::lines;
 pub use at_base::NoMemory;
 use at_ledger::{Book, Line};
 use at_log::Closing;
@@ -46,10 +45,7 @@ pub fn journal(alloc: Global, book: &Book, closing: &Closing) -> Result<Vec<Line
     ensures linearizable { IfOk result (λ lines. (times : CallTimes) → AreTimed closing.now times
         → IsLinearizable book.now (calls_in closing.now) times lines.items) }
 {
-    let fronts = held_fronts(alloc, closing, total_of(closing))?;
-    let order = order_of(alloc, closing, fronts.as_slice())?;
-    let starts = round_positions(alloc, book, closing, order.as_slice())?;
-    let mut calls = keyed_calls(alloc, book, closing, order.as_slice(), starts.as_slice())?;
-    put_in_order(&mut calls)?;
+    book.known();
+    let calls = journal_calls(alloc, book, closing)?;
     lines(alloc, closing, calls.as_slice())
 }

@@ -3,15 +3,16 @@
 ghost use Rattle.std.specs.Prelude.{◌≡◌, ℕ, ◌+◌, ◌*◌, ◌++◌, ◌^◌, ◌<◌, ◌≤◌, [], length, map, slice_index, slice_index_or, All, IfOk, OnOk};
 ghost use Rattle.at_log.specs.ClosingTerms.{receipts_of};
 ghost use Rattle.at_log.specs.Coherent.{Coherent};
-ghost use Rattle.at_log.specs.JournalOrder.{journal_order, line_of};
+ghost use Rattle.at_log.specs.JournalOrder.{journal_order};
 ghost use Rattle.at_log.specs.Receipts.{is_success, receipt_at};
 ghost use Rattle.at_log.specs.Told.{key_of, keys_of};
+ghost use Rattle.at_journal.specs.Calls.{AreCallsOf, line_at};
 ghost use Rattle.at_journal.specs.Order.{AreRecords, published_in};
 ghost use Rattle.at_journal.specs.Ordered.{all_keyed, all_keys, keyed_of};
-ghost use Rattle.at_journal.specs.Positions.{AreReceipts, HasStarts, HasRoundPositions};
+ghost use Rattle.at_journal.specs.Positions.{HasStarts, HasRoundPositions};
 
 use crate::NoMemory;
-use crate::keyed::Keyed;
+use crate::keyed::{CallAt, Keyed};
 use crate::order::Numbered;
 use crate::positions::own_positions;
 use at_ledger::{Book, Line, Reply};
@@ -130,13 +131,12 @@ pub(crate) fn keyed_calls(
     Ok(all)
 }
 
-/// A call of a process as a line.
-fn line(closing: &Closing, one: &Keyed) -> Line
+/// A call of a closing as a line.
+fn line(closing: &Closing, one: &CallAt) -> Line
     requires known { one.now.process < length closing.now.receipts }
     requires within { one.now.number < length (receipts_of closing.now one.now.process) }
     requires few { length (receipts_of closing.now one.now.process) < 2 ^ 32 }
-    ensures { result ≡ line_of one.now.process one.now.number
-        (receipt_at (receipts_of closing.now one.now.process) one.now.number) }
+    ensures { result ≡ line_at closing.now one.now }
 {
     let receipt = &closing.receipts(one.process)[one.number as usize];
     Line {
@@ -151,13 +151,11 @@ fn line(closing: &Closing, one: &Keyed) -> Line
 pub(crate) fn lines(
     alloc: Global,
     closing: &Closing,
-    calls: &[Keyed],
+    calls: &[CallAt],
 ) -> Result<Vec<Line>, NoMemory>
-    requires receipts { AreReceipts closing.now calls.now }
+    requires calls { AreCallsOf closing.now calls.now }
     requires few { All (λ receipts. length receipts < 2 ^ 32) closing.now.receipts }
-    ensures { IfOk result (λ lines. lines.items
-        ≡ map (λ x. line_of x.process x.number
-        (receipt_at (receipts_of closing.now x.process) x.number)) calls.now) }
+    ensures { IfOk result (λ lines. lines.items ≡ map (line_at closing.now) calls.now) }
 {
     let mut lines = Vec::with_capacity(alloc, calls.len())?;
     for one in calls {
