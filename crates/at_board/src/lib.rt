@@ -10,9 +10,10 @@
 //! What is true of the list and of a state as plain data stands in `at_history`, whose types this crate passes on.
 //!
 //! The definitions read best in this order. Where the words lie, what they hold, and what they stand for: `Words`. What a seat
-//! knows: `Knowledge`, with `Parts` first. The rule: `Rule`. What each call asks and tells: `Steps`, a file for each. How a board
-//! begins and ends: `Ends`. `Steps/Made` says of each step that a value names what it tells, and `Steps/Plays` and `Steps/Meetings` tie
-//! the steps to the table. `Knowledge/Fresh` and `Knowledge/Overviews` are for the crates above.
+//! knows: `Knowledge`, with `Parts` first. How its count of steps rises: `Counting`. The rule: `Rule`. What each call asks and
+//! tells: `Steps`, a file for each. How a board begins and ends: `Ends`. `Steps/Made` says of each step that a value names what it
+//! tells, and `Steps/Plays` and `Steps/Meetings` tie the steps to the table. `Knowledge/Fresh` and `Knowledge/Overviews` are for the
+//! crates above.
 #![tactic(auto)]
 
 mod addresses;

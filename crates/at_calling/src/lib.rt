@@ -8,8 +8,8 @@
 //! request is settled: each is a look, and then a round, from its exchange to its record. A `Calling` is any call of a pass that was
 //! taken apart into its parts, a refusal too.
 //!
-//! The definitions read best in this order: `Reading`, `PayingAlone`, `Starting`, `Turning`, `PayingShared`, `Calling`. Those whose
-//! names begin with `Kept` say what stands between two turns.
+//! The definitions read best in this order: `Reading`, `PayingAlone`, `Starting`, `Turning`, `PayingShared`, `Calling`. `CallNumbers`
+//! has what the calls of one book may have taken so far, as numbers. Those whose names begin with `Kept` say what stands between two turns.
 #![tactic(auto)]
 
 mod call_stage;

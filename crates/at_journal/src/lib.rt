@@ -2,6 +2,9 @@
 //!
 //! `journal` answers every receipt of the closing once, as a line, and the lines are a run of the ledger. `journal_calls` answers
 //! their order alone. Both need the closing alone, and take time in proportion to N log N in the number of its records and receipts.
+//!
+//! The definitions read best in this order: `Calls` and `Linearizable`, which the clauses name; `Held`, `Order`, `Positions`,
+//! `Ordered`, how the lines come about.
 #![tactic(auto)]
 
 mod calls;

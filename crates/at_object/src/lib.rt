@@ -6,7 +6,8 @@
 //! is one run of the sequential ledger, and what a closed ledger leaves is coherent: its journal is one legal run.
 //!
 //! The definitions read best in this order: `Passes`, what a pass has seen and which receipts stand with it; `Payments`, what a
-//! payment answers and how many steps it takes; `Paid`, how it stands among the publications; `Closings`; `CallCounts` and `Parted`.
+//! payment answers and how many steps it takes; `Paid`, how it stands among the publications; `Calls`, the same of any call;
+//! `Closings`; `CallCounts` and `Parted`. `BoundNumbers` has the bounds of one book as numbers.
 #![tactic(auto)]
 
 mod calls;
