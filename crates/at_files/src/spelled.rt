@@ -107,6 +107,13 @@ fn read_into<'a, F: RecordForm>(
     Ok(())
 }
 
+/// How many records a file can have, of which at most `most` are read: each takes a byte, and a newline but for the last.
+///
+/// Room that no record comes to lie in costs nothing, since no byte of it is touched.
+fn room_for(most: u32, bytes: &[u8]) -> usize {
+    (most as usize).min(bytes.len() / 2 + 1)
+}
+
 /// Reads a file of at most `most` records; the fault of the record after these is `over`.
 ///
 /// Fields are looked at where they lie; beside the items only one record is held at a time.
@@ -123,9 +130,11 @@ pub(crate) fn read_items<F: RecordForm>(
     ensures bad { (b : BadRecord F.Why) → result ≡ Err (ReadFault.Bad b)
         → items_of (F.item form.now) most over (file_records bytes.now) ≡ Err b }
 {
+    let Ok(mut items) = Vec::with_capacity(alloc, room_for(most, bytes)) else {
+        return Err(ReadFault::NoMemory);
+    };
     let mut records = Records::new(alloc, bytes);
     let mut fields = Record::new(alloc);
-    let mut items = Vec::new(alloc);
     match read_into(form, most, over, &mut records, &mut fields, &mut items) {
         Ok(()) => Ok(items),
         Err(fault) => Err(fault),
