@@ -1,5 +1,6 @@
 pub mod FrontLists
 pub mod OrderedLaws
+pub mod KeyBuckets
 pub mod OrderSteps
 pub mod LogViews
 pub mod LineKeys

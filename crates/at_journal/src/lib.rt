@@ -1,7 +1,7 @@
 //! The journal of a coherent closing: its calls in one legal order.
 //!
 //! `journal` answers every receipt of the closing once, as a line, and the lines are a run of the ledger. `journal_calls` answers
-//! their order alone. Both need the closing alone, and take time in proportion to N log N in the number of its records and receipts.
+//! their order alone. Both need the closing alone, and take time in proportion to the number of its records and receipts.
 //!
 //! The definitions read best in this order: `Calls` and `Linearizable`, which the clauses name; `Held`, `Order`, `Positions`,
 //! `Ordered`, how the lines come about.
