@@ -102,11 +102,7 @@ pub fn push_heading(out: &mut Vec<u8>, lines: u64) -> Result<(), NoMemory>
 }
 
 /// Adds how many lines there are, and then each of them.
-fn push_journal<J: Journal>(
-    out: &mut Vec<u8>,
-    names: &Names,
-    journal: &J,
-) -> Result<(), NoMemory>
+fn push_journal<J: Journal>(out: &mut Vec<u8>, names: &Names, journal: &J) -> Result<(), NoMemory>
     requires { All (IsLineOn (length names.now.processes) (length names.now.accounts))
         (J.lines journal.now) }
     ensures { OnOk result
