@@ -37,7 +37,7 @@ use Rattle.at_single.proofs.Laws.Looks.{published-HasLoaded}
 use Rattle.at_shared.specs.Helpings.{decides_on}
 use Rattle.at_single.specs.Looks.{HasLooked}
 use Rattle.at_snapshot.specs.Collected.{HasLoaded}
-use Rattle.at_machines.specs.Asking.{AskingTerms, StoresNextRequestWord, asking_after, request_asked, starting_to_ask}
+use Rattle.at_machines.specs.Asking.{AskingTerms, asking_after, request_asked, starting_to_ask}
 use Rattle.at_machines.specs.CollectingRows.{CollectingRowsTerms, MakesNextLoad, rows_after, starting_rows}
 use Rattle.at_calling.specs.KeptStarting.{HasLookedToAsk, IsAskingThen, IsCollectingThen, IsStartStageSo, IsStartingSo}
 use Rattle.at_machines.specs.LoadingRow.{MakesLoadOf, NextRowLoad}
@@ -231,17 +231,17 @@ module _ (t : StartingTerms) (so : IsStartingSo t) where
   -- the request is stored
   module _ (a : AskingTerms) (is : IsAskingThen t a) (w : Knowledge) where
     -- a store of a word leaves what was seen
-    pub IsPrefix-word : StoresNextRequestWord a w → IsPrefix a.start.seen w.seen
+    pub IsPrefix-word : StoresRequestWord a.mark w a.account a.stored (slice_index (request_words (request_asked a)) a.stored) → IsPrefix a.start.seen w.seen
     IsPrefix-word told =
         subst (IsPrefix a.start.seen) (ap (λ (k : Knowledge). k.seen) (sym is.mark_is) ∙ sym (ap (λ (k : Knowledge). k.seen) told)) is.to_ask.more
 
     -- and what is published and decided
-    pub HasSameCounts-word : StoresNextRequestWord a w → HasSameCounts t.start w a.account
+    pub HasSameCounts-word : StoresRequestWord a.mark w a.account a.stored (slice_index (request_words (request_asked a)) a.stored) → HasSameCounts t.start w a.account
     HasSameCounts-word told =
         HasSameCounts-trans t.start a.mark w a.account (subst (λ (k : Knowledge). HasSameCounts t.start k a.account) (sym is.mark_is) is.to_ask.same)
         (HasSameCounts-StoresRequestWord a.mark w a.account a.stored (slice_index (request_words (request_asked a)) a.stored) told)
 
-    pub IsStartingSo-word : a.stored < REQUEST_WORDS → w.book ≡ t.start.book → StoresNextRequestWord a w
+    pub IsStartingSo-word : a.stored < REQUEST_WORDS → w.book ≡ t.start.book → StoresRequestWord a.mark w a.account a.stored (slice_index (request_words (request_asked a)) a.stored)
         → IsStartingSo (start_after t (Ask (asking_after a w)) w)
     IsStartingSo-word left book told =
         IsStartingSo-stage (Ask (asking_after a w)) w book (record {

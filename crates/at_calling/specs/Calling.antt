@@ -7,6 +7,7 @@ use Rattle.at_ledger.specs.declared.call.Reply.{Reply}
 use Rattle.at_board.specs.Knowledge.Seats.{SeatTerms}
 use Rattle.at_board.specs.Words.Addresses.{record_width}
 use Rattle.at_board.specs.declared.knowledge.Knowledge.{Knowledge}
+use Rattle.at_board.specs.declared.step.BoardStep.{BoardStep}
 use Rattle.at_board.specs.declared.words.TheConstants.{RECORD_WORDS}
 use Rattle.at_fold.specs.Sums.{TotalSums}
 use Rattle.at_ledger.specs.Call.{first_account, payout_of}
@@ -17,9 +18,9 @@ use Rattle.at_object.specs.Passes.{PassTerms}
 use Rattle.at_object.specs.Payments.{refusal_of}
 use Rattle.at_object.specs.declared.parts.Rest.{Rest}
 use Rattle.at_shared.specs.Helpings.{decides_made}
-use Rattle.at_machines.specs.Looking.{IsWithinOneMore, MakesLookLoad, length_at, look_turns_left}
-use Rattle.at_calling.specs.PayingAlone.{MakesPayStep, pay_length_at, pay_publishes_at, pay_turns_left, turns_made}
-use Rattle.at_calling.specs.PayingShared.{MakesShareStep, share_exchanges_at, share_exchanges_made, share_length_at, share_publishes_at, share_turns_left}
+use Rattle.at_machines.specs.Looking.{IsWithinOneMore, MakesLookLoad, first_load, length_at, look_turns_left, step_at}
+use Rattle.at_calling.specs.PayingAlone.{MakesPayStep, pay_length_at, pay_publishes_at, pay_step_at, pay_turns_left, turns_made}
+use Rattle.at_calling.specs.PayingShared.{MakesShareStep, share_exchanges_at, share_exchanges_made, share_length_at, share_publishes_at, share_step_at, share_turns_left}
 use Rattle.at_calling.specs.Reading.{counted_so_far, newly_seen}
 use Rattle.at_calling.specs.declared.call_stage.CallStage.{CallStage}
 use Rattle.at_calling.specs.declared.call_stage.CallStage.TheVariants.{PayAlone, PayShared, Read, Refuse, Refused}
@@ -123,6 +124,19 @@ length_loaded Refused = None
 length_loaded (Read r) = length_at r.looking.stage
 length_loaded (PayAlone p) = pay_length_at p.stage
 length_loaded (PayShared p) = share_length_at p.stage
+
+-- the step that the next turn makes, if it makes one
+abbrev pub next_step : BookTerms → CallStage → Option BoardStep
+next_step b (Refuse reply) = None
+next_step b Refused = None
+next_step b (Read r) = step_at r.looking.stage
+next_step b (PayAlone p) = pay_step_at b p.stage
+next_step b (PayShared p) = share_step_at b p.stage
+
+-- the first one of a call, by why it is refused: each other call begins with a look
+abbrev pub first_step : Option Reply → Option BoardStep
+first_step None = first_load
+first_step (Some reply) = None
 
 -- just the step was made that came next: none of a call that is refused
 abbrev pub MakesCallStep : BookTerms → List Publication → CallStage → SeatTerms → SeatTerms → TotalSums → Type 0

@@ -10,14 +10,15 @@ use Rattle.at_board.specs.Knowledge.Seats.{SeatTerms}
 use Rattle.at_board.specs.Steps.Publish.{Publishes}
 use Rattle.at_board.specs.Words.Addresses.{record_width}
 use Rattle.at_board.specs.declared.knowledge.Knowledge.{Knowledge}
+use Rattle.at_board.specs.declared.step.BoardStep.{BoardStep}
 use Rattle.at_board.specs.declared.words.TheConstants.{RECORD_WORDS}
 use Rattle.at_fold.specs.Sums.{TotalSums}
 use Rattle.at_log.specs.declared.receipt.At.{At}
 use Rattle.at_object.specs.Paid.{PaysAlone}
 use Rattle.at_object.specs.Payments.{single_steps}
 use Rattle.at_shared.specs.Settling.{OnReceipts}
-use Rattle.at_machines.specs.Appending.{StoresNextWord, publication_of, published_after}
-use Rattle.at_machines.specs.Looking.{MakesLookLoad, length_at, look_turns_left}
+use Rattle.at_machines.specs.Appending.{StoresNextWord, append_step, publication_of, published_after}
+use Rattle.at_machines.specs.Looking.{MakesLookLoad, length_at, look_turns_left, step_at}
 use Rattle.at_calling.specs.declared.pay_stage.PayStage.{PayStage}
 use Rattle.at_calling.specs.declared.pay_stage.PayStage.TheVariants.{Append, Look, Short}
 
@@ -68,6 +69,12 @@ abbrev pub pay_length_at : PayStage → Option ℕ
 pay_length_at (Look l) = length_at l.stage
 pay_length_at (Append a) = None
 pay_length_at Short = None
+
+-- the step of the next turn
+abbrev pub pay_step_at : BookTerms → PayStage → Option BoardStep
+pay_step_at b (Look l) = step_at l.stage
+pay_step_at b (Append a) = append_step b a
+pay_step_at b Short = None
 
 -- the steps of a payment after its look: of a record with so many words, where it is done
 abbrev pub append_steps : ℕ → Reply → ℕ

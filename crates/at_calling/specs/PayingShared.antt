@@ -8,6 +8,7 @@ use Rattle.at_history.specs.Fronts.{places_max}
 use Rattle.at_history.specs.declared.publication.Publication.{Publication}
 use Rattle.at_board.specs.Knowledge.Seats.{SeatTerms}
 use Rattle.at_board.specs.declared.knowledge.Knowledge.{Knowledge}
+use Rattle.at_board.specs.declared.step.BoardStep.{BoardStep}
 use Rattle.at_board.specs.declared.words.TheConstants.{RECORD_WORDS}
 use Rattle.at_fold.specs.Sums.{TotalSums}
 use Rattle.at_log.specs.declared.receipt.At.{At}
@@ -16,8 +17,8 @@ use Rattle.at_object.specs.Payments.{shared_steps}
 use Rattle.at_shared.specs.Helpings.{decides_made, decides_on}
 use Rattle.at_shared.specs.Settling.{OnReceipts, asking_steps, round_steps}
 use Rattle.at_snapshot.specs.Snapshots.{snapshot_steps}
-use Rattle.at_calling.specs.Starting.{MakesStartStep, start_length_at}
-use Rattle.at_calling.specs.Turning.{MakesTurnStep, exchanges_at, help_length_at, publishes_at}
+use Rattle.at_calling.specs.Starting.{MakesStartStep, start_length_at, start_step_at}
+use Rattle.at_calling.specs.Turning.{MakesTurnStep, exchanges_at, help_length_at, help_step_at, publishes_at}
 use Rattle.at_calling.specs.declared.share_stage.ShareStage.{ShareStage}
 use Rattle.at_calling.specs.declared.share_stage.ShareStage.TheVariants.{Ended, Help, Start}
 use Rattle.at_calling.specs.declared.turn_stage.TurnStage.{TurnStage}
@@ -83,6 +84,12 @@ abbrev pub share_length_at : ShareStage → Option ℕ
 share_length_at (Start s) = start_length_at s.stage
 share_length_at (Help h u) = help_length_at u.stage
 share_length_at Ended = None
+
+-- the step of that turn
+abbrev pub share_step_at : BookTerms → ShareStage → Option BoardStep
+share_step_at b (Start s) = start_step_at b s.stage
+share_step_at b (Help h u) = help_step_at b u.stage
+share_step_at b Ended = None
 
 -- the exchanges that were made: none in the start
 abbrev pub unless_starting : ℕ → ShareStage → ℕ

@@ -8,17 +8,18 @@ use Rattle.at_history.specs.declared.publication.Publication.{Publication}
 use Rattle.at_board.specs.Knowledge.Parts.{asking_on, own_part}
 use Rattle.at_board.specs.Knowledge.Seats.{SeatTerms}
 use Rattle.at_board.specs.declared.knowledge.Knowledge.{Knowledge}
+use Rattle.at_board.specs.declared.step.BoardStep.{BoardStep}
 use Rattle.at_board.specs.declared.words.TheConstants.{RECORD_WORDS, REQUEST_WORDS}
 use Rattle.at_fold.specs.Sums.{TotalSums}
 use Rattle.at_shared.specs.HelpingTerms.{HelpingTerms}
 use Rattle.at_shared.specs.Helpings.{HasStarted, IsHelping, decides_on}
 use Rattle.at_shared.specs.Settling.{asking_steps}
 use Rattle.at_snapshot.specs.Snapshots.{snapshot_steps}
-use Rattle.at_machines.specs.Asking.{AnnouncesAsked, StoresNextRequestWord}
+use Rattle.at_machines.specs.Asking.{AnnouncesAsked, StoresNextRequestWord, ask_step}
 use Rattle.at_machines.specs.CollectingRows.{CollectingRowsTerms, MakesNextLoad, rows_after}
-use Rattle.at_machines.specs.LoadingRow.{NextRowLoad}
+use Rattle.at_machines.specs.LoadingRow.{NextRowLoad, row_step}
 use Rattle.at_machines.specs.LoadingRow.NextRowLoad.{announced_word, request_word, nothing}
-use Rattle.at_machines.specs.Looking.{MakesLookLoad, length_at, look_turns_left}
+use Rattle.at_machines.specs.Looking.{MakesLookLoad, length_at, look_turns_left, step_at}
 use Rattle.at_calling.specs.declared.start_stage.StartStage.{StartStage}
 use Rattle.at_calling.specs.declared.start_stage.StartStage.TheVariants.{Ask, Collect, Look}
 
@@ -84,7 +85,7 @@ abbrev pub MakesStartStep : BookTerms → List Publication → StartStage → Se
 MakesStartStep b seen (Look l) before after now = MakesLookLoad b seen l.stage before after now
 MakesStartStep b seen (Ask a) before after now =
     (a.mark ≡ before.knows) × (a.stored ≤ REQUEST_WORDS)
-    × (a.stored < REQUEST_WORDS → StoresNextRequestWord a after.knows)
+    × (a.stored < REQUEST_WORDS → StoresNextRequestWord b a after.knows)
     × (a.stored ≡ REQUEST_WORDS → AnnouncesAsked b a after.knows)
 MakesStartStep b seen (Collect c) before after now = (c.mark ≡ before.knows) × MakesRowsLoad b c after.knows
 
@@ -93,6 +94,12 @@ abbrev pub start_length_at : StartStage → Option ℕ
 start_length_at (Look l) = length_at l.stage
 start_length_at (Ask a) = None
 start_length_at (Collect c) = None
+
+-- the step of that turn
+abbrev pub start_step_at : BookTerms → StartStage → Option BoardStep
+start_step_at b (Look l) = step_at l.stage
+start_step_at b (Ask a) = ask_step b a
+start_step_at b (Collect c) = row_step c.account c.slot c.next
 
 -- the request that waits for these targets on the account, whose first turn came after what was known before. It has published,
 -- held and decided nothing

@@ -8,6 +8,7 @@ use Rattle.at_history.specs.declared.publication.Publication.{Publication}
 use Rattle.at_board.specs.Knowledge.Parts.{own_part}
 use Rattle.at_board.specs.Knowledge.Seats.{SeatTerms}
 use Rattle.at_board.specs.declared.knowledge.Knowledge.{Knowledge}
+use Rattle.at_board.specs.declared.step.BoardStep.{BoardStep}
 use Rattle.at_board.specs.declared.words.TheConstants.{RECORD_WORDS}
 use Rattle.at_fold.specs.Sums.{TotalSums}
 use Rattle.at_log.specs.Placed.{IsPlaced}
@@ -19,8 +20,8 @@ use Rattle.at_shared.specs.Helpings.{IsHelping, decides_on, heard_on}
 use Rattle.at_shared.specs.Settling.{StandsAfter, StandsInRound, round_steps}
 use Rattle.at_shared.specs.declared.helping.HelpTurn.{HelpTurn}
 use Rattle.at_snapshot.specs.Snapshots.{snapshot_steps}
-use Rattle.at_machines.specs.Deciding.{MakesRoundStep, exchanges_in, publishes_in}
-use Rattle.at_machines.specs.Looking.{MakesLookLoad, length_at, look_turns_left}
+use Rattle.at_machines.specs.Deciding.{MakesRoundStep, exchanges_in, publishes_in, step_in_round}
+use Rattle.at_machines.specs.Looking.{MakesLookLoad, length_at, look_turns_left, step_at}
 use Rattle.at_calling.specs.declared.turn_stage.TurnStage.{TurnStage}
 use Rattle.at_calling.specs.declared.turn_stage.TurnStage.TheVariants.{Decide, Found, Look}
 
@@ -75,6 +76,12 @@ abbrev pub help_length_at : TurnStage → Option ℕ
 help_length_at (Look l) = length_at l.stage
 help_length_at (Decide d) = None
 help_length_at Found = None
+
+-- the step of that turn
+abbrev pub help_step_at : BookTerms → TurnStage → Option BoardStep
+help_step_at b (Look l) = step_at l.stage
+help_step_at b (Decide d) = step_in_round b d d.next
+help_step_at b Found = None
 
 -- the most steps of a turn of helping, beside the loads of records: those of a snapshot, and of so many rounds
 abbrev pub help_steps : ℕ → ℕ → ℕ

@@ -7,7 +7,7 @@ ghost use Rattle.at_ledger.specs.Book.{account_of};
 ghost use Rattle.at_ledger.specs.Call.{AreTargetsOn, IsCallOn, payout_of};
 ghost use Rattle.at_object.specs.Parted.{IsOfOnePass, pass_of};
 ghost use Rattle.at_object.specs.Payments.{refusal_of};
-ghost use Rattle.at_calling.specs.Calling.{IsWay, StartsFrom, call_turns_left, exchanges_made, steps_made};
+ghost use Rattle.at_calling.specs.Calling.{IsWay, StartsFrom, call_turns_left, exchanges_made, first_step, next_step, refusal_in, steps_made};
 
 use crate::paying_alone::PayingAlone;
 use crate::paying_shared::PayingShared;
@@ -42,6 +42,8 @@ impl CallStage {
         ensures turns { steps_made result ≡ 0 }
         ensures exchanges { exchanges_made result ≡ 0 }
         ensures left { 0 < call_turns_left board.now.book result }
+        ensures first { next_step board.now.book result ≡ first_step
+            (refusal_in board.now.book (pass_of seat.now rest.now) call.now) }
     {
         seat.known();
         match call.payout() {
@@ -72,6 +74,8 @@ impl CallStage {
         ensures turns { steps_made result ≡ 0 }
         ensures exchanges { exchanges_made result ≡ 0 }
         ensures left { 0 < call_turns_left board.now.book result }
+        ensures first { next_step board.now.book result ≡ first_step
+            (refusal_in board.now.book (pass_of seat.now rest.now) call.now) }
     {
         seat.known();
         match rest.refusal(board, seat, from) {
@@ -104,6 +108,8 @@ impl CallStage {
         ensures turns { steps_made result ≡ 0 }
         ensures exchanges { exchanges_made result ≡ 0 }
         ensures left { 0 < call_turns_left board.now.book result }
+        ensures first { next_step board.now.book result ≡ first_step
+            (refusal_in board.now.book (pass_of seat.now rest.now) call.now) }
     {
         seat.known();
         let paying = PayingAlone::start(board, seat, &rest.totals, from, targets);
@@ -131,6 +137,8 @@ impl CallStage {
         ensures turns { steps_made result ≡ 0 }
         ensures exchanges { exchanges_made result ≡ 0 }
         ensures left { 0 < call_turns_left board.now.book result }
+        ensures first { next_step board.now.book result ≡ first_step
+            (refusal_in board.now.book (pass_of seat.now rest.now) call.now) }
     {
         seat.known();
         let paying = PayingShared::start(board, seat, &rest.totals, from, targets);

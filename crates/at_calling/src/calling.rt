@@ -19,11 +19,11 @@ ghost use Rattle.at_calling.specs.PayingAlone.{PayingAloneTerms};
 ghost use Rattle.at_calling.specs.PayingShared.{PayingSharedTerms};
 ghost use Rattle.at_calling.specs.Reading.{ReadingTerms};
 ghost use Rattle.at_object.specs.CallCounts.{with_one_call};
-ghost use Rattle.at_calling.specs.Calling.{IsCallWithin, IsWay, MakesCallStep, StartsFrom, call_turns_left, exchanges_made, exchanges_of, pass_before, steps_made, steps_of};
+ghost use Rattle.at_calling.specs.Calling.{IsCallWithin, IsWay, MakesCallStep, StartsFrom, call_turns_left, exchanges_made, exchanges_of, first_step, next_step, pass_before, refusal_in, steps_made, steps_of};
 ghost use Rattle.at_object.specs.Calls.{CallMade, StaysWithin};
 
 use crate::call_stage::CallStage;
-use at_board::{Board, BoardSeat, Overview};
+use at_board::{Board, BoardSeat, BoardStep, Overview};
 use at_ledger::{Call, Reply};
 use at_log::{At, Receipt};
 use at_machines::become_next;
@@ -75,6 +75,8 @@ impl Calling {
         ensures turns { steps_made result.stage ≡ 0 }
         ensures exchanges { exchanges_made result.stage ≡ 0 }
         ensures left { 0 < call_turns_left board.now.book result.stage }
+        ensures first { next_step board.now.book result.stage ≡ first_step
+            (refusal_in board.now.book (pass_of seat.now rest.now) call) }
     {
         seat.known();
         Calling {
@@ -84,6 +86,21 @@ impl Calling {
             was: Snapshot::of(rest),
             mark: Snapshot::of(seat),
             rest: Snapshot::of(rest),
+        }
+    }
+
+    /// The step that the next turn makes: none where the call is refused.
+    pub fn next(&self, board: &Board, seat: &BoardSeat) -> Option<BoardStep>
+        requires board { IsOf seat.now board.now }
+        requires mark { seat.now ≡ self.now.mark }
+        requires left { 0 < call_turns_left board.now.book self.now.stage }
+        ensures { result ≡ next_step board.now.book self.now.stage }
+    {
+        match &self.stage {
+            CallStage::Refuse(_) | CallStage::Refused => None,
+            CallStage::Read(reading) => reading.next(),
+            CallStage::PayAlone(paying) => paying.next(board, seat),
+            CallStage::PayShared(paying) => paying.next(board, seat),
         }
     }
 

@@ -11,16 +11,16 @@ ghost use Rattle.at_history.specs.Rounds.{owns_of};
 ghost use Rattle.at_history.specs.declared.publication.Publication.{Publication};
 ghost use Rattle.at_ledger.specs.Call.{AreTargetsOn};
 ghost use Rattle.at_machines.specs.Appending.{AppendingTerms};
-ghost use Rattle.at_machines.specs.Looking.{IsWithinOneMore, LookingTerms};
+ghost use Rattle.at_machines.specs.Looking.{IsWithinOneMore, LookingTerms, first_load};
 ghost use Rattle.at_object.specs.Payments.{single_steps};
 ghost use Rattle.at_single.specs.Standing.{IsOnlyOwner};
 ghost use Rattle.at_calling.specs.KeptPayingAlone.{TakesPayTurn};
-ghost use Rattle.at_calling.specs.PayingAlone.{AnswersAlone, HasSameAsking, IsPayWithin, MakesPayStep, append_steps, pay_turns_left, turns_made};
+ghost use Rattle.at_calling.specs.PayingAlone.{AnswersAlone, HasSameAsking, IsPayWithin, MakesPayStep, append_steps, pay_step_at, pay_turns_left, turns_made};
 ghost use Rattle.at_calling.specs.Reading.{LeavesTotals, counted_so_far, newly_seen};
 
 use crate::pay_stage::PayStage;
 use at_base::Counts;
-use at_board::{Board, BoardSeat, Entry, Overview};
+use at_board::{Board, BoardSeat, BoardStep, Entry, Overview};
 use at_fold::Totals;
 use at_ledger::{Reply, Targets};
 use at_log::{At, Record};
@@ -82,6 +82,7 @@ impl PayingAlone {
         ensures totals { result.totals ≡ totals.now }
         ensures turns { turns_made result ≡ 0 }
         ensures left { 0 < pay_turns_left (record_width board.now.book) result.stage }
+        ensures first { pay_step_at board.now.book result.stage ≡ first_load }
     {
         seat.known();
         // There are one to four targets, as their type keeps.
@@ -95,6 +96,20 @@ impl PayingAlone {
             mark: Snapshot::of(seat),
             was: Snapshot::of(totals),
             totals: Snapshot::of(totals),
+        }
+    }
+
+    /// The step that the next turn makes.
+    pub fn next(&self, board: &Board, seat: &BoardSeat) -> Option<BoardStep>
+        requires board { IsOf seat.now board.now }
+        requires mark { seat.now.knows ≡ self.now.mark }
+        requires left { 0 < pay_turns_left (record_width board.now.book) self.now.stage }
+        ensures { result ≡ pay_step_at board.now.book self.now.stage }
+    {
+        match &self.stage {
+            PayStage::Look(looking) => looking.next(),
+            PayStage::Append(appending) => appending.next(board, seat),
+            PayStage::Short => None,
         }
     }
 

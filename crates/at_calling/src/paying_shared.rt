@@ -14,9 +14,9 @@ ghost use Rattle.at_ledger.specs.Call.{AreTargetsOn};
 ghost use Rattle.at_shared.specs.HelpingTerms.{HelpingTerms};
 ghost use Rattle.at_shared.specs.Helpings.{HasAllSettled, decides_made};
 ghost use Rattle.at_shared.specs.PaymentTurns.{SettlesInTurns};
-ghost use Rattle.at_machines.specs.Looking.{IsWithinOneMore};
+ghost use Rattle.at_machines.specs.Looking.{IsWithinOneMore, first_load};
 ghost use Rattle.at_calling.specs.KeptPayingShared.{TakesShareTurn};
-ghost use Rattle.at_calling.specs.PayingShared.{AnswersInRound, DecidesFew, IsShareWithin, MakesShareStep, settling_steps, share_exchanges_at, share_exchanges_made, share_steps, share_turns_left};
+ghost use Rattle.at_calling.specs.PayingShared.{AnswersInRound, DecidesFew, IsShareWithin, MakesShareStep, settling_steps, share_exchanges_at, share_exchanges_made, share_step_at, share_steps, share_turns_left};
 ghost use Rattle.at_calling.specs.Reading.{LeavesTotals, counted_so_far, newly_seen};
 ghost use Rattle.at_calling.specs.Starting.{StartingTerms};
 ghost use Rattle.at_calling.specs.Turning.{TurningTerms};
@@ -24,7 +24,7 @@ ghost use Rattle.at_calling.specs.Turning.{TurningTerms};
 use crate::share_stage::ShareStage;
 use crate::starting::Starting;
 use crate::turning::Turning;
-use at_board::{Board, BoardSeat, Overview};
+use at_board::{Board, BoardSeat, BoardStep, Overview};
 use at_fold::Totals;
 use at_ledger::{Reply, Targets};
 use at_log::At;
@@ -89,6 +89,7 @@ impl PayingShared {
         ensures turns { result.turns ≡ 0 }
         ensures left { 0 < share_turns_left board.now.book result }
         ensures exchanges { share_exchanges_made result ≡ 0 }
+        ensures first { share_step_at board.now.book result.stage ≡ first_load }
     {
         seat.known();
         let paid = Snapshot::of(&targets);
@@ -101,6 +102,19 @@ impl PayingShared {
             mark: Snapshot::of(seat),
             was: Snapshot::of(totals),
             totals: Snapshot::of(totals),
+        }
+    }
+
+    /// The step that the next turn makes, if the request isn't settled.
+    pub fn next(&self, board: &Board, seat: &BoardSeat) -> Option<BoardStep>
+        requires board { IsOf seat.now board.now }
+        requires mark { seat.now.knows ≡ self.now.mark }
+        ensures { result ≡ share_step_at board.now.book self.now.stage }
+    {
+        match &self.stage {
+            ShareStage::Start(starting) => starting.next(board, seat),
+            ShareStage::Help(_, turning) => turning.next(board, seat),
+            ShareStage::Ended => None,
         }
     }
 

@@ -7,10 +7,10 @@ ghost use Rattle.at_board.specs.Knowledge.Seats.{IsOf};
 ghost use Rattle.at_fold.specs.HasCounted.{HasCounted, StaysCounted};
 ghost use Rattle.at_snapshot.specs.Collected.{HasLoaded};
 ghost use Rattle.at_snapshot.specs.Snapshots.{snapshot_steps};
-ghost use Rattle.at_machines.specs.Looking.{IsWithin, IsWithinOneMore, MakesLookLoad, look_turns_left};
+ghost use Rattle.at_machines.specs.Looking.{IsWithin, IsWithinOneMore, MakesLookLoad, first_load, look_turns_left, step_at};
 ghost use Rattle.at_calling.specs.Reading.{IsReadOf, LeavesTotals};
 
-use at_board::{Board, BoardSeat, Overview};
+use at_board::{Board, BoardSeat, BoardStep, Overview};
 use at_fold::Totals;
 use at_ledger::{Call, Reply};
 use at_log::{At, Receipt};
@@ -48,11 +48,19 @@ impl Reading {
         ensures totals { result.looking.totals ≡ totals.now }
         ensures turns { result.looking.turns ≡ 0 }
         ensures left { 0 < look_turns_left result.looking.stage }
+        ensures first { step_at result.looking.stage ≡ first_load }
     {
         Reading {
             account,
             looking: Looking::start(board, seat, totals),
         }
+    }
+
+    /// The step that the next turn makes, if some load is left.
+    pub fn next(&self) -> Option<BoardStep>
+        ensures { result ≡ step_at self.now.looking.stage }
+    {
+        self.looking.next()
     }
 
     /// Makes the next load of the look, in one step. With the last one it answers the receipt.

@@ -13,16 +13,16 @@ ghost use Rattle.at_history.specs.declared.publication.Publication.{Publication}
 ghost use Rattle.at_ledger.specs.Call.{AreTargetsOn};
 ghost use Rattle.at_machines.specs.Asking.{AskingTerms, starting_to_ask};
 ghost use Rattle.at_machines.specs.CollectingRows.{CollectingRowsTerms};
-ghost use Rattle.at_machines.specs.Looking.{IsWithinOneMore, LookingTerms};
+ghost use Rattle.at_machines.specs.Looking.{IsWithinOneMore, LookingTerms, first_load};
 ghost use Rattle.at_rows.specs.Asks.{MayAskFor, asked_for};
 ghost use Rattle.at_shared.specs.Helpings.{HasAllSettled, decides_on};
 ghost use Rattle.at_calling.specs.KeptStarting.{TakesStartTurn};
 ghost use Rattle.at_calling.specs.Reading.{LeavesTotals, counted_so_far, newly_seen};
-ghost use Rattle.at_calling.specs.Starting.{IsStartOf, IsStartWithin, MakesStartStep, asking_steps_of, start_steps, start_turns_left, start_turns_made};
+ghost use Rattle.at_calling.specs.Starting.{IsStartOf, IsStartWithin, MakesStartStep, asking_steps_of, start_step_at, start_steps, start_turns_left, start_turns_made};
 
 use crate::start_stage::StartStage;
 use at_base::Counts;
-use at_board::{Board, BoardSeat, Overview};
+use at_board::{Board, BoardSeat, BoardStep, Overview};
 use at_fold::Totals;
 use at_ledger::Targets;
 use at_machines::{Asking, CollectingRows, Looking, become_next};
@@ -83,6 +83,7 @@ impl Starting {
         ensures totals { result.totals ≡ totals.now }
         ensures turns { start_turns_made result ≡ 0 }
         ensures left { 0 < start_turns_left board.now.book result }
+        ensures first { start_step_at board.now.book result.stage ≡ first_load }
     {
         seat.known();
         // There are one to four targets, as their type keeps.
@@ -96,6 +97,19 @@ impl Starting {
             mark: Snapshot::of(seat),
             was: Snapshot::of(totals),
             totals: Snapshot::of(totals),
+        }
+    }
+
+    /// The step that the next turn makes.
+    pub fn next(&self, board: &Board, seat: &BoardSeat) -> Option<BoardStep>
+        requires board { IsOf seat.now board.now }
+        requires mark { seat.now.knows ≡ self.now.mark }
+        ensures { result ≡ start_step_at board.now.book self.now.stage }
+    {
+        match &self.stage {
+            StartStage::Look(looking) => looking.next(),
+            StartStage::Ask(asking) => asking.next(board, seat),
+            StartStage::Collect(collecting) => collecting.next(),
         }
     }
 

@@ -15,11 +15,11 @@ ghost use Rattle.at_shared.specs.Settling.{round_steps};
 ghost use Rattle.at_shared.specs.declared.helping.HelpTurn.{HelpTurn};
 ghost use Rattle.at_calling.specs.KeptTurning.{TakesHelpStep};
 ghost use Rattle.at_calling.specs.Reading.{CountsOthersStill, LeavesTotals, SeesOthersStill, counted_so_far, newly_seen};
-ghost use Rattle.at_calling.specs.Turning.{IsHelpOf, IsHelpWithin, LeavesSeat, MakesTurnStep, WaitsOn, exchanges_at, help_steps, help_turns_left, help_turns_made};
+ghost use Rattle.at_calling.specs.Turning.{IsHelpOf, IsHelpWithin, LeavesSeat, MakesTurnStep, WaitsOn, exchanges_at, help_step_at, help_steps, help_turns_left, help_turns_made};
 
 use crate::turn_stage::TurnStage;
 use at_base::Decision;
-use at_board::{Board, BoardSeat, Overview};
+use at_board::{Board, BoardSeat, BoardStep, Overview};
 use at_fold::Totals;
 use at_machines::{Deciding, Looking, become_next};
 use at_shared::{HelpTurn, Helping, answer_in};
@@ -79,6 +79,20 @@ impl Turning {
             mark: Snapshot::of(seat),
             was: Snapshot::of(totals),
             totals: Snapshot::of(totals),
+        }
+    }
+
+    /// The step that the next turn makes.
+    pub fn next(&self, board: &Board, seat: &BoardSeat) -> Option<BoardStep>
+        requires board { IsOf seat.now board.now }
+        requires mark { seat.now.knows ≡ self.now.mark }
+        requires left { 0 < help_turns_left board.now.book.processes self.now.stage }
+        ensures { result ≡ help_step_at board.now.book self.now.stage }
+    {
+        match &self.stage {
+            TurnStage::Look(looking) => looking.next(),
+            TurnStage::Decide(deciding) => deciding.next(board, seat),
+            TurnStage::Found => None,
         }
     }
 

@@ -66,13 +66,13 @@ published-MakesLoad b seen (NextLoad.length_of p) before after (told, more) =
     let v : Knowledge = record before.knows { seen = after.knows.seen } in
     let last : ℕ = (loads_of (own_part after.knows) p).last in
     omega (arith, ap (λ (k : Knowledge). (own_part k).published) told.same, published-with_part v (with_load (own_part before.knows) p last) refl)
-published-MakesLoad b seen (NextLoad.view_word k) before after same = omega (arith, ap (λ (s : SeatTerms). (own_part s.knows).published) same)
+published-MakesLoad b seen (NextLoad.view_word p i k) before after (same, may) = omega (arith, ap (λ (s : SeatTerms). (own_part s.knows).published) same)
 published-MakesLoad b seen NextLoad.nothing before after none = absurd none
 
 published-MakesLookLoad : (b : BookTerms) (seen : List Publication) (stage : LookStage) (before after : SeatTerms) (now : TotalSums) → MakesLookLoad b seen stage before after now
     → PublishesSo before.knows after.knows 0
 published-MakesLookLoad b seen (LookStage.Snap s) before after now told = published-MakesLoad b seen s.next before after told
-published-MakesLookLoad b seen (LookStage.CatchUp c) before after now (same, word) = omega (arith, ap (λ (s : SeatTerms). (own_part s.knows).published) same)
+published-MakesLookLoad b seen (LookStage.CatchUp c) before after now (same, word, record_seen) = omega (arith, ap (λ (s : SeatTerms). (own_part s.knows).published) same)
 
 -- of a round the last step publishes one
 published-MakesStep : (b : BookTerms) (c : DecidingTerms) (v : Knowledge) (step next : NextOfRound) → 0 < length c.mark.parts → MakesStep b c v step next
@@ -87,10 +87,10 @@ published-MakesStep b c v NextOfRound.nothing next part none = absurd none
 
 -- a store of a word of a request publishes nothing, and neither does its announcement
 published-ask : (b : BookTerms) (a : AskingTerms) (w : Knowledge) → a.stored ≤ REQUEST_WORDS
-    → (a.stored < REQUEST_WORDS → StoresNextRequestWord a w) → (a.stored ≡ REQUEST_WORDS → AnnouncesAsked b a w) → PublishesSo a.mark w 0
+    → (a.stored < REQUEST_WORDS → StoresNextRequestWord b a w) → (a.stored ≡ REQUEST_WORDS → AnnouncesAsked b a w) → PublishesSo a.mark w 0
 published-ask b a w few stores announces =
     elim (cases_lt a.stored REQUEST_WORDS) as (λ _. PublishesSo a.mark w 0) [
-      | inl inside ↦ omega (arith, (HasSameCounts-StoresRequestWord a.mark w a.account a.stored _ (stores inside)).published)
+      | inl inside ↦ omega (arith, (HasSameCounts-StoresRequestWord a.mark w a.account a.stored _ (stores inside).2).published)
       | inr over ↦
           let (slot, mine, told) = announces (omega (arith, few, over)) in
           omega (arith, (HasSameCounts-Announces b a.mark w a.account slot (request_asked a) told).published)

@@ -5,6 +5,7 @@ use Rattle.at_ledger.specs.Call.{TargetPair}
 use Rattle.at_object.specs.Parted.{pass_of}
 use Rattle.at_calling.proofs.CallingLaws.{owner-refusal_of, refusal_in-payout, room-refusal_of}
 use Rattle.at_calling.specs.PayingAlone.{PayingAloneTerms}
+use Rattle.at_calling.specs.Calling.{first_step}
 use Rattle.at_calling.proofs.call_stage.CallStage.alone.Goals as goal
 
 pub start-paying-requires-clause-owner : goal.start-paying-requires-clause-owner
@@ -28,3 +29,10 @@ returns-clause-way c =
       refusal_in-payout b c.args.from c.args.targets (pass_of c.args.seat.now c.args.rest.now) c.args.call.now c.requires.payout ∙ c.requires.may,
       ap (λ (a : ℕ). is_single (account_of b a)) told.from ∙ c.requires.single,
     )
+
+pub returns-clause-first : goal.returns-clause-first
+returns-clause-first c =
+    let b : BookTerms = c.args.board.now.book in
+    c.start-paying.ensures.first
+    ∙ sym (ap first_step
+    (refusal_in-payout b c.args.from c.args.targets (pass_of c.args.seat.now c.args.rest.now) c.args.call.now c.requires.payout ∙ c.requires.may))

@@ -5,6 +5,7 @@ use Rattle.at_ledger.specs.Call.{TargetPair}
 use Rattle.at_object.specs.Parted.{pass_of}
 use Rattle.at_calling.specs.PayingShared.{PayingSharedTerms}
 use Rattle.at_calling.proofs.CallingLaws.{asks-refusal_of, refusal_in-payout, settled-refusal_of}
+use Rattle.at_calling.specs.Calling.{first_step}
 use Rattle.at_calling.proofs.call_stage.CallStage.shared.Goals as goal
 
 pub start-paying-requires-clause-asks : goal.start-paying-requires-clause-asks
@@ -26,3 +27,10 @@ returns-clause-way c =
       refusal_in-payout b c.args.from c.args.targets (pass_of c.args.seat.now c.args.rest.now) c.args.call.now c.requires.payout ∙ c.requires.may,
       ap (λ (a : ℕ). is_shared (account_of b a)) told.account ∙ c.requires.shared,
     )
+
+pub returns-clause-first : goal.returns-clause-first
+returns-clause-first c =
+    let b : BookTerms = c.args.board.now.book in
+    c.start-paying.ensures.first
+    ∙ sym (ap first_step
+    (refusal_in-payout b c.args.from c.args.targets (pass_of c.args.seat.now c.args.rest.now) c.args.call.now c.requires.payout ∙ c.requires.may))

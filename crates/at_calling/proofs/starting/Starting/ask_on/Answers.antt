@@ -58,7 +58,7 @@ invariant_of-self c =
     let other : a.stored ≢ REQUEST_WORDS = λ all. let wrong : false ≡ true = c.in_err-number.ensures.ends.1 all in absurd (cc wrong) in
     let left : a.stored < REQUEST_WORDS = omega (arith, (asks at).left, other) in
     let here : IsStartingSo (start_after t (Ask (asking_after a w)) w) =
-    IsStartingSo-word t c.self.invariant a (asks at) w left (told.board.book ∙ book (goal.at.After-turn-announced at).After-self) (told.word left) in
+    IsStartingSo-word t c.self.invariant a (asks at) w left (told.board.book ∙ book (goal.at.After-turn-announced at).After-self) (told.word left).2 in
     subst (λ (x : AskingTerms). IsStartingSo (start_after t (Ask x) c.of.result.value.knows)) (sym told.after)
     (subst (λ (s : SeatTerms). IsStartingSo (start_after t (Ask (asking_after a w)) s.knows)) (sym c.of.ensures) here)
 
@@ -189,8 +189,8 @@ returns-in_err-number-clause-turned c = λ seen.
     let stored : c.turn-announced.new.self.stored ≡ a.stored + 1 = ap (λ (x : AskingTerms). x.stored) told.after in
     subst (TakesStartTurn c.args.board.now.book seen c.args.self.now (start_after t next c.of.result.value.knows) c.args.seat.now
     c.turn-announced.new.seat c.args.self.now.totals) (sym c.from_residual.ensures)
-    (turned at seen c.of.result.value c.of.ensures (HasSameCounts-word t c.self.invariant a (asks at) c.turn-announced.new.seat.knows (told.word left))
-    (IsPrefix-word t c.self.invariant a (asks at) c.turn-announced.new.seat.knows (told.word left)) next
+    (turned at seen c.of.result.value c.of.ensures (HasSameCounts-word t c.self.invariant a (asks at) c.turn-announced.new.seat.knows (told.word left).2)
+    (IsPrefix-word t c.self.invariant a (asks at) c.turn-announced.new.seat.knows (told.word left).2) next
     (omega (arith, stored)) (mark_known at, (asks at).left, λ inside. told.word inside, λ all. absurd (other all)) (omega (arith, stored, left, some_slot at))
     (omega (arith, stored, left, some_slot at)))
 
