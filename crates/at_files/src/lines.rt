@@ -64,7 +64,8 @@ fn blank_lines(text: &[u8]) -> usize
     ensures first { result < length text.now → slice_index text.now result ≢ 10 }
 {
     for i in 0..text.len() {
-        if text[i] != b'\n' {
+        let blank = text[i] == b'\n';
+        if !blank {
             return i;
         }
     }
