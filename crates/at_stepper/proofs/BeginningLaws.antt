@@ -1,7 +1,9 @@
 -- Callers that begin their next calls, with what is published.
 use Rattle.std.specs.Prelude.{IfSome, sum_by, ◌+◌}
 use Rattle.std.proofs.Common.{◌≡◌, ◌-◌, List, drop, Option, Some, None, length, refl, sym, ap, subst, ◌∙◌, arith}
-use Rattle.at_calling.specs.Calling.{IsWay, exchanges_of, publishes_of}
+use Rattle.at_board.specs.Steps.Made.{MakesOnly}
+use Rattle.at_calling.proofs.Laws.Steps.{MakesOnly-MakesCallStep}
+use Rattle.at_calling.specs.Calling.{IsWay, exchanges_of, first_step, next_step, publishes_of, refusal_in}
 use Rattle.at_calling.specs.declared.call_stage.CallStage.{CallStage}
 use Rattle.at_history.specs.declared.publication.Publication.{Publication}
 use Rattle.at_ledger.specs.Book.{BookTerms}
@@ -40,6 +42,7 @@ module _ (b : BookTerms) (published : List Publication) (was mid ready : CallerT
     starts = next.starts;
     unturned = next.unturned;
     unexchanged = next.unexchanged;
+    first = next.first ∙ ap (λ (call : Call). first_step (refusal_in b mid.pass call)) same_call;
   }
 
   pub BeginsCall-next : (stage : CallStage) × (ready.stage ≡ Some stage) × BeginsCall b published was ready stage
@@ -48,6 +51,13 @@ module _ (b : BookTerms) (published : List Publication) (was mid ready : CallerT
     ap (λ (c : CallerTerms). c.stage) next.same,
     subst (λ (c : CallerTerms). BeginsCall b published was c next.stage) (sym next.same) begins-begun,
   )
+
+-- just the step was made that comes next
+made-TakesTurn : (b : BookTerms) (published : List Publication) (was after : CallerTerms) (turned : Turned) (stage : CallStage)
+    → TakesTurn b published was after turned stage → MakesOnly b was.seat.knows after.seat.knows (steps_in turned) (next_step b stage)
+made-TakesTurn b published was after turned stage takes =
+    subst (λ n. MakesOnly b was.seat.knows after.seat.knows n (next_step b stage)) (sym takes.kind)
+    (MakesOnly-MakesCallStep b published was.seat after.seat after.totals stage takes.step)
 
 -- the turn of a caller whose call goes on, or has begun with it
 pub IsTurned-going_on : (b : BookTerms) (published : List Publication) (was after : CallerTerms) (turned : Turned) (stage : CallStage)
@@ -58,6 +68,7 @@ IsTurned-going_on b published was after turned stage is takes = record {
   is_ready = record { stage_is = is; from = subst (IsReadyFrom b published was was stage) (sym is) refl };
   leaves = takes.leaves;
   step = takes.step;
+  made = made-TakesTurn b published was after turned stage takes;
   kind = takes.kind;
   steps = takes.steps;
   exchanges = takes.exchanges;
@@ -110,6 +121,7 @@ module _ (b : BookTerms) (published : List Publication) (was ready after : Calle
     is_ready = record { stage_is = is; from = subst (IsReadyFrom b published was ready stage) (sym none) begins };
     leaves = takes.leaves;
     step = takes.step;
+    made = made-TakesTurn b published ready after turned stage takes;
     kind = takes.kind;
     steps = takes.steps ∙ ap (λ n. raised n (steps_in turned)) steps_kept;
     exchanges = takes.exchanges ∙ ap (λ n. raised n (exchanges_of stage)) exchanges_kept;

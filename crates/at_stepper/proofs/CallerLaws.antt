@@ -23,7 +23,7 @@ use Rattle.at_object.specs.Payments.{IsRefused, has_used_up}
 use Rattle.at_object.specs.declared.parts.Rest.{Rest}
 use Rattle.at_object.proofs.Laws.Calls.{process-CallMade}
 use Rattle.at_stepper.specs.Callers.{CallerTerms, HasLearned, IsAnswered, IsFile, IsStillCalling, caller_turns_left, calls_left_of, is_refused, most_turns, next_call, own_seen, steps_in}
-use Rattle.at_calling.specs.Calling.{CallingTerms, IsCallWithin, IsWay, MakesCallStep, StartsFrom, call_turns_left, exchanges_made, exchanges_of, pass_before, publishes_of, refusal_in, steps_made, steps_of}
+use Rattle.at_calling.specs.Calling.{CallingTerms, IsCallWithin, IsWay, MakesCallStep, StartsFrom, call_turns_left, exchanges_made, exchanges_of, first_step, next_step, pass_before, publishes_of, refusal_in, steps_made, steps_of}
 use Rattle.at_object.specs.Calls.{CallMade, StaysWithin}
 use Rattle.at_history.specs.Publications.{IsPrefix}
 use Rattle.at_history.specs.declared.publication.Publication.{Publication}
@@ -177,7 +177,8 @@ module _ (b : BookTerms) (seat : SeatTerms) (rest : Rest) (calls : List Call) (r
     (was : IsCallerOf seat rest calls receipts None room) (book : seat.knows.book ≡ b) (kept : IsKept seat.knows) (more : length receipts < length calls)
     (c : CallingTerms) (call_is : c.call ≡ get_or calls (length receipts) (Call.Read 0)) (start : c.start ≡ seat) (was_rest : c.was ≡ rest)
     (mark : c.mark ≡ seat) (rest_is : c.rest ≡ rest) (way : IsWay b (pass_of seat rest) c.call c.stage) (unturned : steps_made c.stage ≡ 0)
-    (unexchanged : exchanges_made c.stage ≡ 0) (left : 0 < call_turns_left b c.stage) (starts : StartsFrom seat.knows rest.totals c.stage) where
+    (unexchanged : exchanges_made c.stage ≡ 0) (left : 0 < call_turns_left b c.stage) (starts : StartsFrom seat.knows rest.totals c.stage)
+    (first : next_step b c.stage ≡ first_step (refusal_in b (pass_of seat rest) c.call)) where
   abbrev begun : CallerTerms
   begun = caller_of seat rest calls receipts (Some c)
 
@@ -199,6 +200,7 @@ module _ (b : BookTerms) (seat : SeatTerms) (rest : Rest) (calls : List Call) (r
     starts = starts;
     unturned = unturned;
     unexchanged = unexchanged;
+    first = first ∙ ap (λ (call : Call). first_step (refusal_in b (pass_of seat rest) call)) call_is;
   }
 
   pub IsCallerOf-begun : IsCallerOf seat rest calls receipts (Some c) room

@@ -218,7 +218,7 @@ module _ (b : BookTerms) (files : List (List Call)) where
   loaded-starts s new = refl
 
   module _ (turns : List TurnMade) (before after : StepperTerms) (t : TurnMade) (turned : Turned) (runs : RunsTo b files turns before)
-      (one : TurnsOne t.process turned before after) (made : IsMadeAs turned before after t) where
+      (one : TurnsOne t.process turned before after) (made : IsMadeAs turned before after t one) where
     loaded-earlier : (d : CallerTerms) (m : ℕ) → m < length turns
         → length_loaded_in b files (turns ++ t ∷ []) after (goes_on turns before after t turned runs one made) d m
         ≡ length_loaded_in b files turns before runs d m

@@ -7,6 +7,7 @@ pub mod TurnCounts
 pub mod SteppingLaws
 pub mod RunLaws
 pub mod BeginningLaws
+pub mod NextLaws
 pub mod ReplayLaws
 pub mod TurnTimes
 pub mod KeyLaws

@@ -116,11 +116,11 @@ module _ (q : ℕ) where
   loads-MakesStep b c v NextOfRound.nothing next none = absurd none
 
   -- steps of asking
-  loads-ask : (b : BookTerms) (a : AskingTerms) (w : Knowledge) → a.stored ≤ REQUEST_WORDS → (a.stored < REQUEST_WORDS → StoresNextRequestWord a w)
+  loads-ask : (b : BookTerms) (a : AskingTerms) (w : Knowledge) → a.stored ≤ REQUEST_WORDS → (a.stored < REQUEST_WORDS → StoresNextRequestWord b a w)
       → (a.stored ≡ REQUEST_WORDS → AnnouncesAsked b a w) → HasSameLoads q a.mark w
   loads-ask b a w few stores announces =
       elim (cases_lt a.stored REQUEST_WORDS) as (λ _. HasSameLoads q a.mark w) [
-        | inl inside ↦ loads-StoresRequestWord a.mark w a.account a.stored _ (stores inside)
+        | inl inside ↦ loads-StoresRequestWord a.mark w a.account a.stored _ (stores inside).2
         | inr over ↦
             let (slot, mine, told) = announces (omega (arith, few, over)) in
             loads-Announces b a.mark w a.account slot (request_asked a) told
@@ -146,13 +146,13 @@ module _ (q : ℕ) where
   module _ (b : BookTerms) (seen : List Publication) (before after : SeatTerms) (now : TotalSums) where
     loads-MakesLoad : (next : NextLoad) → MakesLoad b seen next before after → LoadsOrLeaves q (length_in next) before.knows after.knows
     loads-MakesLoad (NextLoad.length_of p) (told, more) = loads-LoadsLength b before.knows after.knows p told
-    loads-MakesLoad (NextLoad.view_word k) same = inr ((λ some. cc some), ap (λ (s : SeatTerms). loads_of (own_part s.knows) q) same)
+    loads-MakesLoad (NextLoad.view_word p i k) (same, may) = inr ((λ some. cc some), ap (λ (s : SeatTerms). loads_of (own_part s.knows) q) same)
     loads-MakesLoad NextLoad.nothing none = absurd none
 
     loads-MakesLookLoad : (stage : LookStage) → MakesLookLoad b seen stage before after now
         → LoadsOrLeaves q (length_at stage) before.knows after.knows
     loads-MakesLookLoad (LookStage.Snap s) told = loads-MakesLoad s.next told
-    loads-MakesLookLoad (LookStage.CatchUp c) (same, word) = inr ((λ some. cc some), ap (λ (s : SeatTerms). loads_of (own_part s.knows) q) same)
+    loads-MakesLookLoad (LookStage.CatchUp c) (same, word, seen_before) = inr ((λ some. cc some), ap (λ (s : SeatTerms). loads_of (own_part s.knows) q) same)
 
     loads-MakesPayStep : (stage : PayStage) → MakesPayStep b seen stage before after now
         → LoadsOrLeaves q (pay_length_at stage) before.knows after.knows

@@ -108,7 +108,7 @@ TurnBy-idle turns s p none b files earlier was = record {
 
 -- a process that isn't idle makes a turn
 pub TurnBy-turned : (turns : List TurnMade) (s u : StepperTerms) (t : TurnMade) (turned : Turned) → 0 < slice_index (calls_left s) t.process
-    → TurnsOne t.process turned s u → IsMadeAs turned s u t → TurnBy (t.process ∷ []) turns s (turns ++ t ∷ []) u
+    → (one : TurnsOne t.process turned s u) → IsMadeAs turned s u t one → TurnBy (t.process ∷ []) turns s (turns ++ t ∷ []) u
 TurnBy-turned turns s u t turned busy one made b files earlier was =
     let p = t.process in
     let here = one.left ∙ ap (λ n. slice_index (calls_left u) p + n) (answers-cond turned t.answered made.answered) in record {

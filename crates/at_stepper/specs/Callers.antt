@@ -11,6 +11,8 @@ use Rattle.at_history.specs.Publications.{IsPrefix, count_of}
 use Rattle.at_history.specs.declared.publication.Publication.{Publication}
 use Rattle.at_board.specs.Counting.{raised}
 use Rattle.at_board.specs.Knowledge.Seats.{SeatTerms}
+use Rattle.at_board.specs.Steps.Made.{MakesOnly}
+use Rattle.at_board.specs.declared.step.BoardStep.{BoardStep}
 use Rattle.at_board.specs.declared.words.TheConstants.{RECORD_WORDS}
 use Rattle.at_fold.specs.Sums.{TotalSums}
 use Rattle.at_log.specs.InTime.{look_at}
@@ -18,7 +20,7 @@ use Rattle.at_log.specs.declared.receipt.At.{At}
 use Rattle.at_log.specs.declared.receipt.Receipt.{Receipt}
 use Rattle.at_object.specs.BoundNumbers.{three_processes}
 use Rattle.at_object.specs.Passes.{PassTerms, Stands, seat_of, sent_by}
-use Rattle.at_calling.specs.Calling.{IsCallWithin, IsWay, MakesCallStep, StartsFrom, exchanges_made, exchanges_of, publishes_of, steps_made, steps_of}
+use Rattle.at_calling.specs.Calling.{IsCallWithin, IsWay, MakesCallStep, StartsFrom, exchanges_made, exchanges_of, first_step, next_step, publishes_of, refusal_in, steps_made, steps_of}
 use Rattle.at_object.specs.Calls.{CallMade, StaysWithin, call_steps}
 use Rattle.at_calling.specs.declared.call_stage.CallStage.{CallStage}
 use Rattle.at_stepper.specs.declared.turned.Turned.{Turned}
@@ -99,6 +101,7 @@ pub record BeginsCall (b : BookTerms) (published : List Publication) (before rea
   pub starts : StartsFrom ready.pass.knows ready.totals stage
   pub unturned : steps_made stage ≡ 0
   pub unexchanged : exchanges_made stage ≡ 0
+  pub first : next_step b stage ≡ first_step (refusal_in b ready.pass (next_call before))
 
 -- what a turn of a process goes on from: the call in the making, or, between two calls, the next one, which begins with this turn
 abbrev pub IsReadyFrom : BookTerms → List Publication → CallerTerms → CallerTerms → CallStage → Option CallStage → Type 0
@@ -167,6 +170,7 @@ pub record IsTurned (b : BookTerms) (published : List Publication) (turned : Tur
   pub is_ready : IsReadyToTurn b published before ready stage
   pub leaves : LeavesCaller b ready after stage turned
   pub step : MakesCallStep b published stage ready.seat after.seat after.totals
+  pub made : MakesOnly b ready.seat.knows after.seat.knows (steps_in turned) (next_step b stage)
   pub kind : steps_in turned ≡ steps_of stage
   pub steps : after.seat.steps ≡ raised before.seat.steps (steps_in turned)
   pub exchanges : after.seat.exchanges ≡ raised before.seat.exchanges (exchanges_of stage)
@@ -175,3 +179,8 @@ pub record IsTurned (b : BookTerms) (published : List Publication) (turned : Tur
   pub process_is : after.pass.knows.first ≡ before.pass.knows.first
   pub left : calls_left_of before ≡ calls_left_of after + answers_in turned
   pub turns_left : caller_turns_left b after < caller_turns_left b before
+
+-- whichever turn the caller makes next, this is the step that it makes, if it makes one
+abbrev pub IsNextOf : BookTerms → CallerTerms → Option BoardStep → Type 0
+IsNextOf b caller step = (published : List Publication) (turned : Turned) (after : CallerTerms) (one : IsTurned b published turned caller after)
+    → step ≡ next_step b one.stage

@@ -14,7 +14,7 @@ use Rattle.at_board.specs.Counting.{raised}
 use Rattle.at_object.specs.declared.parts.Rest.{Rest}
 use Rattle.at_stepper.specs.Callers.{CallerTerms, IsFile, LeavesCaller, answers_in, caller_turns_left, calls_left_of, next_call, own_seen, steps_in}
 use Rattle.at_stepper.specs.declared.turned.Turned.{Turned}
-use Rattle.at_calling.specs.Calling.{CallingTerms, IsWay, MakesCallStep, StartsFrom, call_turns_left, exchanges_made, exchanges_of, pass_before, publishes_of, steps_made, steps_of}
+use Rattle.at_calling.specs.Calling.{CallingTerms, IsWay, MakesCallStep, StartsFrom, call_turns_left, exchanges_made, exchanges_of, first_step, next_step, pass_before, publishes_of, refusal_in, steps_made, steps_of}
 use Rattle.at_calling.specs.declared.call_stage.CallStage.{CallStage}
 
 -- the pass between calls, or with which the call in the making began, and what the next turn of that goes on with
@@ -76,6 +76,7 @@ pub record StartsNext (b : BookTerms) (before after : CallerTerms) : Type 0 wher
   pub starts : StartsFrom before.pass.knows before.totals stage
   pub unturned : steps_made stage ≡ 0
   pub unexchanged : exchanges_made stage ≡ 0
+  pub first : next_step b stage ≡ first_step (refusal_in b before.pass (next_call before))
 
 -- just the next step was made of the call in the making, which is then answered or goes on
 pub record TakesTurn (b : BookTerms) (published : List Publication) (before after : CallerTerms) (turned : Turned) (stage : CallStage) : Type 0 where

@@ -19,7 +19,7 @@ pub record MakesTurn (process : ℕ) (before after : StepperTerms) (t : TurnMade
   pub process_is : t.process ≡ process
   pub turned : Turned
   pub turns : TurnsOne t.process turned before after
-  pub made : IsMadeAs turned before after t
+  pub made : IsMadeAs turned before after t turns
 
 -- so far the turns by these entries are made, they lead from a new run to this one, and to each process those calls are left that no turn of
 -- it has answered

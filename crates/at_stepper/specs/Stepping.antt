@@ -1,11 +1,12 @@
 -- Runs of the calls of all processes by turns.
-use Rattle.std.specs.Prelude.{◌≡◌, ◌≢◌, ◌⊎◌, ℕ, ◌+◌, ◌<◌, ◌++◌, List, [], ◌∷◌, Some, length, map, slice_index, slice_index_or, sum_by}
+use Rattle.std.specs.Prelude.{◌≡◌, ◌≢◌, ◌⊎◌, ℕ, ◌+◌, ◌<◌, ◌++◌, List, [], ◌∷◌, Option, Some, length, map, slice_index, slice_index_or, sum_by}
 use Rattle.at_ledger.specs.Book.{BookTerms}
 use Rattle.at_ledger.specs.declared.call.Call.{Call}
 use Rattle.at_history.specs.Publications.{IsPrefix, count_of}
 use Rattle.at_history.specs.declared.publication.Publication.{Publication}
 use Rattle.at_board.specs.Knowledge.Seats.{BoardTerms}
-use Rattle.at_calling.specs.Calling.{length_loaded}
+use Rattle.at_board.specs.declared.step.BoardStep.{BoardStep}
+use Rattle.at_calling.specs.Calling.{length_loaded, next_step}
 use Rattle.at_calling.specs.declared.call_stage.CallStage.{CallStage}
 use Rattle.at_object.specs.Passes.{IsNewPass}
 use Rattle.at_stepper.specs.Callers.{CallerTerms, IsNewCaller, IsTurned, answers_in, calls_left_of, caller_turns_left}
@@ -79,3 +80,8 @@ pub record TurnsOne (process : ℕ) (turned : Turned) (before after : StepperTer
   pub left : slice_index (calls_left before) process ≡ slice_index (calls_left after) process + answers_in turned
   pub others_left : (q : ℕ) → q ≢ process → slice_index (calls_left after) q ≡ slice_index (calls_left before) q
   pub turns_left : all_turns_left after < all_turns_left before
+
+-- whichever turn the process makes next, this is the step that it makes, if it makes one. The other caller stands for one that isn't there
+abbrev pub IsNextStep : ℕ → StepperTerms → Option BoardStep → Type 0
+IsNextStep process s step = (turned : Turned) (after : StepperTerms) (one : TurnsOne process turned s after) (other : CallerTerms)
+    → step ≡ next_step s.ledger.book (one.changes.here other).stage

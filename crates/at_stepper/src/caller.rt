@@ -4,14 +4,16 @@ ghost use Rattle.std.specs.Prelude.{◌≡◌, ◌^◌, ◌<◌, ◌==◌, [], I
 ghost use Rattle.at_history.specs.Publications.{IsPrefix};
 ghost use Rattle.at_board.specs.Knowledge.Overviews.{IsOverviewOf, TakesIn};
 ghost use Rattle.at_board.specs.Knowledge.Seats.{IsOf};
+ghost use Rattle.at_calling.specs.Calling.{first_step, refusal_in};
+ghost use Rattle.at_ledger.specs.Call.{IsCallOn};
 ghost use Rattle.at_log.specs.Receipts.{calls_of};
-ghost use Rattle.at_object.specs.Parted.{HasMemoryFor};
+ghost use Rattle.at_object.specs.Parted.{HasMemoryFor, IsOfOnePass, pass_of};
 ghost use Rattle.at_object.specs.Passes.{IsPassOf, Stands, seat_of};
-ghost use Rattle.at_stepper.specs.Callers.{HasLearned, IsFile, IsNewCaller, IsTurned, calls_left_of, own_seen};
+ghost use Rattle.at_stepper.specs.Callers.{HasLearned, IsFile, IsNewCaller, IsNextOf, IsTurned, calls_left_of, own_seen};
 ghost use Rattle.at_stepper.specs.KeptCallers.{StartsNext, TakesTurn};
 
 use crate::turned::Turned;
-use at_board::{Board, BoardSeat, Overview};
+use at_board::{Board, BoardSeat, BoardStep, Overview};
 use at_calling::Calling;
 use at_ledger::Call;
 use at_log::{At, Receipt};
@@ -86,6 +88,22 @@ impl Caller {
         ensures { result ≡ (calls_left_of self.now == 0) }
     {
         self.receipts.len() == self.calls.len()
+    }
+
+    /// The step that the next turn makes. Where no call is in the making it is the first one of the next call, which doesn't depend on what
+    /// the seat sees as that begins.
+    pub(crate) fn next(&self, board: &Board) -> Option<BoardStep>
+        requires board { IsOf self.now.seat board.now }
+        requires left { 0 < calls_left_of self.now }
+        ensures { IsNextOf board.now.book self.now result }
+    {
+        match &self.making.calling {
+            Some(calling) => calling.next(board, &self.seat),
+            None => {
+                let call = self.calls[self.receipts.len()].copy();
+                step_of_first_turn(board, &self.seat, &self.rest, call)
+            }
+        }
     }
 
     /// Makes the next turn. Where no call is in the making, the next one begins with it, once the seat has seen all that the overview has.
@@ -217,6 +235,17 @@ impl Caller {
         } = self;
         (Pass::from_parts(seat, rest), receipts)
     }
+}
+
+/// The step of a call's first turn. The call itself is not begun.
+fn step_of_first_turn(board: &Board, seat: &BoardSeat, rest: &Rest, call: Call) -> Option<BoardStep>
+    requires board { IsOf seat.now board.now }
+    requires pass { IsOfOnePass seat.now rest.now }
+    requires call { IsCallOn (length board.now.book.accounts) call }
+    ensures { result ≡ first_step (refusal_in board.now.book (pass_of seat.now rest.now) call) }
+{
+    let calling = Calling::start(board, seat, rest, call);
+    calling.next(board, seat)
 }
 
 /// The same receipt. Takes no memory.

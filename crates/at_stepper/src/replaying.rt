@@ -10,14 +10,17 @@ ghost use Rattle.at_stepper.specs.Replays.{IsSameRun, TurnAll, TurnBy, TurnInRou
 ghost use Rattle.at_stepper.specs.Stepping.{IsOver, all_turns_left, calls_left};
 
 use crate::stepper::Stepper;
+use at_board::BoardStep;
 use at_ledger::{Book, Call, Line};
 use at_object::NoMemory;
 use std::alloc::{AllocError, Global};
 
-/// A turn of a process, whether it answered a call, and whether it published a record.
+/// A turn of a process: the step that it made, which is none where its call was answered not-owner or full, whether it answered a call,
+/// and whether it published a record.
 #[derive(Drop)]
 pub struct TurnMade {
     pub process: u32,
+    pub step: Option<BoardStep>,
     pub answered: bool,
     pub published: bool,
 }

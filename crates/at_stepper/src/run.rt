@@ -4,12 +4,12 @@ ghost use Rattle.std.specs.Prelude.{◌≡◌, ◌<◌, ◌==◌, length, slice_
 ghost use Rattle.at_board.specs.Knowledge.Overviews.{IsOverviewOf};
 ghost use Rattle.at_stepper.specs.KeptStepping.{AreAllIn, AreCallersOn, HaveJustTheirOwn, IsRunSo, stepper_terms};
 ghost use Rattle.at_stepper.specs.Replays.{MakesTurn};
-ghost use Rattle.at_stepper.specs.Stepping.{TurnsOne, calls_left};
+ghost use Rattle.at_stepper.specs.Stepping.{IsNextStep, TurnsOne, calls_left};
 
 use crate::caller::Caller;
 use crate::replaying::TurnMade;
 use crate::turned::Turned;
-use at_board::{Board, Overview};
+use at_board::{Board, BoardStep, Overview};
 use at_object::Ledger;
 
 /// The ledger, the callers of all processes, in order, and what their seats have seen, put together: that is all that is published.
@@ -27,6 +27,15 @@ impl Run {
         ensures { result ≡ (slice_index (calls_left (stepper_terms self.now)) process == 0) }
     {
         self.callers[process as usize].is_idle()
+    }
+
+    /// The step that the process's next turn makes.
+    pub(crate) fn next(&self, process: u32) -> Option<BoardStep>
+        requires run { IsRunSo self.now }
+        requires left { 0 < slice_index (calls_left (stepper_terms self.now)) process }
+        ensures { IsNextStep process (stepper_terms self.now) result }
+    {
+        self.callers[process as usize].next(self.ledger.board())
     }
 
     /// Makes the process's next turn. Where this begins a call, the process's seat has seen first what all seats have.
@@ -52,11 +61,13 @@ impl Run {
         ensures made { MakesTurn process (stepper_terms self.old) (stepper_terms self.new) result }
         ensures run { IsRunSo self.new }
     {
+        let step = self.next(process);
         let before = self.callers[process as usize].published();
         let answered = self.turn(process).is_answer();
         let published = before < self.callers[process as usize].published();
         TurnMade {
             process,
+            step,
             answered,
             published,
         }

@@ -4,12 +4,13 @@ ghost use Rattle.std.specs.Prelude.{◌≡◌, ◌<◌, ◌==◌, All, IfErr, If
 ghost use Rattle.at_log.specs.Receipts.{lists_in};
 ghost use Rattle.at_stepper.specs.Callers.{IsFile};
 ghost use Rattle.at_stepper.specs.Replays.{MakesTurn};
-ghost use Rattle.at_stepper.specs.Stepping.{IsNewStepper, TurnsOne, calls_left};
+ghost use Rattle.at_stepper.specs.Stepping.{IsNewStepper, IsNextStep, TurnsOne, calls_left};
 
 use crate::beginning::{memory_for, run_of};
 use crate::progress::Progress;
 use crate::replaying::TurnMade;
 use crate::turned::Turned;
+use at_board::BoardStep;
 use at_ledger::{Book, Call};
 use std::alloc::Global;
 use std::marker::Model;
@@ -64,6 +65,18 @@ impl Stepper {
         match &self.progress {
             Progress::Running(run) => run.is_idle(process),
             Progress::Ended(_) | Progress::Closed(_) => true,
+        }
+    }
+
+    /// The step that the process's next turn makes: none where its call is answered not-owner or full. It makes no step.
+    pub fn next(&self, process: u32) -> Option<BoardStep>
+        requires left { 0 < slice_index (calls_left self.now) process }
+        ensures { IsNextStep process self.now result }
+    {
+        match &self.progress {
+            Progress::Running(run) => run.next(process),
+            // All calls of such a run are answered.
+            Progress::Ended(_) | Progress::Closed(_) => unreachable!(),
         }
     }
 

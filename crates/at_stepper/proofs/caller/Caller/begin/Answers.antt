@@ -2,7 +2,7 @@ use Rattle.std.proofs.Common.{◌≡◌, ◌<◌, ◌∙◌, Option, Some, None,
 use Rattle.std.proofs.lemmas.List.{get_or_read}
 use Rattle.std.specs.Vec.{vec_capacity}
 use Rattle.at_ledger.specs.declared.call.Call.{Call}
-use Rattle.at_calling.specs.Calling.{CallingTerms, IsWay}
+use Rattle.at_calling.specs.Calling.{CallingTerms, IsWay, first_step, next_step, refusal_in}
 use Rattle.at_object.specs.Parted.{pass_of}
 use Rattle.at_stepper.proofs.CallerLaws.{IsCallerOf-begun, StartsNext-begun, none-stage_in}
 use Rattle.at_stepper.specs.Callers.{CallerTerms, calls_left_of}
@@ -39,6 +39,13 @@ next c =
 book : (c : After-become_next) → c.self.inside.seat.knows.book ≡ c.args.board.now.book
 book c = ap (λ (t : CallerTerms). t.seat.knows.book) c.self.view_is ∙ c.requires.board.book
 
+-- its first step is as the pass says
+first : (c : After-become_next) → next_step c.args.board.now.book c.start.result.stage
+    ≡ first_step (refusal_in c.args.board.now.book (pass_of c.self.inside.seat c.self.inside.rest) c.start.result.call)
+first c =
+    c.start.ensures.first
+    ∙ ap (λ (call : Call). first_step (refusal_in c.args.board.now.book (pass_of c.self.inside.seat c.self.inside.rest) call)) (sym c.start.ensures.call)
+
 pub invariant_of-self : goal.invariant_of-self
 invariant_of-self c =
     let told = c.start.ensures in
@@ -46,7 +53,7 @@ invariant_of-self c =
     (vec_capacity c.self.inside.receipts)) (sym (begun c))
     (IsCallerOf-begun c.args.board.now.book c.self.inside.seat c.self.inside.rest c.self.inside.calls.items c.self.inside.receipts.items
     (vec_capacity c.self.inside.receipts) (kept c) (book c) c.known.ensures.seat (more c) c.start.result (next c) told.start told.was told.mark
-    told.rest (subst (λ (call : Call). IsWay c.args.board.now.book (pass_of c.self.inside.seat c.self.inside.rest) call c.start.result.stage) (sym told.call) told.way) told.turns told.exchanges told.left told.starts)
+    told.rest (subst (λ (call : Call). IsWay c.args.board.now.book (pass_of c.self.inside.seat c.self.inside.rest) call c.start.result.stage) (sym told.call) told.way) told.turns told.exchanges told.left told.starts (first c))
 
 pub returns : goal.returns
 returns c =
@@ -59,4 +66,4 @@ returns c =
     ∙ c.self.view_is)
     (StartsNext-begun c.args.board.now.book c.self.inside.seat c.self.inside.rest c.self.inside.calls.items c.self.inside.receipts.items
     (vec_capacity c.self.inside.receipts) (kept c) (book c) c.known.ensures.seat (more c) c.start.result (next c) told.start told.was told.mark
-    told.rest (subst (λ (call : Call). IsWay c.args.board.now.book (pass_of c.self.inside.seat c.self.inside.rest) call c.start.result.stage) (sym told.call) told.way) told.turns told.exchanges told.left told.starts))
+    told.rest (subst (λ (call : Call). IsWay c.args.board.now.book (pass_of c.self.inside.seat c.self.inside.rest) call c.start.result.stage) (sym told.call) told.way) told.turns told.exchanges told.left told.starts (first c)))

@@ -4,6 +4,7 @@ use Rattle.at_history.specs.Publications.{count_of}
 use Rattle.at_stepper.proofs.RunLaws.{length-PublishesAtMostOne, own_seen-at}
 use Rattle.at_stepper.proofs.SteppingLaws.{known-calls_left}
 use Rattle.at_stepper.specs.Callers.{CallerTerms}
+use Rattle.at_stepper.specs.KeptStepping.{stepper_terms}
 use Rattle.at_stepper.proofs.run.Run.make_turn.Goals as goal
 
 pub returns-clause-made : goal.returns-clause-made
@@ -27,6 +28,7 @@ returns-clause-made c =
       turned = c.turn.result;
       turns = turned;
       made = record {
+        step = λ other. c.next-step.ensures c.turn.result (stepper_terms after) turned other;
         answered = c.is_answer-answered.ensures;
         published = length-PublishesAtMostOne p before.overview.seen after.overview.seen (nat_lt c.published-before.result c.published.result) turned.publishes
             (λ same. le-ltb c.published-before.result c.published.result (omega (arith, same, few, more)))
