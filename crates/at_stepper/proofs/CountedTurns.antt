@@ -1,6 +1,7 @@
 -- Each answered call of a run has taken counts that its own turns have loaded, or borrowed ones. So the turns have made the
 -- run's closing.
 use Rattle.std.proofs.Common.{◌≡◌, ◌≢◌, ℕ, ◌+◌, ◌<◌, ◌==◌, true, List, [], ◌∷◌, ◌++◌, Bool, cond, Option, None, Some, length, get_or, map, refl, sym, ap, subst, ◌∙◌, arith, inl, inr}
+use Rattle.std.specs.Prelude.{is_some}
 use Rattle.std.proofs.lemmas.Bool.{cases_eq, cases_lt, eq-eqb, ne_eqb}
 use Rattle.std.proofs.lemmas.List.{length_push}
 use Rattle.at_ledger.specs.Book.{BookTerms}
@@ -24,7 +25,7 @@ use Rattle.at_stepper.proofs.ScheduleLaws.{AreLooksBetween, AreLooksBetween-Runs
 use Rattle.at_stepper.proofs.TimedCallers.{IsTimedCaller, begins_or_on, caller_look, caller_receipt-more, count-IsTurned, snapshot-IsTurned, still-IsTurned}
 use Rattle.at_stepper.proofs.TimedLaws.{AreTimedTurns-RunsTo, known_caller, look-list, receipts_of-caller}
 use Rattle.at_stepper.proofs.TimedTurns.{AreTimedTurns, HasMore-turned, pass_seen}
-use Rattle.at_stepper.proofs.TurnCounts.{some_of}
+use Rattle.at_stepper.proofs.TurnCounts.{some_of, is_some-reply}
 use Rattle.at_stepper.proofs.TurnTimes.{ended-own, is_next_of, is_next_of-number, is_next_of-own, next-answered, number-is_next_of, process-is_next_of}
 use Rattle.at_stepper.specs.Callers.{CallerTerms, IsTurned, answers_in}
 use Rattle.at_stepper.specs.InTurns.{CountsLoads, IsLastLoad, IsMadeAs, IsMadeByTurns, LooksWithin, PublishInOrder, RunsTo, length_loaded_in, published_by_then}
@@ -50,7 +51,7 @@ own_receipt-within p c j timed within =
 -- one turn more
 module _ (b : BookTerms) (turns : List TurnMade) (t : TurnMade) (turned : Turned) (published published_now : List Publication)
     (before after : List CallerTerms) (were : AreTimedTurns turns before published) (are : AreTimedTurns (turns ++ t ∷ []) after published_now)
-    (changes : ChangesOne (IsTurned b published turned) t.process before after) (made : t.answered ≡ (answers_in turned == 1))
+    (changes : ChangesOne (IsTurned b published turned) t.process before after) (made : is_some t.reply ≡ (answers_in turned == 1))
     (counted : PublishInOrder turns published) (counted_now : PublishInOrder (turns ++ t ∷ []) published_now)
     (looks : AreLooksBetween turns before) (grown : IsPrefix published published_now)
     (sees : (d : CallerTerms) → SeesPublished t.process published published_now (get_or after t.process d) (changes.here d).stage)
@@ -242,7 +243,7 @@ AreCountsLoaded-RunsTo b files _ _ (starts s new) =
 AreCountsLoaded-RunsTo b files _ _ (goes_on turns before after t turned runs one made) =
     let whole = goes_on turns before after t turned runs one made in
     AreCountsLoaded-push before.ledger.book turns t turned before.published after.published before.callers after.callers
-    (AreTimedTurns-RunsTo b files turns before runs) (AreTimedTurns-RunsTo b files (turns ++ t ∷ []) after whole) one.changes made.answered
+    (AreTimedTurns-RunsTo b files turns before runs) (AreTimedTurns-RunsTo b files (turns ++ t ∷ []) after whole) one.changes (is_some-reply turned t made.reply)
     (PublishInOrder-RunsTo b files turns before runs) (PublishInOrder-RunsTo b files (turns ++ t ∷ []) after whole)
     (AreLooksBetween-RunsTo b files turns before runs)
     (grown-PublishesAtMostOne t.process before.published after.published one.publishes) one.sees (length_loaded_in b files turns before runs)

@@ -4,6 +4,7 @@ pub mod PublishedLaws
 pub mod CallerLaws
 pub mod StepLaws
 pub mod TurnCounts
+pub mod EntryLaws
 pub mod SteppingLaws
 pub mod RunLaws
 pub mod BeginningLaws

@@ -1,5 +1,6 @@
 -- The turns of a schedule, one after another.
 use Rattle.std.proofs.Common.{◌≡◌, ℕ, zero, suc, ◌+◌, ◌<◌, ◌≤◌, ◌&&◌, ◌⊎◌, Bool, cond, List, [], ◌∷◌, ◌++◌, length, get_or, slice_index, refl, sym, ap, subst, ◌∙◌, append_assoc, arith, inl, inr, zero-add}
+use Rattle.std.specs.Prelude.{is_some}
 use Rattle.std.proofs.lemmas.Bool.{cases_eq, cases_lt, eq-eqb, ne_eqb}
 use Rattle.std.proofs.lemmas.List.{append-nil, get_or_past, length-map, map-id}
 use Rattle.std.proofs.lemmas.List.FromFn.{map-range_with_len_more}
@@ -8,7 +9,7 @@ use Rattle.at_ledger.specs.Book.{BookTerms}
 use Rattle.at_ledger.specs.declared.call.Call.{Call}
 use Rattle.at_log.specs.declared.receipt.Receipt.{Receipt}
 use Rattle.at_stepper.proofs.SteppingLaws.{calls_left-at}
-use Rattle.at_stepper.proofs.TurnCounts.{answered_by-push, answers-cond, some_of}
+use Rattle.at_stepper.proofs.TurnCounts.{answered_by-push, answers-cond, some_of, is_some-reply}
 use Rattle.at_stepper.specs.Callers.{calls_left_of}
 use Rattle.at_stepper.specs.InTurns.{IsMadeAs}
 use Rattle.at_stepper.specs.InTurns.RunsTo.{goes_on, starts}
@@ -111,7 +112,7 @@ pub TurnBy-turned : (turns : List TurnMade) (s u : StepperTerms) (t : TurnMade) 
     → (one : TurnsOne t.process turned s u) → IsMadeAs turned s u t one → TurnBy (t.process ∷ []) turns s (turns ++ t ∷ []) u
 TurnBy-turned turns s u t turned busy one made b files earlier was =
     let p = t.process in
-    let here = one.left ∙ ap (λ n. slice_index (calls_left u) p + n) (answers-cond turned t.answered made.answered) in record {
+    let here = one.left ∙ ap (λ n. slice_index (calls_left u) p + n) (answers-cond turned (is_some t.reply) (is_some-reply turned t made.reply)) in record {
       made = AreTurnsBy.turn earlier turns t was.made (λ idle. absurd (omega (arith, was.left p, idle, busy)));
       runs = goes_on turns s u t turned was.runs one made;
       left = λ q.
@@ -123,7 +124,7 @@ TurnBy-turned turns s u t turned busy one made b files earlier was =
                   was.left p,
                   here,
                   answered_by-push p turns t,
-                  ap {B = ℕ} (λ (x : Bool). cond (x && t.answered) 1 0) (eq-eqb p p refl),
+                  ap {B = ℕ} (λ (x : Bool). cond (x && is_some t.reply) 1 0) (eq-eqb p p refl),
                 ))
             | inr apart ↦
                 omega (
@@ -131,7 +132,7 @@ TurnBy-turned turns s u t turned busy one made b files earlier was =
                   was.left q,
                   one.others_left q apart,
                   answered_by-push q turns t,
-                  ap {B = ℕ} (λ (x : Bool). cond (x && t.answered) 1 0) (ne_eqb p q (λ e. apart (sym e))),
+                  ap {B = ℕ} (λ (x : Bool). cond (x && is_some t.reply) 1 0) (ne_eqb p q (λ e. apart (sym e))),
                 )
           ];
     }

@@ -1,5 +1,6 @@
 -- A run's turns have published its records, and each answered call looks at what was published at one of its moments.
 use Rattle.std.proofs.Common.{◌≡◌, ◌≢◌, ℕ, ◌+◌, ◌<◌, ◌≤◌, ◌==◌, true, List, [], ◌∷◌, ◌++◌, None, length, get_or, sym, ap, subst, ◌∙◌, arith, inl, inr}
+use Rattle.std.specs.Prelude.{is_some}
 use Rattle.std.proofs.lemmas.Bool.{cases_eq, cases_lt}
 use Rattle.std.proofs.lemmas.List.{length_push}
 use Rattle.at_ledger.specs.Book.{BookTerms}
@@ -12,6 +13,7 @@ use Rattle.at_log.specs.declared.receipt.At.{At}
 use Rattle.at_log.specs.declared.receipt.At.TheVariants.{Previous}
 use Rattle.at_log.specs.declared.receipt.Receipt.{Receipt}
 use Rattle.at_object.specs.Passes.{PassTerms}
+use Rattle.at_stepper.proofs.TurnCounts.{is_some-reply}
 use Rattle.at_stepper.proofs.CountLaws.{published-begun, published-ended}
 use Rattle.at_stepper.proofs.PublishedTurns.{PublishInOrder-none, PublishInOrder-push, moment_between, published_by_then-le, published_by_then-push}
 use Rattle.at_stepper.proofs.TimedCallers.{ahead-IsTurned, begins_or_on, caller_look, caller_look-le, caller_look-more, caller_receipt-more, count-IsTurned, still-IsTurned}
@@ -48,7 +50,7 @@ pub record AreLooksBetween (turns : List TurnMade) (callers : List CallerTerms) 
 -- one turn more
 module _ (b : BookTerms) (turns : List TurnMade) (t : TurnMade) (turned : Turned) (published published_now : List Publication)
     (before after : List CallerTerms) (were : AreTimedTurns turns before published) (are : AreTimedTurns (turns ++ t ∷ []) after published_now)
-    (changes : ChangesOne (IsTurned b published turned) t.process before after) (made : t.answered ≡ (answers_in turned == 1))
+    (changes : ChangesOne (IsTurned b published turned) t.process before after) (made : is_some t.reply ≡ (answers_in turned == 1))
     (counted : PublishInOrder turns published) (counted_now : PublishInOrder (turns ++ t ∷ []) published_now)
     (looks : AreLooksBetween turns before) where
   abbrev all : List TurnMade
@@ -222,6 +224,6 @@ AreLooksBetween-RunsTo b files _ _ (starts s new) = AreLooksBetween-none b files
 AreLooksBetween-RunsTo b files _ _ (goes_on turns before after t turned runs one made) =
     let whole = goes_on turns before after t turned runs one made in
     AreLooksBetween-push before.ledger.book turns t turned before.published after.published before.callers after.callers
-    (AreTimedTurns-RunsTo b files turns before runs) (AreTimedTurns-RunsTo b files (turns ++ t ∷ []) after whole) one.changes made.answered
+    (AreTimedTurns-RunsTo b files turns before runs) (AreTimedTurns-RunsTo b files (turns ++ t ∷ []) after whole) one.changes (is_some-reply turned t made.reply)
     (PublishInOrder-RunsTo b files turns before runs) (PublishInOrder-RunsTo b files (turns ++ t ∷ []) after whole)
     (AreLooksBetween-RunsTo b files turns before runs)

@@ -18,7 +18,7 @@ use Rattle.at_object.specs.Passes.{Stands}
 use Rattle.at_stepper.proofs.PublishedTurns.{grown-PublishesAtMostOne}
 use Rattle.at_stepper.proofs.TimedCallers.{IsTimedCaller, caller_key, caller_key-in, caller_look, caller_look-in}
 use Rattle.at_stepper.proofs.TimedTurns.{AreTimedTurns, AreTimedTurns-push}
-use Rattle.at_stepper.proofs.TurnCounts.{some_of}
+use Rattle.at_stepper.proofs.TurnCounts.{some_of, is_some-reply}
 use Rattle.at_stepper.proofs.TurnTimes.{AreTimes-none}
 use Rattle.at_stepper.specs.Callers.{CallerTerms}
 use Rattle.at_stepper.specs.InTurns.{RunsTo, times_of}
@@ -64,7 +64,7 @@ pub AreTimedTurns-RunsTo : (b : BookTerms) (files : List (List Call)) (turns : L
 AreTimedTurns-RunsTo b files _ _ (starts s new) = AreTimedTurns-none b files s new
 AreTimedTurns-RunsTo b files _ _ (goes_on turns before after t turned runs one made) =
     AreTimedTurns-push before.ledger.book turns t turned before.published before.callers after.callers
-    (AreTimedTurns-RunsTo b files turns before runs) one.changes made.answered after.published
+    (AreTimedTurns-RunsTo b files turns before runs) one.changes (is_some-reply turned t made.reply) after.published
     (grown-PublishesAtMostOne t.process before.published after.published one.publishes)
     (λ d. (one.sees d).seen)
 

@@ -1,5 +1,6 @@
 -- Turns one after another: each answered call rests on a look at no less than all calls before it in time had seen.
 use Rattle.std.proofs.Common.{◌≡◌, ◌≢◌, ℕ, ◌+◌, ◌*◌, ◌<◌, ◌≤◌, ◌==◌, ◌&&◌, Bool, cond, true, List, [], ◌∷◌, ◌++◌, None, length, get_or, refl, sym, ap, subst, ◌∙◌, arith, inl, inr}
+use Rattle.std.specs.Prelude.{is_some}
 use Rattle.std.proofs.lemmas.Bool.{cases_eq, cases_lt, eq-eqb, ne_eqb}
 use Rattle.std.proofs.lemmas.List.{length_push}
 use Rattle.at_ledger.specs.Book.{BookTerms}
@@ -54,7 +55,7 @@ pass_seen turns callers published are p d within =
 -- one turn more
 module _ (b : BookTerms) (turns : List TurnMade) (t : TurnMade) (turned : Turned) (published : List Publication) (before after : List CallerTerms)
     (were : AreTimedTurns turns before published) (changes : ChangesOne (IsTurned b published turned) t.process before after)
-    (made : t.answered ≡ (answers_in turned == 1)) where
+    (made : is_some t.reply ≡ (answers_in turned == 1)) where
   abbrev all : List TurnMade
   all = turns ++ t ∷ []
 
@@ -83,8 +84,8 @@ module _ (b : BookTerms) (turns : List TurnMade) (t : TurnMade) (turned : Turned
       omega (
         arith,
         answered_by-push t.process turns t,
-        ap {B = ℕ} (λ (x : Bool). cond (x && t.answered) 1 0) (eq-eqb t.process t.process refl),
-        answers-cond turned t.answered made,
+        ap {B = ℕ} (λ (x : Bool). cond (x && is_some t.reply) 1 0) (eq-eqb t.process t.process refl),
+        answers-cond turned (is_some t.reply) made,
       )
 
   answered_by-other : (p : ℕ) → p ≢ t.process → answered_by p all ≡ answered_by p turns
@@ -92,7 +93,7 @@ module _ (b : BookTerms) (turns : List TurnMade) (t : TurnMade) (turned : Turned
       omega (
         arith,
         answered_by-push p turns t,
-        ap {B = ℕ} (λ (x : Bool). cond (x && t.answered) 1 0) (ne_eqb t.process p (λ e. other (sym e))),
+        ap {B = ℕ} (λ (x : Bool). cond (x && is_some t.reply) 1 0) (ne_eqb t.process p (λ e. other (sym e))),
       )
 
   counted-turned : (p : ℕ) (d : CallerTerms) → p < length before → answered_by p all ≡ length (get_or after p d).receipts

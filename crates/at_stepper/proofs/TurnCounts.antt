@@ -1,7 +1,8 @@
 -- Counts of turns: those that a process's turns have answered.
 use Rattle.std.proofs.Common.{◌≡◌, ℕ, ◌+◌, ◌<◌, ◌==◌, ◌&&◌, Bool, cond, List, [], ◌∷◌, ◌++◌, length, sym, ap, arith}
+use Rattle.std.specs.Prelude.{is_some}
 use Rattle.std.proofs.lemmas.List.Sums.{sum_by_push}
-use Rattle.at_stepper.specs.Callers.{answers_in}
+use Rattle.at_stepper.specs.Callers.{answers_in, reply_in}
 use Rattle.at_stepper.specs.Schedules.{answered_by}
 use Rattle.at_stepper.specs.declared.replaying.TurnMade.{TurnMade}
 use Rattle.at_stepper.specs.declared.turned.Turned.{Turned}
@@ -17,7 +18,12 @@ pub answers-cond : (turned : Turned) (answered : Bool) → answered ≡ (answers
 answers-cond Step answered is = sym (ap {B = ℕ} (λ (t : Bool). cond t 1 0) is)
 answers-cond (Answer r) answered is = sym (ap {B = ℕ} (λ (t : Bool). cond t 1 0) is)
 
+-- a turn has a reply where it answers a call
+pub is_some-reply : (turned : Turned) (t : TurnMade) → t.reply ≡ reply_in turned → is_some t.reply ≡ (answers_in turned == 1)
+is_some-reply Step t is = ap is_some is
+is_some-reply (Answer r) t is = ap is_some is
+
 -- one more turn answers a call of its process where it answers, and none of another
 pub answered_by-push : (q : ℕ) (turns : List TurnMade) (t : TurnMade)
-    → answered_by q (turns ++ t ∷ []) ≡ answered_by q turns + cond ((t.process == q) && t.answered) 1 0
-answered_by-push q turns t = sum_by_push (λ (x : TurnMade). cond ((x.process == q) && x.answered) 1 0) turns t
+    → answered_by q (turns ++ t ∷ []) ≡ answered_by q turns + cond ((t.process == q) && is_some t.reply) 1 0
+answered_by-push q turns t = sum_by_push (λ (x : TurnMade). cond ((x.process == q) && is_some x.reply) 1 0) turns t

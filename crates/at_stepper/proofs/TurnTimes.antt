@@ -1,5 +1,6 @@
 -- The turns of each call, with one turn more: a call begins with its first, and ends with its last.
 use Rattle.std.proofs.Common.{◌≡◌, ◌≢◌, ℕ, zero, suc, ◌-◌, ◌<◌, ◌≤◌, ◌==◌, ◌&&◌, Bool, true, false, cond, List, [], ◌∷◌, ◌++◌, filter, length, get_or, slice_index, refl, sym, ap, ◌∙◌, append-nil, arith, inl, inr, zero-add}
+use Rattle.std.specs.Prelude.{is_some}
 use Rattle.std.proofs.Math.Seq.{take-append_seam}
 use Rattle.std.proofs.lemmas.Bool.{and_from, and_left, and_parts, and_right, cases_Bool, cases_eq, cases_lt, eq-eqb, ne_eqb}
 use Rattle.std.proofs.lemmas.List.{get_or_append_left, get_or_push, length_push, take-append-le}
@@ -120,10 +121,10 @@ module _ (turns : List TurnMade) (t : TurnMade) where
   -- it is of each call that is answered with it, and wasn't before
   pub next-answered : (p i : ℕ) → answered_by p turns ≤ i → i < answered_by p (turns ++ t ∷ []) → is_next_of turns t p i ≡ true
   next-answered p i past within =
-      elim (cases_Bool ((t.process == p) && t.answered)) as (λ _. is_next_of turns t p i ≡ true) [
+      elim (cases_Bool ((t.process == p) && is_some t.reply)) as (λ _. is_next_of turns t p i ≡ true) [
         | inl here ↦
-            let one : cond ((t.process == p) && t.answered) 1 0 ≡ 1 = ap {B = ℕ} (λ (b : Bool). cond b 1 0) here in
-            and_from (t.process == p) (answered_by p turns == i) (and_parts (t.process == p) t.answered here).0
+            let one : cond ((t.process == p) && is_some t.reply) 1 0 ≡ 1 = ap {B = ℕ} (λ (b : Bool). cond b 1 0) here in
+            and_from (t.process == p) (answered_by p turns == i) (and_parts (t.process == p) (is_some t.reply) here).0
             (eq-eqb (answered_by p turns) i (omega (arith, past, within, answered_by-push p turns t, one)))
         | inr not ↦ absurd (omega (arith, past, within, answered_by-push p turns t, ap {B = ℕ} (λ (b : Bool). cond b 1 0) not))
       ]

@@ -84,6 +84,11 @@ abbrev pub answers_in : Turned → ℕ
 answers_in Step = 0
 answers_in (Answer r) = 1
 
+-- and the reply of that call
+abbrev pub reply_in : Turned → Option Reply
+reply_in Step = None
+reply_in (Answer r) = Some r.reply
+
 -- between two calls a caller has seen more, and nothing else has changed: it has made nothing
 pub record HasLearned (before after : CallerTerms) : Type 0 where
   pub same : after ≡ record before { pass = after.pass; seat = seat_of after.pass }

@@ -16,18 +16,18 @@ use Rattle.at_log.specs.Receipts.{receipt_at}
 use Rattle.at_log.specs.declared.receipt.At.{At}
 use Rattle.at_log.specs.declared.receipt.At.TheVariants.{Front, Own, Round, Previous}
 use Rattle.at_calling.specs.Calling.{length_loaded, next_step}
-use Rattle.at_stepper.specs.Callers.{CallerTerms, answers_in}
+use Rattle.at_stepper.specs.Callers.{CallerTerms, reply_in}
 use Rattle.at_stepper.specs.Schedules.{AreTurnsOf, answered_by}
 use Rattle.at_stepper.specs.Stepping.{IsNewStepper, IsOver, StepperTerms, TurnsOne}
 use Rattle.at_stepper.specs.declared.replaying.Replayed.{Replayed}
 use Rattle.at_stepper.specs.declared.replaying.TurnMade.{TurnMade}
 use Rattle.at_stepper.specs.declared.turned.Turned.{Turned}
 
--- a turn says what was done: its step, whether it answered a call, and whether it published a record. The other caller stands for one that
--- isn't there
+-- a turn says what was done: its step, the reply of the call that it answered, if it did, and whether it published a record. The other caller
+-- stands for one that isn't there
 pub record IsMadeAs (turned : Turned) (before after : StepperTerms) (t : TurnMade) (one : TurnsOne t.process turned before after) : Type 0 where
   pub step : (other : CallerTerms) → t.step ≡ next_step before.ledger.book (one.changes.here other).stage
-  pub answered : t.answered ≡ (answers_in turned == 1)
+  pub reply : t.reply ≡ reply_in turned
   pub published : length after.published ≡ length before.published + (if t.published then 1 else 0)
 
 -- a new run of these files leads to this one by these turns, one after another
@@ -37,7 +37,7 @@ pub data RunsTo (b : BookTerms) (files : List (List Call)) : List TurnMade → S
       → (one : TurnsOne t.process turned before after) → IsMadeAs turned before after t one → RunsTo b files (turns ++ t ∷ []) after
 
 abbrev pub turn_at : List TurnMade → ℕ → TurnMade
-turn_at turns m = slice_index_or turns m (record { process = 0; step = None; answered = false; published = false })
+turn_at turns m = slice_index_or turns m (record { process = 0; step = None; reply = None; published = false })
 
 -- the turn of a number, from 0, is one of a call: it is of the call's process, after so many answers to it
 abbrev pub is_turn_of : List TurnMade → ℕ → ℕ → ℕ → Bool

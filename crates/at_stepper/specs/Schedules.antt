@@ -1,12 +1,12 @@
 -- The turns of a schedule.
-use Rattle.std.specs.Prelude.{◌≡◌, ℕ, zero, suc, ◌<◌, ◌++◌, ◌==◌, ◌&&◌, List, [], ◌∷◌, count_by, length, slice_index_or}
+use Rattle.std.specs.Prelude.{◌≡◌, ℕ, zero, suc, ◌<◌, ◌++◌, ◌==◌, ◌&&◌, List, [], ◌∷◌, count_by, is_some, length, slice_index_or}
 use Rattle.std.specs.List.{range_with_len}
 use Rattle.at_ledger.specs.declared.call.Call.{Call}
 use Rattle.at_stepper.specs.declared.replaying.TurnMade.{TurnMade}
 
 -- how many turns of a process are answered
 abbrev pub answered_by : ℕ → List TurnMade → ℕ
-answered_by p turns = count_by (λ t. (t.process == p) && t.answered) turns
+answered_by p turns = count_by (λ t. (t.process == p) && is_some t.reply) turns
 
 -- a process is idle after a list of turns where as many of its turns there are answered as it has calls
 abbrev pub IsIdleAfter : List (List Call) → List TurnMade → ℕ → Type 0

@@ -11,17 +11,17 @@ ghost use Rattle.at_stepper.specs.Stepping.{IsOver, all_turns_left, calls_left};
 
 use crate::stepper::Stepper;
 use at_board::BoardStep;
-use at_ledger::{Book, Call, Line};
+use at_ledger::{Book, Call, Line, Reply};
 use at_object::NoMemory;
 use std::alloc::{AllocError, Global};
 
-/// A turn of a process: the step that it made, which is none where its call was answered not-owner or full, whether it answered a call,
-/// and whether it published a record.
+/// A turn of a process: the step that it made, which is none where its call was answered not-owner or full, the reply of the call that it
+/// answered, if it did, and whether it published a record.
 #[derive(Drop)]
 pub struct TurnMade {
     pub process: u32,
     pub step: Option<BoardStep>,
-    pub answered: bool,
+    pub reply: Option<Reply>,
     pub published: bool,
 }
 
@@ -46,6 +46,8 @@ pub fn replay(
     requires schedule { All (λ process. process < book.now.processes) schedule.now }
     ensures replay { IfOk result
         (IsReplayBy book.now (lists_in files.items) schedule.now) }
+    ensures processes { IfOk result
+        (λ r. All (λ t. t.process < book.now.processes) r.turns.items) }
     ensures legal { IfOk result (λ r. Legal book.now r.lines.items) }
     ensures whole { IfOk result (λ r. Whole (lists_in files.items) r.lines.items) }
 {

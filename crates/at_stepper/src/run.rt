@@ -63,12 +63,12 @@ impl Run {
     {
         let step = self.next(process);
         let before = self.callers[process as usize].published();
-        let answered = self.turn(process).is_answer();
+        let reply = self.turn(process).reply();
         let published = before < self.callers[process as usize].published();
         TurnMade {
             process,
             step,
-            answered,
+            reply,
             published,
         }
     }

@@ -22,7 +22,7 @@ fn span_of(turns: &[TurnMade], line: &Line) -> Span {
             span.first = span.first.min(at);
             span.last = at;
         }
-        if turn.process == line.process && turn.answered {
+        if turn.process == line.process && turn.reply.is_some() {
             number = number.saturating_add(1);
         }
     }

@@ -29,7 +29,7 @@ returns-clause-made c =
       turns = turned;
       made = record {
         step = λ other. c.next-step.ensures c.turn.result (stepper_terms after) turned other;
-        answered = c.is_answer-answered.ensures;
+        reply = c.reply-reply.ensures;
         published = length-PublishesAtMostOne p before.overview.seen after.overview.seen (nat_lt c.published-before.result c.published.result) turned.publishes
             (λ same. le-ltb c.published-before.result c.published.result (omega (arith, same, few, more)))
             (λ above. lt-ltb c.published-before.result c.published.result (omega (arith, above, few, more)));
