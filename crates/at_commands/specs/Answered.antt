@@ -17,7 +17,7 @@ use Rattle.at_commands.specs.Delivering.{DeliversSpelled, MayReachBroadcast, Spe
 use Rattle.at_commands.specs.Made.{IsMade, SummarizesRun, made}
 use Rattle.at_commands.specs.Nodes.{Broadcast}
 use Rattle.at_commands.specs.Outcome.{Found, Outcome}
-use Rattle.at_commands.specs.Replaying.{MayReachReplay, Replay as Replayed, ReplaysSpelled, SpellsReplay, replay_loaded}
+use Rattle.at_commands.specs.Replaying.{MayReachReplay, Printing, PrintsReplay, Replay as Replayed, ReportsReplay, SpellsReplay, replay_loaded}
 use Rattle.at_commands.specs.Writing.{TookAll, TookPrefix}
 
 -- `run` and `check`. Under `Done` all bytes that were taken are the text of the command for what was read, which is what the files' bytes
@@ -68,11 +68,11 @@ pub record AnsweredDeliver (asked : Delivering) (s : Found) (o : Outcome) : Type
   pub numbered : HasFurtherNumbers (length asked.messages) o.answer
   pub formed : o.answer ≢ Usage Words
 
--- `replay`. Under `Done` all bytes that were taken are the report of one legal run of the files' calls, each process's once and in file
--- order (`done`). It is refused for the first fault of its files, the schedule last
-pub record AnsweredReplay (asked : Replaying) (s : Found) (o : Outcome) : Type 0 where
-  pub done : o.answer ≡ Done → s.tells ≡ true → o.tells ≡ true → TookAll (ReplaysSpelled s.files asked) o.before o.after
-  pub prefix : o.answer ≡ WriteFault → s.tells ≡ true → o.tells ≡ true → TookPrefix (ReplaysSpelled s.files asked) o.before o.after
+-- A command that plays a schedule. Under `Done` all bytes that were taken are what it prints of the run of the files' calls (`done`). It is
+-- refused for the first fault of its files, the schedule last
+pub record AnsweredTurns (prints : Printing) (asked : Replaying) (s : Found) (o : Outcome) : Type 0 where
+  pub done : o.answer ≡ Done → s.tells ≡ true → o.tells ≡ true → TookAll (PrintsReplay prints s.files asked) o.before o.after
+  pub prefix : o.answer ≡ WriteFault → s.tells ≡ true → o.tells ≡ true → TookPrefix (PrintsReplay prints s.files asked) o.before o.after
   pub loads : s.tells ≡ true → IsWritten o.answer → (r : Replayed) × (replay_loaded s.files asked ≡ Ok r)
   pub complete : (r : Replayed) → s.tells ≡ true → SpellsReplay s.files asked r → IsFaultless s.faults s.faults_now
       → IsFaultless o.faults o.faults_now → (o.answer ≡ Done) ⊎ (o.answer ≡ NoMemory)
@@ -82,6 +82,10 @@ pub record AnsweredReplay (asked : Replaying) (s : Found) (o : Outcome) : Type 0
   pub reached : (file : ℕ) → o.answer ≡ ReadFault file → MayReachReplay s.tells s.files asked file
   pub numbered : HasFurtherNumbers (length asked.payments) o.answer
   pub formed : o.answer ≢ Usage Words
+
+-- `replay`: it prints the report of one legal run of the files' calls, each process's once and in file order
+abbrev pub AnsweredReplay : Replaying → Found → Outcome → Type 0
+AnsweredReplay = AnsweredTurns ReportsReplay
 
 -- `make`, by its three numbers. Under `Done` all bytes that were taken are the text of the numbers (`done`). It is the summary of every legal
 -- run of their calls, whatever its order, and in each of these every transfer is done (`all`)

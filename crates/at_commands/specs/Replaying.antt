@@ -68,12 +68,16 @@ pub record SpellsReplay (files : Files) (asked : Replaying) (r : Replay) : Type 
   pub calls : SpelledOf PaysReplayBytes files asked.book asked.payments r.what
   pub schedule : SpellsSchedule files asked.schedule r.what.book.processes r.schedule
 
--- the text is the report of a run of what the files' bytes spell
-pub record ReplaysSpelled (files : Files) (asked : Replaying) (text : List ℕ) : Type 0 where
+-- what a command prints of a run by a schedule
+abbrev pub Printing : Type 1
+Printing = Replay → List ℕ → Type 0
+
+-- the text is printed so of a run of what the files' bytes spell
+pub record PrintsReplay (prints : Printing) (files : Files) (asked : Replaying) (text : List ℕ) : Type 0 where
   pub replay : Replay
   pub read : replay_loaded files asked ≡ Ok replay
   pub spelled : SpellsReplay files asked replay
-  pub printed : ReportsReplay replay text
+  pub printed : prints replay text
 
 -- the file with this number is the schedule, and where the files are told all others are good
 pub record ReachesSchedule (tells : Bool) (files : Files) (asked : Replaying) (file : ℕ) : Type 0 where

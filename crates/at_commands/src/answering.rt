@@ -10,7 +10,7 @@ ghost use Rattle.at_loading.specs.Words.{IsWithinLimits, asked_shown};
 use crate::agreeing::answer_agree;
 use crate::delivering::answer_deliver;
 use crate::making::answer_make;
-use crate::replaying::answer_replay;
+use crate::replaying::{ReplayReport, answer_turns};
 use crate::running::answer_files;
 use crate::verifying::answer_verify;
 use at_io::{Shelf, Sink, put_all};
@@ -80,7 +80,7 @@ pub fn answer<R: Threads + Sync, F: Shelf, O: Sink, G: Gate + Sync>(
         Some(Asked::Files(form)) => answer_files(rt, alloc, shelf, out, form, gate, kept),
         Some(Asked::Verify(asked)) => answer_verify(alloc, shelf, out, asked),
         Some(Asked::Deliver(asked)) => answer_deliver(alloc, shelf, out, asked),
-        Some(Asked::Replay(asked)) => answer_replay(alloc, shelf, out, asked),
+        Some(Asked::Replay(asked)) => answer_turns::<F, O, ReplayReport>(alloc, shelf, out, asked),
         Some(Asked::Make(making)) => answer_make(rt, alloc, *making, out, gate, kept),
         Some(Asked::Agree(values)) => answer_agree(rt, alloc, values.as_slice(), out, kept),
     }

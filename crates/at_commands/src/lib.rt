@@ -5,7 +5,7 @@
 //! command. Each makes its whole text first, and ends by writing it (`end`). `tell` writes the line of a refusal.
 //!
 //! Whoever adds commands of its own has the same calls: `words_given`, `play`, which runs files, `play_noting`, which
-//! notes what each call cost too, and `end_keeping`.
+//! notes what each call cost too, `end_keeping`, and `answer_turns`, which plays a schedule.
 #![tactic(auto)]
 
 mod agreeing;
@@ -25,3 +25,4 @@ pub use crate::answering::{answer, tell};
 pub use crate::ending::{Printed, end_keeping};
 pub use crate::given::words_given;
 pub use crate::playing::{play, play_noting};
+pub use crate::replaying::{TurnsText, answer_turns};

@@ -1,4 +1,4 @@
-//! What `replay` prints of a run by a schedule.
+//! What is printed of a run by a schedule.
 
 ghost use Rattle.std.specs.Prelude.{◌≡◌, ◌≢◌, ◌+◌, ◌<◌, ◌≤◌, ℕ, All, length, true, None, Ok, Err, IfOk, IfErr, OnOk};
 ghost use Rattle.at_ledger.specs.Files.{IsPlayable, contents_of};
@@ -7,8 +7,8 @@ ghost use Rattle.at_io.specs.Faults.{Rose};
 ghost use Rattle.at_io.specs.Shelf.{SameFiles};
 ghost use Rattle.at_loading.specs.Faults.{HasFurtherNumbers, Kind, MayRefuseOf};
 ghost use Rattle.at_loading.specs.Loading.{loaded_shown};
-ghost use Rattle.at_commands.specs.Answered.{AnsweredReplay};
-ghost use Rattle.at_commands.specs.Replaying.{MayReachReplay, ReplaysSpelled, ReportsReplay, SpellsSchedule, replay_loaded, schedule_loaded};
+ghost use Rattle.at_commands.specs.Answered.{AnsweredTurns};
+ghost use Rattle.at_commands.specs.Replaying.{MayReachReplay, Printing, PrintsReplay, ReportsReplay, SpellsSchedule, replay_loaded, schedule_loaded};
 ghost use Rattle.at_loading.specs.Words.{replaying_shown};
 
 use crate::ending::end;
@@ -60,6 +60,40 @@ fn load_schedule<F: Shelf>(
     }
 }
 
+/// What a command prints of a run by a schedule.
+pub trait TurnsText {
+    // what the text says of what was loaded and of the schedule
+    ghost prints: { Printing };
+
+    /// The text of the run of what was loaded by the schedule.
+    fn text(
+        alloc: Global,
+        loaded: Loaded<Call>,
+        schedule: &[u32],
+    ) -> Result<Vec<u8>, AllocError>
+        requires names { AreNamesOf loaded.book loaded.names }
+        requires count { length loaded.files.items ≡ loaded.book.processes }
+        requires known { All (IsPlayable (length loaded.book.accounts)) (contents_of loaded.files.items) }
+        requires schedule { All (λ process. process < loaded.book.processes) schedule.now }
+        ensures { IfOk result (λ text. prints
+            (record { what = loaded_shown loaded; schedule = schedule.now }) text.items) };
+}
+
+/// The report of `replay`.
+pub struct ReplayReport;
+
+impl TurnsText for ReplayReport {
+    ghost prints = { ReportsReplay };
+
+    fn text(
+        alloc: Global,
+        loaded: Loaded<Call>,
+        schedule: &[u32],
+    ) -> Result<Vec<u8>, AllocError> {
+        replayed_text(alloc, loaded, schedule)
+    }
+}
+
 /// The report of the run of what was loaded by the schedule.
 fn replayed_text(
     alloc: Global,
@@ -79,8 +113,8 @@ fn replayed_text(
     Ok(text)
 }
 
-/// What `replay` prints of the files that the words name, or why it prints nothing. The schedule is fetched last.
-fn replay_text<F: Shelf>(
+/// What is printed of the files that the words name, or why nothing is. The schedule is fetched last.
+fn turns_text<F: Shelf, T: TurnsText>(
     alloc: Global,
     shelf: &mut F,
     asked: &Replaying<'_>,
@@ -91,7 +125,7 @@ fn replay_text<F: Shelf>(
     ensures kept { OnOk result (F.faults shelf.new ≡ F.faults shelf.old) }
     ensures printed { F.tells shelf.old ≡ true
         → IfOk result
-        (λ text. ReplaysSpelled (F.file shelf.old) (replaying_shown asked.now) text.items) }
+        (λ text. PrintsReplay T.prints (F.file shelf.old) (replaying_shown asked.now) text.items) }
     ensures err { IfErr result
         (λ refusal. MayRefuseOf Kind.scheduled (F.tells shelf.old)
         (replay_loaded (F.file shelf.old) (replaying_shown asked.now)) (F.faults shelf.old)
@@ -109,14 +143,14 @@ fn replay_text<F: Shelf>(
         Ok(turns) => turns,
         Err(refusal) => return Err(refusal),
     };
-    match replayed_text(alloc, loaded, turns.as_slice()) {
+    match T::text(alloc, loaded, turns.as_slice()) {
         Ok(text) => Ok(text),
         Err(_) => Err(Status::NoMemory),
     }
 }
 
-/// Does what the words of `replay` ask.
-pub fn answer_replay<F: Shelf, O: Sink>(
+/// Does what the words of a command ask that plays a schedule.
+pub fn answer_turns<F: Shelf, O: Sink, T: TurnsText>(
     alloc: Global,
     shelf: &mut F,
     out: &mut O,
@@ -127,7 +161,7 @@ pub fn answer_replay<F: Shelf, O: Sink>(
     ensures later { (F.faults shelf.old ≤ F.faults shelf.new)
         × (O.faults out.old ≤ O.faults out.new) }
     ensures as_told { O.tells out.new ≡ O.tells out.old }
-    ensures answered { AnsweredReplay (replaying_shown asked.now)
+    ensures answered { AnsweredTurns T.prints (replaying_shown asked.now)
         (record {
           tells = F.tells shelf.old;
           files = F.file shelf.old;
@@ -149,6 +183,6 @@ pub fn answer_replay<F: Shelf, O: Sink>(
         → Rose (O.faults out.old) (O.faults out.new) × (F.faults shelf.new ≡ F.faults shelf.old) }
     ensures untouched { result ≢ Status.Done → result ≢ Status.WriteFault → out.new ≡ out.old }
 {
-    let made = replay_text(alloc, shelf, asked);
+    let made = turns_text::<F, T>(alloc, shelf, asked);
     end(made, out)
 }

@@ -73,7 +73,7 @@ pub returns-in-Some-Replay : goal.returns-in-Some-Replay
 returns-in-Some-Replay g c =
     let is : c.in-Some-Replay.field-0 ≡ Replay c.in-Some-Replay.asked = rw c.in-Some-Replay.is at c.in-Some-Replay.field-0-is in
     let asks = c.in-Some-Replay.is ∙ ap Some is in
-    let left = c.answer_replay.ensures in
+    let left = c.answer_turns.ensures in
     record {
       files = left.files;
       later = left.later;

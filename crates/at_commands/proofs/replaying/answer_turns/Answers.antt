@@ -6,10 +6,10 @@ use Rattle.at_loading.specs.Faults.Kind.{scheduled}
 use Rattle.at_loading.specs.Words.{replaying_shown}
 use Rattle.at_loading.proofs.Laws.Exact.{MayRefuse-exact}
 use Rattle.at_loading.proofs.Laws.MayRefuse.{MayRefuse-loaded}
-use Rattle.at_commands.specs.Replaying.{MayReachReplay, Replay, ReplaysSpelled, replay_loaded}
+use Rattle.at_commands.specs.Replaying.{MayReachReplay, Replay, PrintsReplay, replay_loaded}
 use Rattle.at_commands.proofs.Laws.Replays.{replay_loaded-SpellsReplay}
 use Rattle.at_commands.proofs.Endings.{Ends-faults, Ends-kept, Ends-refusal, LeavesOf-Ends, Refuses-loading}
-use Rattle.at_commands.proofs.replaying.answer_replay.Goals as goal
+use Rattle.at_commands.proofs.replaying.answer_turns.Goals as goal
 
 abbrev text_of : Vec ℕ Global → List ℕ
 text_of p = p.items
@@ -19,13 +19,13 @@ returns g c =
     let tells = g.F.Shelf.tells c.args.shelf.now in
     let files = g.F.Shelf.file c.args.shelf.now in
     let before = g.F.Shelf.faults c.args.shelf.now in
-    let now = g.F.Shelf.faults c.replay_text-made.new.shelf in
+    let now = g.F.Shelf.faults c.turns_text-made.new.shelf in
     let asked = replaying_shown c.args.asked.now in
-    let made = c.replay_text-made.result in
-    let does = c.replay_text-made.ensures in
+    let made = c.turns_text-made.result in
+    let does = c.turns_text-made.ensures in
     let ends = c.end.ensures.ends in
     let never = Refuses-loading scheduled tells (replay_loaded files asked) before now in
-    let left = LeavesOf-Ends text_of (λ text. ReplaysSpelled files asked text) (λ refusal. MayRefuseOf scheduled tells (replay_loaded files asked) before now refusal) (λ file. MayReachReplay tells files asked file) (HasFurtherNumbers (length asked.payments)) tells made _ ends never tt tt (λ told. does.printed told) does.err does.reached
+    let left = LeavesOf-Ends text_of (λ text. PrintsReplay g.T.TurnsText.prints files asked text) (λ refusal. MayRefuseOf scheduled tells (replay_loaded files asked) before now refusal) (λ file. MayReachReplay tells files asked file) (HasFurtherNumbers (length asked.payments)) tells made _ ends never tt tt (λ told. does.printed told) does.err does.reached
     (rw (length-map c.args.asked.now.payments.now string_bytes) does.numbered) in
     let loads : tells ≡ true → IsWritten c.end.result → (l : Replay) × (replay_loaded files asked ≡ Ok l) = λ told written. let spells = (left.printed told written).printed in (spells.replay, spells.read) in
     record {

@@ -5,9 +5,9 @@ use Rattle.at_loading.specs.Faults.Kind.{scheduled}
 use Rattle.at_loading.specs.Loading.{loaded_shown, named_book}
 use Rattle.at_loading.specs.Words.{replaying_shown}
 use Rattle.at_loading.proofs.Laws.MayRefuse.{HasFurtherNumbers-loading, MayRefuse-whole, later-then, made-refused, memory-read_fault, refusal_of}
-use Rattle.at_commands.specs.Replaying.{ReportsReplay, calls_loaded, replay_loaded, schedule_loaded, schedule_number}
+use Rattle.at_commands.specs.Replaying.{calls_loaded, replay_loaded, schedule_loaded, schedule_number}
 use Rattle.at_commands.proofs.Laws.Replays.{IsPlayable-replayed, replay_loaded-refused, replay_loaded-scheduled, replay_loaded-unscheduled}
-use Rattle.at_commands.proofs.replaying.replay_text.Goals as goal
+use Rattle.at_commands.proofs.replaying.turns_text.Goals as goal
 
 pub returns-in-Err : goal.returns-in-Err
 returns-in-Err g c =
@@ -49,12 +49,12 @@ returns-in-Err-load_schedule g c =
       numbered = refused.numbered (length c.args.asked.now.payments.now) (omega (arith, c.processes-processes.ensures, loads.given));
     }
 
-pub replayed_text-requires-clause-known : goal.replayed_text-requires-clause-known
-replayed_text-requires-clause-known g c =
+pub text-requires-clause-known : goal.text-requires-clause-known
+text-requires-clause-known g c =
     IsPlayable-replayed (named_book c.in-Ok.loaded.book c.in-Ok.loaded.names) (contents_of c.in-Ok.loaded.files.items) c.in-Ok.ensures.known
 
-pub returns-in-Ok-replayed_text : goal.returns-in-Ok-replayed_text
-returns-in-Ok-replayed_text g c =
+pub returns-in-Ok-text : goal.returns-in-Ok-text
+returns-in-Ok-text g c =
     let loads = c.in-Ok.ensures in
     let schedules = c.in-Ok-load_schedule.ensures in
     let asked = replaying_shown c.args.asked.now in
@@ -72,8 +72,8 @@ returns-in-Ok-replayed_text g c =
                 (loads.ok told) (schedules.ok now_told);
             spelled = record { calls = loads.spelled told; schedule = rw (loads.files.files, c.processes-processes.ensures) at (schedules.spelled now_told) };
             printed =
-                subst (λ (turns : List ℕ). ReportsReplay (record { what = loaded_shown c.in-Ok.loaded; schedule = turns }) c.in-Ok-replayed_text.text.items)
-                c.as_slice.ensures.value c.in-Ok-replayed_text.ensures;
+                subst (λ (turns : List ℕ). g.T.TurnsText.prints (record { what = loaded_shown c.in-Ok.loaded; schedule = turns }) c.in-Ok-text.text.items)
+                c.as_slice.ensures.value c.in-Ok-text.ensures;
           };
       err = tt;
       reached = λ file is. absurd (made-refused _ _ is);
@@ -94,12 +94,12 @@ returns g c =
       numbered = tt;
     }
 
-pub replayed_text-requires-clause-schedule : goal.replayed_text-requires-clause-schedule
-replayed_text-requires-clause-schedule g c =
+pub text-requires-clause-schedule : goal.text-requires-clause-schedule
+text-requires-clause-schedule g c =
     rw c.as_slice.ensures.value (λ k d within. rw c.processes-processes.ensures at (c.in-Ok-load_schedule.ensures.known k d within))
 
-pub replayed_text-requires-clause-count : goal.replayed_text-requires-clause-count
-replayed_text-requires-clause-count g c = c.in-Ok.ensures.count
+pub text-requires-clause-count : goal.text-requires-clause-count
+text-requires-clause-count g c = c.in-Ok.ensures.count
 
-pub replayed_text-requires-clause-names : goal.replayed_text-requires-clause-names
-replayed_text-requires-clause-names g c = c.in-Ok.ensures.names
+pub text-requires-clause-names : goal.text-requires-clause-names
+text-requires-clause-names g c = c.in-Ok.ensures.names
