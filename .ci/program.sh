@@ -723,7 +723,26 @@ else
     echo 'program.sh: no python3 is on the path, so orders of random files are not tried'
 fi
 
-usage='usage: kinds BOOK PAY... | costs BOOK PAY... | orders BOOK PAY... | ledger BOOK PAY...'
+# The turns of the examples, one by one.
+for folder in "$root"/examples/replay/*/; do
+    example=$(basename "$folder")
+    shows trace "$folder/book.csv" "$folder/schedule.csv" "$folder/pay0.csv" "$folder/pay1.csv"
+    cp "$folder/$example.trace" wanted
+    printed "the turns of $example" wanted
+done
+lines book,1 processes,1 limits,4,1 account,0,100,0 account,1,0, >book.csv
+lines transfer,1,0,5 read,0 >pay.csv
+: >schedule.csv
+shows trace book.csv schedule.csv pay.csv
+lines turn,process,line,step,word,reply 1,0,1,none,,not-owner '2,0,2,load,length 0,' '3,0,2,load,length 0,100' >wanted
+printed 'a turn that makes no step' wanted
+lines 0 1 >schedule.csv
+shows trace book.csv schedule.csv pay.csv
+refused 'a bad schedule for trace' 9 'schedule: line 2: unknown process'
+shows trace book.csv schedule.csv
+refused 'too few files for trace' 2 'files: wanted 1, given 0'
+
+usage='usage: kinds BOOK PAY... | costs BOOK PAY... | orders BOOK PAY... | ledger BOOK PAY... | trace BOOK SCHEDULE PAY...'
 shows --help
 refused 'words of no form for the second program' 2 "$usage"
 shows kinds
@@ -732,6 +751,8 @@ shows costs
 refused 'costs alone' 2 "$usage"
 shows orders
 refused 'orders alone' 2 "$usage"
+shows trace "$usual/book.csv"
+refused 'trace with a book alone' 2 "$usage"
 shows run "$usual/book.csv" "$usual/pay0.csv"
 refused 'words of the first program for the second' 2 "$usage"
 shows kinds "$(printf '\377')"
@@ -758,5 +779,9 @@ for command in kinds costs orders ledger; do
     status=$?
     refused "a full device for $command" 6 'write fault'
 done
+: >empty.csv
+"$showing" trace "$usual/book.csv" empty.csv "$usual/pay0.csv" >/dev/full 2>err
+status=$?
+refused 'a full device for trace' 6 'write fault'
 
 told

@@ -13,7 +13,7 @@ const THREE: &[u8] =
     b"book,2\nprocesses,a,b,c\nlimits,4,4\naccount,pair,60,a b\naccount,all,60,a b c\naccount,none,0,\n";
 
 const USAGE: &str =
-    "usage: kinds BOOK PAY... | costs BOOK PAY... | orders BOOK PAY... | ledger BOOK PAY...\n";
+    "usage: kinds BOOK PAY... | costs BOOK PAY... | orders BOOK PAY... | ledger BOOK PAY... | trace BOOK SCHEDULE PAY...\n";
 
 /// Reads, refused payments and such from an account without owners are counted apart, two accounts of the same owners are one
 /// group, and a set that is part of another is a group of its own.

@@ -1,5 +1,6 @@
 -- What each command leaves: its contract. What is the same for all commands stands at `show_all`.
 use Rattle.std.specs.Prelude.{◌≡◌, ◌≢◌, ◌⊎◌, ℕ, true, false, List, length, Option, Some, None}
+use Rattle.at_commands.specs.Answered.{AnsweredTurns}
 use Rattle.at_commands.specs.Outcome.{Found, Outcome}
 use Rattle.at_commands.specs.Writing.{TookAll, TookPrefix}
 use Rattle.at_loading.specs.Faults.{HasFileNumbers, IsFaultless, IsWritten}
@@ -8,9 +9,10 @@ use Rattle.at_loading.specs.Words.{Form}
 use Rattle.at_report.specs.declared.status.Status.TheVariants.{Done, NoMemory, ReadFault, Usage, WriteFault}
 use Rattle.at_report.specs.declared.status.UsageFault.TheVariants.{Words}
 use Rattle.at_shows.specs.Refused.{AnswersView, Completes, MayRefuseView}
+use Rattle.at_shows.specs.Tracing.{ShowsTrace}
 use Rattle.at_shows.specs.Views.{ShowsRead, is_run}
 use Rattle.at_shows.specs.Words.{Showing}
-use Rattle.at_shows.specs.Words.Showing.{Files}
+use Rattle.at_shows.specs.Words.Showing.{Files, Trace}
 use Rattle.at_shows.specs.declared.words.View.{View}
 
 -- `kinds`, `costs`, `orders` and `ledger`. Under `Done` all bytes that were taken are the text of the view for what was read, which is what the
@@ -31,7 +33,8 @@ pub record AnsweredView (view : View) (form : Form) (s : Found) (o : Outcome) : 
   pub numbered : HasFileNumbers (length form.payments) o.answer
   pub formed : o.answer ≢ Usage Words
 
--- what is left of what words ask to be shown
+-- what is left of what words ask to be shown: `trace` plays its schedule as `replay` does (`AnsweredTurns` of at_commands)
 abbrev pub LeavesShown : Option Showing → Found → Outcome → Type 0
 LeavesShown (Some (Files view form)) s o = AnsweredView view form s o
+LeavesShown (Some (Trace asked)) s o = AnsweredTurns ShowsTrace asked s o
 LeavesShown None s o = o.answer ≡ Usage Words

@@ -1,3 +1,4 @@
+pub mod Tracing
 pub mod Words
 pub mod Usage
 pub mod Views

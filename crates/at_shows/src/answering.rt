@@ -11,9 +11,10 @@ ghost use Rattle.at_shows.specs.Refused.{MayRefuseView};
 ghost use Rattle.at_shows.specs.Views.{ShowsRead, is_run};
 ghost use Rattle.at_shows.specs.Words.{showing_shown};
 
+use crate::tracing::Trace;
 use crate::views::view_shown;
 use crate::words::{Asked, View};
-use at_commands::{Printed, end_keeping};
+use at_commands::{Printed, answer_turns, end_keeping};
 use at_io::{Shelf, Sink};
 use at_loading::{Form, Loaded, load};
 use at_object::Closed;
@@ -144,6 +145,9 @@ pub(crate) fn answer_shown<R: Threads + Sync, F: Shelf, O: Sink, G: Gate + Sync>
 {
     match asked {
         None => Status::Usage(UsageFault::Words),
-        Some(asked) => answer_view(rt, alloc, shelf, out, asked.view, &asked.form, gate, kept),
+        Some(Asked::View { view, form }) => {
+            answer_view(rt, alloc, shelf, out, *view, form, gate, kept)
+        }
+        Some(Asked::Trace(asked)) => answer_turns::<F, O, Trace>(alloc, shelf, out, asked),
     }
 }

@@ -1,5 +1,5 @@
 //! What the second program shows of a book and payments: what needs agreement, what each call of a run cost, which replies
-//! each call has in some order of all calls, and the journal of a run for other programs.
+//! each call has in some order of all calls, the journal of a run for other programs, and what each turn of a run by a schedule did.
 //!
 //! `show_all` does what the words ask, from the bytes of the files to the bytes of the text. What it does with words, files,
 //! streams and refusals is what the first program does, by the same calls.
@@ -7,6 +7,7 @@
 
 mod answering;
 mod showing;
+mod tracing;
 mod views;
 mod words;
 

@@ -2,9 +2,9 @@
 
 ghost use Rattle.std.specs.Prelude.{◌≡◌, option_map};
 ghost use Rattle.at_loading.specs.Words.{words_of};
-ghost use Rattle.at_shows.specs.Words.{showing_of, showing_shown, view_wanted};
+ghost use Rattle.at_shows.specs.Words.{showing_of, showing_shown, trace_wanted, view_wanted};
 
-use at_loading::{Command, Form};
+use at_loading::{Command, Form, Replaying};
 
 /// What is shown of a book and payments.
 #[derive(Clone, Copy, Debug, PartialEq, Eq)]
@@ -19,11 +19,13 @@ pub enum View {
     Ledger,
 }
 
-/// What is asked to be shown: a view of a book and payments, whose files are read as for `check`.
+/// What is asked to be shown.
 #[derive(Clone, Copy)]
-pub struct Asked<'a> {
-    pub view: View,
-    pub form: Form<'a>,
+pub enum Asked<'a> {
+    /// A view of a book and payments, whose files are read as for `check`.
+    View { view: View, form: Form<'a> },
+    /// The turns of a run by a schedule, whose files are read as for `replay`.
+    Trace(Replaying<'a>),
 }
 
 /// What the words after the name of a view ask for.
@@ -38,7 +40,21 @@ fn view_asked(view: View, words: &[String]) -> Option<Asked<'_>>
         book: book.as_str(),
         payments,
     };
-    Some(Asked { view, form })
+    Some(Asked::View { view, form })
+}
+
+/// What the words after `trace` ask for.
+fn trace_asked(words: &[String]) -> Option<Asked<'_>>
+    ensures { option_map showing_shown result ≡ trace_wanted (words_of words.now) }
+{
+    let [book, schedule, payments @ ..] = words else {
+        return None;
+    };
+    Some(Asked::Trace(Replaying {
+        book: book.as_str(),
+        schedule: schedule.as_str(),
+        payments,
+    }))
 }
 
 /// What the words after the program's name ask to be shown, if they have the form of a command. A word is never taken as
@@ -54,6 +70,7 @@ pub fn shown_by(words: &[String]) -> Option<Asked<'_>>
         "costs" => view_asked(View::Costs, words),
         "orders" => view_asked(View::Orders, words),
         "ledger" => view_asked(View::Ledger, words),
+        "trace" => trace_asked(words),
         _ => None,
     }
 }

@@ -1,0 +1,12 @@
+use Rattle.std.proofs.Common.{◌≡◌, ◌++◌, map}
+use Rattle.std.specs.List.{range_with_len}
+use Rattle.at_report.specs.Records.{records_text}
+use Rattle.at_traces.specs.TraceText.{turn_fields}
+use Rattle.at_traces.proofs.CountLaws.{AreCounted}
+use Rattle.at_traces.proofs.text.push_turns.Given as goal
+
+-- the records of the turns so far are there, and the calls that they have answered are counted
+abbrev pub invariant-loop-i : goal.invariant-loop-i
+invariant-loop-i l =
+    (l.out.items ≡ l.initial.out.items ++ records_text (map (turn_fields l.book l.names l.turns) (range_with_len 0 l.i)))
+    × AreCounted l.turns l.i l.answered

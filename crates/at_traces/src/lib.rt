@@ -1,0 +1,11 @@
+//! What each turn of a run by a schedule did: which step it made, of which word of the board, and what the call was answered that
+//! it ended.
+//!
+//! `trace_text` makes the CSV text of them, a record for each turn.
+#![tactic(auto)]
+
+mod addresses;
+mod text;
+
+pub use crate::text::trace_text;
+pub use at_base::NoMemory;
