@@ -1,5 +1,5 @@
 -- Which step a turn of a call makes: just the one that its stage names.
-use Rattle.std.proofs.Common.{◌≡◌, List, refl, ap, subst}
+use Rattle.std.proofs.Common.{List, refl, ap, subst}
 use Rattle.at_ledger.specs.Book.{BookTerms}
 use Rattle.at_history.specs.declared.publication.Publication.{Publication}
 use Rattle.at_board.specs.Knowledge.Seats.{SeatTerms}

@@ -1,5 +1,5 @@
 -- Which step the turns of the machines make: just the one that each names.
-use Rattle.std.proofs.Common.{◌≡◌, ℕ, ◌+◌, ◌<◌, ◌≤◌, List, Option, None, Some, if◌then◌else◌, refl, sym, ap, subst, ◌∙◌, arith, inl, inr}
+use Rattle.std.proofs.Common.{◌≡◌, ℕ, ◌+◌, ◌<◌, ◌≤◌, List, Option, None, Some, if◌then◌else◌, refl, sym, ap, subst, arith, inl, inr}
 use Rattle.std.proofs.lemmas.Bool.{cases_lt, eq-eqb, ne_eqb}
 use Rattle.at_base.specs.Decision.{word_of}
 use Rattle.at_ledger.specs.Book.{BookTerms, HasSlot}
@@ -19,7 +19,7 @@ use Rattle.at_machines.specs.Appending.{AppendingTerms, StoresNextWord, append_s
 use Rattle.at_machines.specs.Asking.{AnnouncesAsked, AskingTerms, StoresNextRequestWord, ask_step, ask_step_in, ask_step_of, request_asked}
 use Rattle.at_machines.specs.CatchingUp.{loads_left, number_left}
 use Rattle.at_machines.specs.CollectingRows.{CollectingRowsTerms, MakesNextLoad}
-use Rattle.at_machines.specs.Deciding.{DecidingTerms, MakesStep, NextOfRound, round_in, step_in_round}
+use Rattle.at_machines.specs.Deciding.{DecidingTerms, MakesStep, NextOfRound, step_in_round}
 use Rattle.at_machines.specs.LoadingRow.{MakesLoadOf, NextRowLoad, row_step}
 use Rattle.at_machines.specs.Looking.{MakesLookLoad, step_at}
 use Rattle.at_machines.specs.Snapping.{MakesLoad, NextLoad, step_in}
