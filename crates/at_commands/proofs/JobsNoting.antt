@@ -17,7 +17,7 @@ use Rattle.at_ledger.specs.Book.{BookTerms, IsBegun}
 use Rattle.at_ledger.specs.declared.call.Call.{Call}
 use Rattle.at_log.specs.Receipts.{lists_in}
 use Rattle.at_object.specs.Closings.{ClosedTerms}
-use Rattle.at_commands.specs.Running.{AreCosts, AreJobsFor, IsClosedAfter, IsPlayedNoting, costs_in, journal_of}
+use Rattle.at_commands.specs.Running.{AreCosts, AreJobsFor, IsClosedAfter, IsPlayed, IsPlayedNoting, costs_in, journal_of}
 use Rattle.at_commands.proofs.JobsRun.{IsPlayed-journal, receipts_in}
 use Rattle.at_workers.specs.Costs.{CostTerms, TakeCalls}
 use Rattle.at_workers.specs.Jobs.{JobTerms, Ran}
@@ -81,14 +81,16 @@ AreCosts-ran ledger files before after jobs ran =
     }
 
 -- the closed ledger's journal is one legal run of the files' calls, whether its lines are made or not
+pub IsPlayed-closed : (b : BookTerms) (files : List (List Call)) (closed : ClosedTerms) → IsBegun b → length files ≡ b.processes
+    → All (IsPlayable (length b.accounts)) files → IsClosedAfter b files closed → IsPlayed b files closed (journal_of closed)
+IsPlayed-closed b files closed begun count known run =
+    let begins : IsBegun closed.book = subst IsBegun (sym run.book_is) begun in
+    IsPlayed-journal b files closed (journal_of closed) run count known refl (Whole-journal_lines closed.book closed.closing run.coherent)
+    (Legal-journal_lines closed.book closed.closing run.coherent begins)
+
 pub IfOk-noting : (b : BookTerms) (files : List (List Call)) (left : Result (ClosedTerms × Vec (Vec CostTerms Global) Global) AllocError) → IsBegun b
     → length files ≡ b.processes → All (IsPlayable (length b.accounts)) files → IfOk left (λ r. IsClosedAfter b files r.0)
     → IfOk left (λ r. AreCosts b r.0.closing.receipts (lists_in r.1.items)) → IfOk left (λ r. IsPlayedNoting b files r.0 (lists_in r.1.items))
 IfOk-noting b files (Ok (closed, costs)) begun count known run costed =
-    let begins : IsBegun closed.book = subst IsBegun (sym run.book_is) begun in
-    record {
-      played = IsPlayed-journal b files closed (journal_of closed) run count known refl (Whole-journal_lines closed.book closed.closing run.coherent)
-          (Legal-journal_lines closed.book closed.closing run.coherent begins);
-      costed = costed;
-    }
+    record { played = IsPlayed-closed b files closed begun count known run; costed = costed }
 IfOk-noting b files (Err refusal) begun count known run costed = tt

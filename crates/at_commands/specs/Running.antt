@@ -1,8 +1,9 @@
 -- Closed ledgers on which files were run.
-use Rattle.std.specs.Prelude.{◌≡◌, ℕ, ◌<◌, Bool, List, [], flat_map, length, map, slice_index_or, sum, All}
+use Rattle.std.specs.Prelude.{◌≡◌, ℕ, ◌^◌, ◌<◌, Bool, List, [], flat_map, length, map, slice_index_or, sum, All}
 use Rattle.std.specs.Option.{is_some, option_to_list}
 use Rattle.at_board.specs.Knowledge.Seats.{BoardTerms}
-use Rattle.at_journal.specs.Calls.{calls_in}
+use Rattle.at_journal.specs.Calls.{AreCallsOf, calls_in, line_at}
+use Rattle.at_journal.specs.declared.keyed.CallAt.{CallAt}
 use Rattle.at_ledger.specs.Book.{BookTerms, total_of}
 use Rattle.at_ledger.specs.Call.{IsLineOn}
 use Rattle.at_ledger.specs.Run.{Legal, Whole, last_state}
@@ -35,6 +36,13 @@ pub record IsPlayed (b : BookTerms) (files : List (List Call)) (closed : ClosedT
   pub legal : Legal b lines
   pub on : All (IsLineOn b.processes (length b.accounts)) lines
   pub total : sum (last_state b lines).balances ≡ total_of b
+
+-- its journal is that of a run of the files' calls, and these are its calls in the order of its lines
+pub record IsPlayedInOrder (b : BookTerms) (files : List (List Call)) (closed : ClosedTerms) (calls : List CallAt) : Type 0 where
+  pub played : IsPlayed b files closed (journal_of closed)
+  pub known : AreCallsOf closed.closing calls
+  pub few : All (λ receipts. length receipts < 2 ^ 32) closed.closing.receipts
+  pub lines_are : map (line_at closed.closing) calls ≡ journal_of closed
 
 -- calls with these receipts and these costs took a new pass of the process, one after another, on a ledger of the book
 pub record TakeNewPass (b : BookTerms) (process : ℕ) (receipts : List Receipt) (costs : List CostTerms) : Type 0 where

@@ -10,6 +10,7 @@
 
 mod agreeing;
 mod answering;
+mod closing_journal;
 mod delivering;
 mod ending;
 mod generating;

@@ -7,10 +7,10 @@ ghost use Rattle.at_ledger.specs.Call.{IsCallOn};
 ghost use Rattle.at_log.specs.Receipts.{calls_of, lists_in};
 ghost use Rattle.at_object.specs.Closings.{AreAccountedFor};
 ghost use Rattle.at_object.specs.Passes.{AreNewPasses, Stands};
-ghost use Rattle.at_commands.specs.Running.{AreCosts, AreJobsFor, IsClosedAfter, IsPlayed, IsPlayedNoting, costs_in};
+ghost use Rattle.at_commands.specs.Running.{AreCosts, AreJobsFor, IsClosedAfter, IsPlayed, IsPlayedInOrder, IsPlayedNoting, costs_in};
 ghost use Rattle.at_workers.specs.Jobs.{JobTerms};
 
-use at_journal::journal;
+use at_journal::{CallAt, journal, journal_calls};
 use at_ledger::{Book, Call, Line};
 use at_log::Receipt;
 use at_object::{Closed, Ledger, NoMemory, Pass};
@@ -182,6 +182,24 @@ pub fn play<R: Threads + Sync, G: Gate + Sync>(
     let (closed, _costs) = closed_after(rt, alloc, book, files, false, gate)?;
     let lines = journal(alloc, closed.book(), closed.closing())?;
     Ok((closed, lines))
+}
+
+/// Makes the calls of each file as `play` does. What is left are the closed ledger, and its calls in the order of its journal.
+pub(crate) fn play_in_order<R: Threads + Sync, G: Gate + Sync>(
+    rt: &R,
+    alloc: Global,
+    book: &Book,
+    files: Vec<Vec<Call>>,
+    gate: &G,
+) -> Result<(Closed, Vec<CallAt>), NoMemory>
+    requires count { length files.items ≡ book.now.processes }
+    requires known { All (IsPlayable (length book.now.accounts)) (contents_of files.items) }
+    ensures { IfOk result (λ r. IsPlayedInOrder book.now (contents_of files.items) r.0 r.1.items) }
+{
+    book.known();
+    let (closed, _costs) = closed_after(rt, alloc, book, files, false, gate)?;
+    let calls = journal_calls(alloc, closed.book(), closed.closing())?;
+    Ok((closed, calls))
 }
 
 /// Makes the calls of each file as `play` does, and notes what each of them costs. What is left are the closed ledger, and the costs

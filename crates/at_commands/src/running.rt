@@ -12,14 +12,15 @@ ghost use Rattle.at_loading.specs.Loading.{MayReach, loaded};
 ghost use Rattle.at_loading.specs.Words.{form_shown};
 ghost use Rattle.at_report.specs.Report.{checked_line};
 
+use crate::closing_journal::ClosingJournal;
 use crate::ending::{Printed, end_keeping};
-use crate::playing::play;
+use crate::playing::play_in_order;
 use at_files::{Names, count_calls};
 use at_io::{Shelf, Sink};
 use at_ledger::{Book, Call};
 use at_loading::{Command, Form, load};
 use at_object::Closed;
-use at_report::{Status, checked_text, report};
+use at_report::{Status, checked_text, journal_report};
 use at_workers::Gate;
 use std::alloc::{AllocError, Global};
 use std::thread::Threads;
@@ -40,8 +41,12 @@ fn run_text<R: Threads + Sync, G: Gate + Sync>(
         (record { book = book.now; names = names.now; files = contents_of files.items })
         p.closed p.text.items) }
 {
-    let (closed, lines) = play(rt, alloc, book, files, gate)?;
-    let text = report(alloc, book, names, lines.as_slice())?;
+    let (closed, calls) = play_in_order(rt, alloc, book, files, gate)?;
+    let journal = ClosingJournal {
+        closing: closed.closing(),
+        calls: calls.as_slice(),
+    };
+    let text = journal_report(alloc, book, names, &journal)?;
     Ok(Printed {
         text,
         closed: Some(closed),

@@ -1,19 +1,27 @@
-use Rattle.std.proofs.Common.{refl}
+use Rattle.std.proofs.Common.{◌≡◌, ap, map, refl, ◌∙◌}
+use Rattle.at_journal.specs.Calls.{line_at}
+use Rattle.at_report.specs.Report.{report_text}
+use Rattle.at_commands.specs.Running.{journal_of}
 use Rattle.at_commands.proofs.running.run_text.Goals as goal
 
-pub report-requires-clause-lines : goal.report-requires-clause-lines
-report-requires-clause-lines g c = rw c.as_slice.ensures.value c.in_ok-closed.ensures.on
+pub journal_report-requires-clause-lines : goal.journal_report-requires-clause-lines
+journal_report-requires-clause-lines g c =
+    let ordered = c.in_ok-closed.ensures in
+    rw (c.closing.ensures.closing, c.as_slice.ensures.value, ordered.lines_are) ordered.played.on
 
 pub returns : goal.returns
 returns g c =
-    let played = c.in_ok-closed.ensures in (
+    let ordered = c.in_ok-closed.ensures in
+    let played = ordered.played in
+    let lines : map (line_at c.closing.result.now) c.as_slice.result.now ≡ journal_of c.in_ok-closed.closed =
+    (λ t. map (line_at (c.closing.ensures.closing t)) (c.as_slice.ensures.value t)) ∙ ordered.lines_are in (
       c.in_ok-closed.closed,
       refl,
       record {
         run = played.run;
-        whole = rw played.lines_are at played.whole;
-        legal = rw played.lines_are at played.legal;
-        total = rw played.lines_are at played.total;
-        printed = rw (c.as_slice.ensures.value, played.lines_are) at c.in_ok-text.ensures.text;
+        whole = played.whole;
+        legal = played.legal;
+        total = played.total;
+        printed = c.in_ok-text.ensures.text ∙ ap (report_text c.args.book.now c.args.names.now) lines;
       },
     )
