@@ -29,7 +29,7 @@ pub struct FinishRefused {
 impl Stepper {
     /// Closes the ledger of a run whose calls are all answered, and answers its journal: each call of the files as a line, in one order
     /// in which the ledger answers each as it was answered. By the turns that led to the run its lines are linearizable, in the sense of
-    /// Herlihy and Wing (TOPLAS 1990). Takes time in proportion to N log N in the number of calls and records.
+    /// Herlihy and Wing (TOPLAS 1990). Takes time in proportion to the number of calls and records.
     pub fn finish(self, alloc: Global) -> Result<Vec<Line>, FinishRefused>
         requires over { IsOver self }
         ensures journal { IfOk result (λ lines. IsJournalOf self lines.items) }
