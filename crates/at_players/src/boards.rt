@@ -257,24 +257,8 @@ fn four_on(alloc: Global, book: &Book) -> Option<Four>
     }
 }
 
-impl Single {
-    /// The end of the board. The memory is taken before the board is taken apart.
-    pub fn close(self, alloc: Global) -> Option<BoardEnd>
-        requires alone { self.board.book.processes ≡ 1 }
-        requires seat { IsFreeSeat self.board 0 self.seat }
-        ensures { IfSome result (λ e. e.book ≡ self.board.book) }
-    {
-        let Ok(mut seats) = Vec::with_capacity(alloc, 1) else {
-            return None;
-        };
-        let Single { board, seat } = self;
-        seats.push_reserved(seat);
-        Some(board.close(seats))
-    }
-}
-
 impl Pair {
-    /// The end of the board.
+    /// The end of the board. The memory is taken before the board is taken apart.
     pub fn close(self, alloc: Global) -> Option<BoardEnd>
         requires two { self.board.book.processes ≡ 2 }
         requires zero { IsFreeSeat self.board 0 self.zero }

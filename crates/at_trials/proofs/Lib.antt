@@ -2,5 +2,4 @@ pub mod Accounts
 pub mod FirstRecord
 pub mod Lists
 pub mod NewReady
-pub mod ObjectCalls
 pub mod OneTarget

@@ -1,4 +1,3 @@
-pub mod ObjectCalls
 pub mod Players
 pub mod SmallFold
 pub mod SmallScan

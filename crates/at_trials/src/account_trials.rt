@@ -1,19 +1,17 @@
-//! What the threads of a crowd do: calls on a shared account, on a single one, and reads.
+//! What the threads of a crowd do: calls on a shared account, and reads.
 
 ghost use Rattle.std.specs.Prelude.{IfSome};
 ghost use Rattle.at_players.specs.SmallBoard.{IsIdle, IsNewFour};
 ghost use Rattle.at_trials.specs.SmallShared.{IsSharer, MayCall};
 
 use crate::fold_trials::new_totals;
-use crate::payers::owns_alone;
 use crate::shared_trials::{begins_sharing, pay_from_shared, read};
 use at_board::{Board, BoardSeat};
 use at_fold::Totals;
-use at_ledger::{Call, Targets};
+use at_ledger::Call;
 use at_log::Receipt;
 use at_players::boards::{Account, Four, new_four};
 use at_players::crowd::wait_for_all;
-use at_single::pay_single;
 use std::alloc::Global;
 use std::sync::atomic::AtomicU64;
 use std::thread::{Threads, join_mut};
@@ -21,8 +19,7 @@ use std::thread::{Threads, join_mut};
 /// How often each thread calls.
 pub(crate) const CALLS: u32 = 512;
 
-/// The accounts: processes 0 and 1 share account 0, nobody owns account 1, and process 2 owns account 2 alone, which it pays from until
-/// it is short.
+/// The accounts: processes 0 and 1 share account 0, nobody owns account 1, and process 2 owns account 2 alone.
 const ACCOUNTS: &[Account] = &[(100, &[0, 1]), (0, &[]), (300, &[2])];
 
 /// The receipts of a thread, up to a call that couldn't be made. What holds them has a call where it drops them.
@@ -60,23 +57,6 @@ pub(crate) fn crowd(alloc: Global) -> Option<Four>
     new_four(alloc, 4096, 1024, ACCOUNTS)
 }
 
-/// Pays 1 from account 2 to account 0, if the seat's process owns it alone and has room for a record.
-fn pay_own(board: &Board, seat: &mut BoardSeat, totals: &mut Totals) -> Option<Receipt>
-    requires caller { MayCall board.now seat.old totals.old }
-    ensures caller { MayCall board.now seat.new totals.new }
-{
-    if !owns_alone(board.book(), seat.process(), 2) {
-        return None;
-    }
-    if board.book().own_room() <= seat.published() {
-        return None;
-    }
-    let targets = Targets::one(0, 1);
-    let (reply, at) = pay_single(board, seat, totals, 2, &targets);
-    let call = Call::Pay { from: 2, targets };
-    Some(Receipt { call, reply, at })
-}
-
 /// Pays 1 from the shared account to account 1, if the seat's process may ask for it.
 fn pay_in_round(board: &Board, seat: &mut BoardSeat, totals: &mut Totals) -> Option<Receipt>
     requires sharer { IsSharer board.now seat.old totals.old }
@@ -105,17 +85,6 @@ fn share_calls(board: &Board, seat: &mut BoardSeat, totals: &mut Totals, receipt
     }
 }
 
-/// Pays from the single account again and again, and keeps the receipts.
-fn own_calls(board: &Board, seat: &mut BoardSeat, totals: &mut Totals, receipts: &mut Receipts)
-    requires caller { MayCall board.now seat.old totals.old }
-{
-    for _call in 0..CALLS {
-        if !receipts.keep(pay_own(board, seat, totals)) {
-            return;
-        }
-    }
-}
-
 /// Reads one account after another, and keeps the receipts.
 fn read_calls(board: &Board, seat: &mut BoardSeat, totals: &mut Totals, receipts: &mut Receipts)
     requires caller { MayCall board.now seat.old totals.old }
@@ -134,18 +103,6 @@ fn pay_shared_often(board: &Board, alloc: Global, seat: &mut BoardSeat) -> Recei
     let mut receipts = Receipts::new(alloc);
     match new_totals(alloc, board) {
         Some(mut totals) => share_calls(board, seat, &mut totals, &mut receipts),
-        None => {}
-    }
-    receipts
-}
-
-/// Pays from the single account beside the other threads.
-fn pay_own_often(board: &Board, alloc: Global, seat: &mut BoardSeat) -> Receipts
-    requires idle { IsIdle board.now seat.old }
-{
-    let mut receipts = Receipts::new(alloc);
-    match new_totals(alloc, board) {
-        Some(mut totals) => own_calls(board, seat, &mut totals, &mut receipts),
         None => {}
     }
     receipts
@@ -176,14 +133,6 @@ pub(crate) fn share_alone(
     pay_shared_often(board, alloc, seat)
 }
 
-/// Pays from the single account once all threads are there.
-fn own_alone(board: &Board, alloc: Global, gate: &AtomicU64, seat: &mut BoardSeat) -> Receipts
-    requires idle { IsIdle board.now seat.old }
-{
-    wait_for_all(gate);
-    pay_own_often(board, alloc, seat)
-}
-
 /// Reads once all threads are there.
 fn read_alone(board: &Board, alloc: Global, gate: &AtomicU64, seat: &mut BoardSeat) -> Receipts
     requires idle { IsIdle board.now seat.old }
@@ -192,8 +141,8 @@ fn read_alone(board: &Board, alloc: Global, gate: &AtomicU64, seat: &mut BoardSe
     read_often(board, alloc, seat)
 }
 
-/// A thread pays from the single account, and another reads.
-pub(crate) fn pay_and_read<R: Threads>(
+/// Two threads read.
+pub(crate) fn both_read<R: Threads>(
     rt: &R,
     board: &Board,
     alloc: Global,
@@ -206,7 +155,7 @@ pub(crate) fn pay_and_read<R: Threads>(
 {
     join_mut(
         rt,
-        &mut || own_alone(board, alloc, gate, one),
+        &mut || read_alone(board, alloc, gate, one),
         &mut || read_alone(board, alloc, gate, other),
     )
 }

@@ -1,18 +1,11 @@
-//! Processes that propose: one after another, and eight at once.
+//! Processes that propose one after another.
 
 ghost use Rattle.std.specs.Prelude.{◌^◌, ◌<◌, All, IfSome};
 ghost use Rattle.at_agree.specs.Council.{IsSize};
 ghost use Rattle.at_agree.specs.Voices.{MayProposeValue};
 
-use at_agree::{Council, Voice, agree};
+use at_agree::{Council, Voice};
 use std::alloc::Global;
-use std::thread::Threads;
-
-/// What eight processes propose.
-const VALUES: &[u64] = &[11, 22, 33, 0, 4_294_967_295, 44, 44, 55];
-
-/// How often eight processes agree.
-const AGREEMENTS: u32 = 50;
 
 /// A voice. What holds one has a call where it drops it, and not the drop of each field; so it is of a `Session`.
 struct Speaker {
@@ -96,24 +89,6 @@ fn all_answer_nine(council: &Council, voices: &mut Vec<Voice>) -> bool
     last_answer(council, voices, 9) == Some(9) && others_answer_nine(council, voices)
 }
 
-/// Whether eight processes agree on one of their values.
-fn agree_once<R: Threads + Sync>(rt: &R, alloc: Global) -> bool {
-    match agree(rt, alloc, VALUES) {
-        Ok(agreed) => VALUES.contains(&agreed.value),
-        Err(_) => false,
-    }
-}
-
-/// Whether they do each time.
-fn agree_always<R: Threads + Sync>(rt: &R, alloc: Global) -> bool {
-    for _agreement in 0..AGREEMENTS {
-        if !agree_once(rt, alloc) {
-            return false;
-        }
-    }
-    true
-}
-
 #[test]
 fn three_voices_in_turn(rt: HostRuntime) {
     let answered = match new_session(rt.alloc(), 3) {
@@ -121,9 +96,4 @@ fn three_voices_in_turn(rt: HostRuntime) {
         None => false,
     };
     assert!(rt; answered);
-}
-
-#[test]
-fn eight_values_fifty_times(rt: HostRuntime) {
-    assert!(rt; agree_always(&rt, rt.alloc()));
 }

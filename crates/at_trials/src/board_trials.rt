@@ -3,13 +3,12 @@
 ghost use Rattle.std.specs.Prelude.{◌≡◌, ◌<◌, ◌≤◌, length, IfSome, IsTrue};
 ghost use Rattle.at_board.specs.Knowledge.Seats.{IsOf};
 ghost use Rattle.at_ledger.specs.Book.{HasSlot, account_of};
-ghost use Rattle.at_players.specs.SmallBoard.{HasWon, IsIdle, IsNewPair, IsNewSingle, new_seat};
+ghost use Rattle.at_players.specs.SmallBoard.{HasWon, IsIdle, IsNewPair, new_seat};
 
 use at_base::{Decision, pack_decision};
 use at_board::{Board, BoardEnd, BoardSeat, pack_targets, unpack_targets};
 use at_ledger::Targets;
-use at_players::boards::{Account, Pair, Single, has_record, new_pair, new_single, slot_on};
-use at_players::records::{may_pay, pay};
+use at_players::boards::{Account, Pair, has_record, new_pair, slot_on};
 use at_players::requests::ask;
 use at_players::rounds::{decide_first, find_first, first_word, publish_round, settle};
 use at_players::words::TO_ACCOUNT_1;
@@ -17,9 +16,6 @@ use std::alloc::Global;
 
 /// Account 0 of both processes, and account 1 of nobody.
 const SHARED: &[Account] = &[(100, &[0, 1]), (0, &[])];
-
-/// Account 0 of the only process, and account 1 of nobody.
-const ALONE: &[Account] = &[(100, &[0]), (0, &[])];
 
 /// Worked words of targets, packed and unpacked.
 #[test]
@@ -129,40 +125,6 @@ fn has_round_twice(end: Option<BoardEnd>) -> bool
 fn a_round_is_published_by_both(rt: HostRuntime) {
     let is_right = match new_pair(rt.alloc(), 65, SHARED) {
         Some(pair) => has_round_twice(end_of_both(rt.alloc(), pair)),
-        None => false,
-    };
-    assert!(rt; is_right);
-}
-
-/// The end of the board of one process, where that has paid.
-fn end_of_single(alloc: Global, mut single: Single) -> Option<BoardEnd>
-    requires { IsNewSingle single }
-    ensures { IfSome result (λ end. end.book.processes ≡ 1) }
-{
-    if may_pay(single.board.book(), single.seat.process()) {
-        pay(&single.board, &mut single.seat);
-        single.close(alloc)
-    } else {
-        None
-    }
-}
-
-/// Whether the closed board of one process has the record of its payment alone.
-fn has_single_payment(end: Option<BoardEnd>) -> bool
-    requires alone { IfSome end (λ end. end.book.processes ≡ 1) }
-{
-    let Some(end) = end else {
-        return false;
-    };
-    let words = [0, TO_ACCOUNT_1, 0, 30, 0, 0, 0, 0];
-    end.length(0) == 1 && has_record(&end, 0, 0, words.as_slice())
-}
-
-/// The only process pays an account without an owner. The closed board has the words of the record.
-#[test]
-fn a_lone_process_pays(rt: HostRuntime) {
-    let is_right = match new_single(rt.alloc(), 65, ALONE) {
-        Some(single) => has_single_payment(end_of_single(rt.alloc(), single)),
         None => false,
     };
     assert!(rt; is_right);

@@ -1,27 +1,15 @@
-//! Calls of any kind on a pass.
+//! Calls on a pass.
 
 ghost use Rattle.std.specs.Prelude.{◌≡◌, ◌++◌, List, [], ◌∷◌, length, IsTrue};
-ghost use Rattle.at_ledger.specs.Call.{AreTargetsOn, IsCallOn};
+ghost use Rattle.at_ledger.specs.Call.{IsCallOn};
 ghost use Rattle.at_log.specs.declared.receipt.Receipt.{Receipt};
 ghost use Rattle.at_object.specs.Passes.{IsPassOf, Stands, one_more_call};
 
-use at_ledger::{Book, Call, Targets};
+use at_ledger::{Book, Call};
 use at_log::Receipt;
 use at_object::{Ledger, Pass};
 
-/// Whether all targets are accounts of the book.
-fn are_on(book: &Book, targets: &Targets) -> bool
-    ensures { IsTrue result → AreTargetsOn (length book.now.accounts) targets.now }
-{
-    for i in 0..targets.len() {
-        if book.accounts() <= targets.to(i) {
-            return false;
-        }
-    }
-    true
-}
-
-/// Whether a call names accounts of the book alone.
+/// Whether a call is no pay-out and names accounts of the book alone.
 pub(crate) fn is_on(book: &Book, call: &Call) -> bool
     ensures { IsTrue result → IsCallOn (length book.now.accounts) call.now }
 {
@@ -32,7 +20,7 @@ pub(crate) fn is_on(book: &Book, call: &Call) -> bool
             amount: _,
         } => *from < book.accounts() && *to < book.accounts(),
         Call::Read { account } => *account < book.accounts(),
-        Call::Pay { from, targets } => *from < book.accounts() && are_on(book, targets),
+        Call::Pay { .. } => false,
     }
 }
 

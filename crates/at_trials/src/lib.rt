@@ -1,6 +1,6 @@
 //! Tests of the crates that share a board, over the players of at_players; of the asset transfer object by its own calls, scenes of
-//! whole calls, four threads at once, and a closing for which there was no memory; of the crate over it that makes
-//! agreements; and of replays by turns. There is nothing else here.
+//! whole calls, and a closing for which there was no memory; of the crate over it that makes agreements; and of replays by turns.
+//! There is nothing else here.
 #![tactic(auto)]
 
 #[cfg(test)]
@@ -18,15 +18,9 @@ mod credit_trials;
 #[cfg(test)]
 mod fold_trials;
 #[cfg(test)]
-mod in_time;
-#[cfg(test)]
 mod late_trials;
 #[cfg(test)]
 mod log_trials;
-#[cfg(test)]
-mod object_calls;
-#[cfg(test)]
-mod object_crowd_trials;
 #[cfg(test)]
 mod object_journals;
 #[cfg(test)]
@@ -46,18 +40,8 @@ mod scan_trials;
 #[cfg(test)]
 mod scenes;
 #[cfg(test)]
-mod schedule_trials;
-#[cfg(test)]
 mod shared_trials;
-#[cfg(test)]
-mod single_trials;
-#[cfg(test)]
-mod small_files;
 #[cfg(test)]
 mod stopping_trials;
 #[cfg(test)]
 mod three_owners_trials;
-#[cfg(test)]
-mod turn_journals;
-#[cfg(test)]
-mod whole_trials;

@@ -4,26 +4,6 @@ use crate::scenes::{Counted, Deed, Place, Row, Scene, plays};
 use at_ledger::Reply;
 use std::alloc::Global;
 
-/// Room for one payment: the second is full, whether it is covered or not.
-const ROOM_OF_ONE: &Scene = &Scene {
-    own_room: 1,
-    request_room: 1,
-    accounts: &[(10, &[0]), (0, &[])],
-    rows: &[
-        Row::Calls(0, Deed::Transfer(0, 1, 1), Reply::Done, Place::Own(0)),
-        Row::Calls(0, Deed::Transfer(0, 1, 1), Reply::Full, Place::Previous),
-        Row::Calls(0, Deed::Transfer(0, 1, 1000), Reply::Full, Place::Previous),
-        Row::Calls(0, Deed::Read(0), Reply::Balance(9), Place::Front(&[1])),
-    ],
-    counted: &[Counted(4, 1, 0)],
-    journal: &[
-        (0, 1, Reply::Done),
-        (0, 2, Reply::Full),
-        (0, 3, Reply::Full),
-        (0, 4, Reply::Balance(9)),
-    ],
-};
-
 /// A short payment from a shared account uses the room for one request.
 const SHORT_USES_ROOM: &Scene = &Scene {
     own_room: 4,
@@ -98,94 +78,6 @@ const WHAT_WAS_TOLD: &Scene = &Scene {
     ],
 };
 
-/// A credit between two rounds of a shared account covers the second.
-const CREDIT_BETWEEN_ROUNDS: &Scene = &Scene {
-    own_room: 4,
-    request_room: 4,
-    accounts: &[(10, &[0, 1]), (100, &[2]), (0, &[])],
-    rows: &[
-        Row::Calls(0, Deed::Transfer(0, 2, 10), Reply::Done, Place::Round(0, 0)),
-        Row::Calls(1, Deed::Transfer(0, 2, 5), Reply::Short, Place::Round(1, 1)),
-        Row::Calls(2, Deed::Transfer(1, 0, 100), Reply::Done, Place::Own(0)),
-        Row::Calls(1, Deed::Transfer(0, 2, 5), Reply::Done, Place::Round(2, 3)),
-        Row::Calls(
-            0,
-            Deed::Read(0),
-            Reply::Balance(95),
-            Place::Front(&[1, 2, 1]),
-        ),
-    ],
-    counted: &[Counted(2, 0, 1), Counted(2, 0, 2), Counted(1, 1, 0)],
-    journal: &[
-        (0, 1, Reply::Done),
-        (1, 1, Reply::Short),
-        (2, 1, Reply::Done),
-        (1, 2, Reply::Done),
-        (0, 2, Reply::Balance(95)),
-    ],
-};
-
-/// The journal follows the payments and not the numbers of the processes.
-const PAID_BACK: &Scene = &Scene {
-    own_room: 4,
-    request_room: 4,
-    accounts: &[(0, &[0]), (10, &[1])],
-    rows: &[
-        Row::Calls(1, Deed::Transfer(1, 0, 10), Reply::Done, Place::Own(0)),
-        Row::Calls(0, Deed::Transfer(0, 1, 10), Reply::Done, Place::Own(0)),
-    ],
-    counted: &[Counted(1, 1, 0), Counted(1, 1, 0)],
-    journal: &[(1, 1, Reply::Done), (0, 1, Reply::Done)],
-};
-
-/// A process pays from an account without an owner, and from that of another.
-const NO_OWNER: &Scene = &Scene {
-    own_room: 4,
-    request_room: 4,
-    accounts: &[(100, &[0]), (0, &[1]), (50, &[])],
-    rows: &[
-        Row::Calls(0, Deed::Transfer(2, 0, 0), Reply::NotOwner, Place::Previous),
-        Row::Calls(0, Deed::Transfer(1, 0, 0), Reply::NotOwner, Place::Previous),
-    ],
-    counted: &[Counted(2, 0, 0), Counted(0, 0, 0)],
-    journal: &[(0, 1, Reply::NotOwner), (0, 2, Reply::NotOwner)],
-};
-
-/// Pay-outs to four targets: one whose sum has more than 64 bits, and one that takes all there is.
-const FOUR_TARGETS: &Scene = &Scene {
-    own_room: 4,
-    request_room: 4,
-    accounts: &[(100, &[0]), (0, &[]), (0, &[])],
-    rows: &[
-        Row::Calls(
-            0,
-            Deed::Pay(
-                0,
-                &[(1, u64::MAX), (2, u64::MAX), (1, u64::MAX), (2, u64::MAX)],
-            ),
-            Reply::Short,
-            Place::Front(&[0]),
-        ),
-        Row::Calls(
-            0,
-            Deed::Pay(0, &[(1, 10), (2, 20), (1, 30), (2, 40)]),
-            Reply::Done,
-            Place::Own(0),
-        ),
-        Row::Calls(0, Deed::Read(0), Reply::Balance(0), Place::Front(&[1])),
-        Row::Calls(0, Deed::Read(1), Reply::Balance(40), Place::Front(&[1])),
-        Row::Calls(0, Deed::Read(2), Reply::Balance(60), Place::Front(&[1])),
-    ],
-    counted: &[Counted(5, 1, 0)],
-    journal: &[
-        (0, 1, Reply::Short),
-        (0, 2, Reply::Done),
-        (0, 3, Reply::Balance(0)),
-        (0, 4, Reply::Balance(40)),
-        (0, 5, Reply::Balance(60)),
-    ],
-};
-
 /// Whether all is as the scene says.
 fn is_played(alloc: Global, scene: &Scene) -> bool {
     plays(alloc, scene) == Some(true)
@@ -198,32 +90,17 @@ fn is_not_refuted(alloc: Global, scene: &Scene) -> bool {
 
 #[test]
 fn room_is_used_up(rt: HostRuntime) {
-    assert!(rt; is_played(rt.alloc(), ROOM_OF_ONE) && is_played(rt.alloc(), SHORT_USES_ROOM));
+    assert!(rt; is_played(rt.alloc(), SHORT_USES_ROOM));
 }
 
 #[test]
 fn owners_agree(rt: HostRuntime) {
-    assert!(rt; is_played(rt.alloc(), TWO_OWNERS) && is_played(rt.alloc(), CREDIT_BETWEEN_ROUNDS));
+    assert!(rt; is_played(rt.alloc(), TWO_OWNERS));
 }
 
 #[test]
 fn what_was_told_is_seen(rt: HostRuntime) {
     assert!(rt; is_played(rt.alloc(), WHAT_WAS_TOLD));
-}
-
-#[test]
-fn journals_follow_payments(rt: HostRuntime) {
-    assert!(rt; is_played(rt.alloc(), PAID_BACK));
-}
-
-#[test]
-fn only_owners_pay(rt: HostRuntime) {
-    assert!(rt; is_played(rt.alloc(), NO_OWNER));
-}
-
-#[test]
-fn four_targets_are_paid(rt: HostRuntime) {
-    assert!(rt; is_played(rt.alloc(), FOUR_TARGETS));
 }
 
 /// With ample memory this is the scene again. With `rt try --test --fail-alloc N` the closing may be refused: then one more call is

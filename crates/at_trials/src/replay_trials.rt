@@ -4,7 +4,6 @@ ghost use Rattle.std.specs.Prelude.{◌≡◌, ◌<◌, All, IfSome, length};
 ghost use Rattle.at_log.specs.Receipts.{lists_in};
 ghost use Rattle.at_stepper.specs.Callers.{IsFile};
 
-use crate::small_files::both_files;
 use at_ledger::{Book, Call, Reply};
 use at_players::boards::{Account, book_of};
 use at_stepper::{Replayed, replay};
@@ -33,6 +32,19 @@ fn two_files(alloc: Global) -> Option<Vec<Vec<Call>>>
     let zero = file_of(alloc, 0, 1, 30)?;
     let one = file_of(alloc, 1, 0, 20)?;
     both_files(alloc, zero, one)
+}
+
+/// Two files as they are handed in.
+fn both_files(alloc: Global, zero: Vec<Call>, one: Vec<Call>) -> Option<Vec<Vec<Call>>>
+    requires zero { IsFile 2 zero.items }
+    requires one { IsFile 2 one.items }
+    ensures count { IfSome result (λ files. length files.items ≡ 2) }
+    ensures known { IfSome result (λ files. All (IsFile 2) (lists_in files.items)) }
+{
+    match Vec::from_array(alloc, [zero, one]) {
+        Ok(files) => Some(files),
+        Err(_) => None,
+    }
 }
 
 /// Whether both payments are done in so many turns, that of this process first.

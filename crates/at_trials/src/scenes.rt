@@ -4,18 +4,17 @@ ghost use Rattle.std.specs.Prelude.{◌≡◌, ◌<◌, All, length};
 ghost use Rattle.at_trials.specs.Players.{AreFew, PlaysOn};
 
 use crate::closings::close_all;
-use crate::object_journals::{are_lines, is_run, journal_of};
+use crate::object_journals::{are_lines, journal_of};
 use crate::players::{Game, Player, new_game};
 use at_base::Counts;
-use at_ledger::{Book, BookBuilder, Call, Line, Reply, TARGETS_MAX, Targets};
+use at_ledger::{Book, BookBuilder, Call, Line, Reply};
 use at_log::At;
 use at_object::{Closed, Ledger};
 use std::alloc::Global;
 
-/// A call: a transfer from an account to another, a pay-out from an account to targets, or a read.
+/// A call: a transfer from an account to another, or a read.
 pub(crate) enum Deed {
     Transfer(u32, u32, u64),
-    Pay(u32, &'static [(u32, u64)]),
     Read(u32),
 }
 
@@ -52,7 +51,7 @@ pub(crate) struct Scene {
 }
 
 /// An account: what it opens with, and its owners.
-pub(crate) type Account = (u64, &'static [u64]);
+type Account = (u64, &'static [u64]);
 
 /// Whether the accounts are added to the book.
 fn are_added(builder: &mut BookBuilder, accounts: &[Account]) -> bool {
@@ -65,7 +64,7 @@ fn are_added(builder: &mut BookBuilder, accounts: &[Account]) -> bool {
 }
 
 /// A book of these accounts.
-pub(crate) fn book_of(
+fn book_of(
     alloc: Global,
     processes: u64,
     own_room: u64,
@@ -82,32 +81,15 @@ pub(crate) fn book_of(
     }
 }
 
-/// These targets, of which there are one to four.
-pub(crate) fn targets_of(pairs: &[(u32, u64)]) -> Option<Targets> {
-    let (first, others) = pairs.split_first()?;
-    let mut targets = Targets::one(first.0, first.1);
-    for (to, amount) in others {
-        if targets.len() as usize == TARGETS_MAX {
-            return None;
-        }
-        targets.push(*to, *amount);
-    }
-    Some(targets)
-}
-
 /// The call that a deed is.
-fn call_of(deed: &Deed) -> Option<Call> {
+fn call_of(deed: &Deed) -> Call {
     match deed {
-        Deed::Transfer(from, to, amount) => Some(Call::Transfer {
+        Deed::Transfer(from, to, amount) => Call::Transfer {
             from: *from,
             to: *to,
             amount: *amount,
-        }),
-        Deed::Pay(from, pairs) => Some(Call::Pay {
-            from: *from,
-            targets: targets_of(pairs)?,
-        }),
-        Deed::Read(account) => Some(Call::Read { account: *account }),
+        },
+        Deed::Read(account) => Call::Read { account: *account },
     }
 }
 
@@ -155,7 +137,7 @@ fn does(
     ensures { All (PlaysOn ledger.now) players.new }
 {
     let (reply, place) = told;
-    let call = call_of(deed)?;
+    let call = call_of(deed);
     players[process].make(ledger, &call)?;
     Some(has_told(&players[process], reply, place))
 }
@@ -229,26 +211,15 @@ fn are_counted(ledger: &Ledger, players: &[Player], counted: &[Counted]) -> bool
     true
 }
 
-/// Whether these lines are as wanted, or so many more, and a run.
-fn are_right(
-    alloc: Global,
-    book: &Book,
-    lines: &[Line],
-    more: usize,
-    wanted: &[(u32, u32, Reply)],
-) -> Option<bool> {
-    let is_wanted = match more {
+/// Whether these lines are as wanted, or so many more.
+fn are_right(lines: &[Line], more: usize, wanted: &[(u32, u32, Reply)]) -> bool {
+    match more {
         0 => are_lines(lines, wanted),
         _ => lines.len() == wanted.len().saturating_add(more),
-    };
-    if is_wanted {
-        is_run(alloc, book, lines)
-    } else {
-        Some(false)
     }
 }
 
-/// Whether a closed ledger's journal is a run that has these lines, or so many more.
+/// Whether a closed ledger's journal has these lines, or so many more.
 fn has_journal(
     alloc: Global,
     closed: &Closed,
@@ -258,7 +229,7 @@ fn has_journal(
     requires { AreFew closed.now.closing.receipts }
 {
     match journal_of(alloc, closed) {
-        Some(lines) => are_right(alloc, closed.book(), lines.as_slice(), more, wanted),
+        Some(lines) => Some(are_right(lines.as_slice(), more, wanted)),
         None => None,
     }
 }

@@ -3,7 +3,7 @@
 ghost use Rattle.std.specs.Prelude.{◌≡◌, ◌<◌};
 ghost use Rattle.at_players.specs.SmallBoard.{IsIdle, IsNewFour};
 
-use crate::account_trials::{CALLS, Receipts, crowd, pay_and_read, share_alone};
+use crate::account_trials::{CALLS, Receipts, both_read, crowd, share_alone};
 use crate::fold_trials::new_totals;
 use crate::shared_trials::asks;
 use at_board::{Board, BoardSeat};
@@ -41,7 +41,7 @@ fn others_call<R: Threads + Sync>(
     join_mut(
         rt,
         &mut || share_alone(board, alloc, gate, one),
-        &mut || pay_and_read(rt, board, alloc, gate, two, three),
+        &mut || both_read(rt, board, alloc, gate, two, three),
     )
 }
 
@@ -60,8 +60,8 @@ fn is_after_the_first_round(receipts: &Receipts) -> bool {
 
 /// Whether each of the others has made all its calls, the first of them after the request that waits.
 fn have_gone_on(told: &(Receipts, (Receipts, Receipts))) -> bool {
-    let (shared, (owned, reads)) = told;
-    are_all(shared) && are_all(owned) && are_all(reads) && is_after_the_first_round(shared)
+    let (shared, (reads, others)) = told;
+    are_all(shared) && are_all(reads) && are_all(others) && is_after_the_first_round(shared)
 }
 
 /// Process 0 stops in the middle of a payment. Then all others make their calls at once, and each of them ends. The request that waits
