@@ -38,6 +38,22 @@ printed 'the report of the example household' verified
 run verify "$household/book.csv" "$household/forged.report" "$household/ann.csv" "$household/bob.csv"
 refused 'a forged report' 12 "$(cat "$household/forged.said")"
 
+# Two processes share an account, the other two have one each, all four share one, and one has no owner. Each makes 60 calls. Of the
+# payments 20, 30 and 30 are from accounts that the process doesn't own, and of each owner's ten requests on a shared account the last
+# two are over the room.
+lines() { printf '%s\n' "$@"; }
+lines book,2 processes,a,b,c,d limits,16,8 'account,pair,100,a b' account,third,100,c account,fourth,100,d 'account,all,60,a b c d' \
+    account,none,0, >book.csv
+awk 'BEGIN {
+    split("pair third fourth all none", name, " ")
+    for (i = 3; i < 60; i += 6)
+        print "transfer,pair,third,3\ntransfer,all,none,2\ntransfer,third,pair,5\nread," name[i % 5 + 1] "\npay,fourth,pair,1,all,2\nread,all"
+}' </dev/null >calls.csv
+name='of all kinds of accounts'
+ran book.csv calls.csv calls.csv calls.csv calls.csv
+[ "$(grep -c ' not-owner$' report)" -eq 80 ] && [ "$(grep -c ' full$' report)" -eq 12 ] && good=yes || good=no
+count "$good" 'that run has all its refusals'
+
 # A schedule fixes the order of the steps, so the report is the same at each run.
 replay=$examples/replay
 for name in overtaken borrowed helping stopped; do
@@ -58,7 +74,6 @@ turns() {
         shift 2
     done >schedule.csv
 }
-lines() { printf '%s\n' "$@"; }
 replayed() {
     cat >wanted
     run replay book.csv schedule.csv pay0.csv pay1.csv "$@"
@@ -283,6 +298,49 @@ total 60
 END
 printed 'a round for 60 which 7 is proposed to later' wanted
 
+# All 1,024 schedules of ten turns after each of four starts. Process 0 pays 8 from an account of 4 that both share, and process 1
+# pays 5 to it, and then reads it. The payment is short where it is first, and covered between the other calls and behind them.
+lines book,1 processes,2 limits,1,1 'account,0,4,0 1' account,1,5,1 >book.csv
+lines transfer,0,1,8 >pay0.csv
+lines transfer,1,0,5 read,0 >pay1.csv
+lines journal\ 3 '0 1 transfer 0 1 8 short' '1 1 transfer 1 0 5 done' '1 2 read 0 9' 'balances 2' '0 9' '1 0' 'total 9' >first
+lines journal\ 3 '1 1 transfer 1 0 5 done' '0 1 transfer 0 1 8 done' '1 2 read 0 1' 'balances 2' '0 1' '1 8' 'total 9' >between
+lines journal\ 3 '1 1 transfer 1 0 5 done' '1 2 read 0 9' '0 1 transfer 0 1 8 done' 'balances 2' '0 1' '1 8' 'total 9' >last
+each_way() {
+    awk '
+        { start = start $0 "\n" }
+        END {
+            for (way = 0; way < 1024; way++) {
+                file = "way" way
+                printf "%s", start >file
+                for (turn = 0; turn < 10; turn++) print int(way / 2 ^ turn) % 2 >file
+                close(file)
+            }
+        }
+    ' schedule.csv
+    for way in way*; do
+        "$program" replay book.csv "$way" pay0.csv pay1.csv || echo "refused: $way"
+    done >ways 2>err
+    cat "$@" ways | awk '/^journal/ { if (one) print one; one = "" } { one = one $0 "/" } END { print one }' | sort | uniq -c | awk '
+        { seen += $1 - 1 }
+        $1 < 2 { seen = -1 }
+        END { exit !(NR == kinds && seen == 1024) }
+    ' kinds=$# - && [ ! -s err ] && good=yes || good=no
+    count "$good" "each way of ten turns after a start, of which $# journals come: $*"
+}
+# The schedules make the first turns of all.
+turns
+each_way first last
+# Process 0 looks beside the turn with which process 1 publishes.
+turns 0 13 1 13
+each_way first last
+# Process 1 reads beside the turn with which process 0 publishes that its payment was short.
+turns 0 30 1 14
+each_way first
+# It reads beside the turn with which process 0 publishes its payment. Process 0 has loaded the record of process 1.
+turns 1 14 0 37
+each_way between last
+
 deliver=$examples/deliver
 run deliver "$deliver/book.csv" "$deliver/order.csv" "$deliver/send0.csv" "$deliver/send1.csv"
 printed 'the example deliver' "$deliver/deliver.nodes"
@@ -299,6 +357,16 @@ printed 'the example agree, of equal values' "$agree/equal.line"
 run agree $(cat "$agree/three.values")
 grep -Fxf "$agree/three.lines" out >one || echo none >one
 printed 'the example agree, of three values' one
+
+# Eight processes agree fifty times on one of their values.
+lines 'agreed 8 11' 'agreed 8 22' 'agreed 8 33' 'agreed 8 0' 'agreed 8 4294967295' 'agreed 8 44' 'agreed 8 55' >values
+time=0
+while [ "$time" -lt 50 ]; do
+    "$program" agree 11 22 33 0 4294967295 44 44 55
+    time=$((time + 1))
+done >agreed 2>err
+[ "$(grep -cxFf values agreed)" -eq 50 ] && [ ! -s err ] && good=yes || good=no
+count "$good" 'eight processes agree fifty times'
 
 # A word is a file's name, whatever it is, and the standard input is never read.
 cp "$usual/pay0.csv" ./-
@@ -662,6 +730,30 @@ b,1,transfer,ab,agreed,done short
 b,2,transfer,ab,agreed,full
 END
 printed 'a room of one request that a short payment uses too' wanted
+
+# The openings are all that is paid, so each payment is done in every order; and with one less they aren't.
+lines book,1 processes,2 limits,4,4 account,0,100,0 account,1,50,1 account,2,0, >book.csv
+lines transfer,0,1,30 read,1 transfer,0,2,70 >pay0.csv
+lines transfer,1,0,20 read,0 transfer,1,2,30 >pay1.csv
+ordered pay0.csv pay1.csv <<END
+0,1,transfer,0,alone,done
+0,2,read,1,read,30 80
+0,3,transfer,0,alone,done
+1,1,transfer,1,alone,done
+1,2,read,0,read,20 120
+1,3,transfer,1,alone,done
+END
+printed 'payments that the openings cover' wanted
+lines book,1 processes,2 limits,4,4 account,0,99,0 account,1,50,1 account,2,0, >book.csv
+ordered pay0.csv pay1.csv <<END
+0,1,transfer,0,alone,done
+0,2,read,1,read,30 80
+0,3,transfer,0,alone,done short
+1,1,transfer,1,alone,done
+1,2,read,0,read,19 119
+1,3,transfer,1,alone,done
+END
+printed 'payments of which the openings cover all but one' wanted
 
 # Whether process 1 can pay depends on process 0, and what processes 2 and 3 are answered depends on process 1.
 lines book,1 processes,4 limits,4,4 account,0,10,0 account,1,0,1 account,2,0,2 account,3,0, >book.csv

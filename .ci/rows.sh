@@ -1,8 +1,9 @@
 #!/bin/sh
-# Worked rows: gives the built program words and small files, and looks at the status and at both streams. It prints a line for each
+# Worked rows: gives the built programs words and small files, and looks at the status and at both streams. It prints a line for each
 # row, and last 'N passed, N failed'.
 #
-#   rows.sh [PROGRAM]             the program is crates/at_program/out/at_program where none is named
+#   rows.sh [PROGRAM [SECOND]]    the programs are crates/at_program/out/at_program and crates/at_showing/out/at_showing where none
+#                                 are named
 
 . "$(dirname -- "$0")/cases.sh"
 
@@ -28,6 +29,11 @@ PAYS_THIRTY|transfer,0,1,30\n
 PAYS_TWENTY_BACK|transfer,1,0,20\n
 PAYS_SIXTY|send,0,1,60,0,0\n
 PAYS_FIFTY_BACK|send,1,0,50,1,0\n
+ALL_OWN|book,1\nprocesses,2\nlimits,1,1\naccount,0,100,0\naccount,1,0,1\naccount,2,50,\naccount,3,50,0 1\n
+PAYER|book,2\nprocesses,ann\nlimits,4,4\naccount,cash,100,ann\naccount,shop,0,\naccount,inn,0,\n
+TWO_OF_NOBODY|book,1\nprocesses,1\nlimits,1,4\naccount,0,100,0\naccount,1,5,\n
+SAME_OWNERS|book,1\nprocesses,2\nlimits,4,4\naccount,0,60,0 1\naccount,1,60,0 1\naccount,2,7,1\n
+PART_OWNERS|book,2\nprocesses,a,b,c\nlimits,4,4\naccount,pair,60,a b\naccount,all,60,a b c\naccount,none,0,\n
 ONES|1\n1\n1\n1\n1\n1\n1\n1\n1\n1\n1\n1\n1\n1\n
 USUAL_REPORT|journal 3\n0 1 transfer 0 1 30 done\n0 2 read 0 70\n0 3 read 1 30\nbalances 2\n0 70\n1 30\ntotal 100\n
 THIRTY_FIRST|journal 2\n0 1 transfer 0 1 30 done\n1 1 transfer 1 0 20 done\nbalances 2\n0 90\n1 110\ntotal 200\n
@@ -39,6 +45,9 @@ EIGHT|made 7 8 1000\ndone 5959\nread 2041\nbalances 9\n0 104854\n1 106530\n2 111
 END
 cat >USAGE <<'END'
 usage: run BOOK PAY... | check BOOK PAY... | make NUMBER PROCESSES CALLS | replay BOOK SCHEDULE PAY... | agree VALUE... | deliver BOOK ORDER MSG... | verify BOOK REPORT PAY...
+END
+cat >SECOND_USAGE <<'END'
+usage: kinds BOOK PAY... | costs BOOK PAY... | orders BOOK PAY... | ledger BOOK PAY...
 END
 
 # A content or a text: what has this name, or what printf makes of it.
@@ -58,12 +67,13 @@ files() {
     done
 }
 # The rows of a table: the words, the status, the text, and the contents of the files. The text is all of the output where all is
-# done, and else all of the error output.
+# done, and else all of the error output. `with` says by which program.
+with=run
 answered() {
     while IFS='|' read -r words wanted text book first second third; do
         files "$book" "$first" "$second" "$third"
         put "$text" >wanted
-        run $words
+        $with $words
         if [ "$wanted" -eq 0 ]; then
             printed "$words: $text" wanted
         else
@@ -88,6 +98,7 @@ run book 0 1|0|journal 2\n0 1 transfer 2 0 0 not-owner\n0 2 transfer 1 0 0 not-o
 run book 0 0|0|journal 2\n0 1 read 0 100\n1 1 read 0 100\nbalances 3\n0 100\n1 0\n2 50\ntotal 150\n|TWO|read,0\n
 check book 0 1|0|checked 2 3 3\n|TWO|read,0\n|read,1\nread,2\n
 run book 0 1|0|journal 2\nann 1 pay ann-cash shop 30 joint 20 done\nann 2 read shop 30\nbalances 3\nann-cash 50\njoint 70\nshop 30\ntotal 150\n|NAMED|pay,ann-cash,shop,30,joint,20\nread,shop\n|EMPTY
+run book 0|0|journal 2\nann 1 pay cash shop 18446744073709551615 inn 18446744073709551615 shop 18446744073709551615 inn 18446744073709551615 short\nann 2 pay cash shop 10 inn 20 shop 30 inn 40 done\nbalances 3\ncash 0\nshop 40\ninn 60\ntotal 100\n|PAYER|pay,cash,shop,18446744073709551615,inn,18446744073709551615,shop,18446744073709551615,inn,18446744073709551615\npay,cash,shop,10,inn,20,shop,30,inn,40\n
 END
 
 # Each cause of a book's fault but that of too many accounts.
@@ -177,12 +188,24 @@ verify book 1 0|5|read fault: file 2\n|ONE|EMPTY
 verify book 1 0|4|payments 0: line 1: unknown account\n|ONE|read,9\n
 END
 
-# A message before the one that it needs, one that its `deps` don't cover, and deliveries that are repeated. The messages are read
-# in process order, and before the deliveries.
+# A message before the one that it needs, one that its `deps` don't cover, and deliveries that are repeated. Then one that its `deps`
+# just cover, one without the one that it needs, a second number before the first; sources without an owner, with two, and of another
+# process; messages that wait for each other; and `deps` without a credit that was spent, and with it. The messages are read in process
+# order, and before the deliveries.
 answered <<'END'
 deliver book 2 0 1|0|TWO_NODES|EACH_SENDS|PAYS_SIXTY|PAYS_FIFTY_BACK|0,1,0\n0,0,0\n1,1,0\n
 deliver book 2 0 1|0|TWO_NODES|EACH_SENDS|send,0,1,60,0,0\nsend,0,1,41,1,0\n|PAYS_FIFTY_BACK|0,1,0\n0,0,0\n1,1,0\n0,0,1\n
 deliver book 2 0 1|0|TWO_NODES|EACH_SENDS|PAYS_SIXTY|PAYS_FIFTY_BACK|0,1,0\n0,1,0\n0,0,0\n1,1,0\n0,0,0\n
+deliver book 2 0 1|0|node 0\nvalidated 1 1\n0 90\n1 10\n2 50\n3 50\ntotal 200\nnode 1\nvalidated 0 0\n0 100\n1 0\n2 50\n3 50\ntotal 200\n|ALL_OWN|send,0,1,60,0,0\nsend,0,1,41,1,0\n|send,1,0,50,1,0\n|0,1,0\n0,0,0\n0,0,1\n
+deliver book 2 0 1|0|node 0\nvalidated 2 1\n0 50\n1 50\n2 50\n3 50\ntotal 200\nnode 1\nvalidated 0 0\n0 100\n1 0\n2 50\n3 50\ntotal 200\n|ALL_OWN|send,0,1,60,0,0\nsend,0,1,40,1,0\n|send,1,0,50,1,0\n|0,1,0\n0,0,0\n0,0,1\n
+deliver book 2 0 1|0|node 0\nvalidated 0 0\n0 100\n1 0\n2 50\n3 50\ntotal 200\nnode 1\nvalidated 0 0\n0 100\n1 0\n2 50\n3 50\ntotal 200\n|ALL_OWN|EMPTY|send,1,0,50,1,0\n|0,1,0\n
+deliver book 2 0 1|0|node 0\nvalidated 2 0\n0 39\n1 61\n2 50\n3 50\ntotal 200\nnode 1\nvalidated 0 0\n0 100\n1 0\n2 50\n3 50\ntotal 200\n|ALL_OWN|send,0,1,60,0,0\nsend,0,1,1,1,0\n|EMPTY|0,0,1\n0,0,0\n
+deliver book 2 0 1|0|node 0\nvalidated 0 0\n0 100\n1 0\n2 50\n3 50\ntotal 200\nnode 1\nvalidated 0 0\n0 100\n1 0\n2 50\n3 50\ntotal 200\n|ALL_OWN|send,2,0,1,0,0\nsend,0,1,1,1,0\n|EMPTY|0,0,0\n0,0,1\n
+deliver book 2 0 1|0|node 0\nvalidated 0 0\n0 100\n1 0\n2 50\n3 50\ntotal 200\nnode 1\nvalidated 0 0\n0 100\n1 0\n2 50\n3 50\ntotal 200\n|ALL_OWN|send,3,0,1,0,0\nsend,0,1,1,1,0\n|EMPTY|0,0,0\n0,0,1\n
+deliver book 2 0 1|0|node 0\nvalidated 0 0\n0 100\n1 0\n2 50\n3 50\ntotal 200\nnode 1\nvalidated 0 0\n0 100\n1 0\n2 50\n3 50\ntotal 200\n|ALL_OWN|EMPTY|send,0,1,1,0,0\n|0,1,0\n
+deliver book 2 0 1|0|node 0\nvalidated 0 0\n0 100\n1 0\n2 50\n3 50\ntotal 200\nnode 1\nvalidated 0 0\n0 100\n1 0\n2 50\n3 50\ntotal 200\n|ALL_OWN|send,0,1,1,0,1\n|send,1,0,0,1,0\n|0,0,0\n0,1,0\n
+deliver book 2 0 1|0|node 0\nvalidated 2 1\n0 50\n1 0\n2 100\n3 50\ntotal 200\nnode 1\nvalidated 0 0\n0 100\n1 0\n2 50\n3 50\ntotal 200\n|ALL_OWN|send,0,1,100,0,0\nsend,0,2,50,1,1\nsend,0,1,0,2,0\n|send,1,0,100,1,0\n|0,0,0\n0,1,0\n0,0,1\n0,0,2\n
+deliver book 2 0 1|0|node 0\nvalidated 3 1\n0 50\n1 0\n2 100\n3 50\ntotal 200\nnode 1\nvalidated 0 0\n0 100\n1 0\n2 50\n3 50\ntotal 200\n|ALL_OWN|send,0,1,100,0,0\nsend,0,2,50,1,1\nsend,0,1,0,2,1\n|send,1,0,100,1,0\n|0,0,0\n0,1,0\n0,0,1\n0,0,2\n
 deliver|2|USAGE
 deliver book|2|USAGE|ONE
 deliver book 0|2|files: wanted 1, given 0\n|ONE|EMPTY
@@ -229,6 +252,46 @@ done <<'END'
 run book 0 1 2|verify book report 0 1 2|verified 7\n|\nbalances 5\n0 562450\n1 127551\n2 4999\n3 140000\n4 160000\ntotal 995000\n|REALISTIC|transfer,0,1,12550\ntransfer,3,4,80000\nread,3\n|transfer,1,2,4999\ntransfer,3,4,80000\n|transfer,2,0,75000\nread,2\n
 run book 0 1|verify book report 0 1|verified 5\n|\nbalances 4\nann-cash 500\nbob-cash 240\njoint 0\nshop 180\ntotal 920\n|HOUSEHOLD|pay,joint,shop,180,bob-cash,70\npay,ann-cash,shop,450,joint,100\nread,joint\n|pay,shop,joint,1\ntransfer,joint,bob-cash,50\n
 END
+
+# The second program. Reads, refused payments and such from an account without owners are counted apart, two accounts of the same
+# owners are one group, and a set that is part of another is a group of its own.
+with=shows
+answered <<'END'
+kinds book 0|0|payments 3\nrefused 1\nalone 2\nagreed 0\naccounts 2\n0 alone 2 0\n1 nobody 0\ngroups 0\n|TWO_OF_NOBODY|transfer,0,1,30\nread,0\ntransfer,1,0,1\ntransfer,0,0,900\n
+kinds book 0|0|payments 0\nrefused 0\nalone 0\nagreed 0\naccounts 2\n0 alone 0 0\n1 nobody 0\ngroups 0\n|TWO_OF_NOBODY|EMPTY
+kinds book 0 1|0|payments 5\nrefused 1\nalone 1\nagreed 3\naccounts 3\n0 shared 1 0 1\n1 shared 2 0 1\n2 alone 1 1\ngroups 1\n3 0 1\n|SAME_OWNERS|transfer,0,1,1\ntransfer,1,0,1\ntransfer,2,0,1\n|transfer,1,2,1\ntransfer,2,0,1\nread,2\n
+kinds book 0 1 2|0|payments 5\nrefused 1\nalone 0\nagreed 4\naccounts 3\npair shared 1 a b\nall shared 3 a b c\nnone nobody 0\ngroups 2\n3 a b c\n1 a b\n|PART_OWNERS|pay,pair,all,1,none,2\ntransfer,all,none,1\n|transfer,all,pair,5\n|transfer,pair,all,5\ntransfer,all,none,1\nread,all\n
+END
+
+# Two owners of whom one alone can pay, a payment that is short unless a credit comes first, and the one after it, which finds the
+# room used up where the first was done.
+answered <<'END'
+orders book 0|0|process,line,call,account,kind,replies\n0,1,transfer,0,alone,done\n0,2,read,0,read,70\n0,3,transfer,0,alone,full\n0,4,transfer,1,refused,not-owner\n0,5,transfer,0,alone,full\n|TWO_OF_NOBODY|transfer,0,1,30\nread,0\ntransfer,0,1,80\ntransfer,1,0,1\ntransfer,0,1,1\n
+orders book 0 1|0|process,line,call,account,kind,replies\na,1,pay,ab,agreed,done short\na,2,transfer,ab,agreed,full\nb,1,transfer,ab,agreed,done short\nb,2,transfer,b,alone,done\nb,3,read,ab,read,40 100\n|book,2\nprocesses,a,b\nlimits,1,1\naccount,ab,100,a b\naccount,b,0,b\n|pay,ab,b,60,ab,5\ntransfer,ab,b,1\n|transfer,ab,b,60\ntransfer,b,ab,60\nread,ab\n
+orders book 0 1|0|process,line,call,account,kind,replies\n0,1,transfer,0,alone,done short\n0,2,transfer,0,alone,done short full\n1,1,transfer,1,alone,done\n|book,1\nprocesses,2\nlimits,1,1\naccount,0,10,0\naccount,1,50,1\n|transfer,0,1,30\ntransfer,0,1,30\n|transfer,1,0,20\n
+END
+
+# One process runs alone, so the order is fixed.
+answered <<'END'
+ledger book 0|0|1970-01-01 openings\n    account:0  100\n    account:1  5\n    equity:openings\n\n1970-01-01 0 1 transfer\n    account:0  -30\n    account:1  30\n\n1970-01-01 0 2 read\n    account:0  0 = 70\n\n; 0 3 transfer 0 1 80 full\n\n; 0 4 transfer 1 0 1 not-owner\n\n; 0 5 transfer 0 1 1 full\n|TWO_OF_NOBODY|transfer,0,1,30\nread,0\ntransfer,0,1,80\ntransfer,1,0,1\ntransfer,0,1,1\n
+ledger book 0|0|1970-01-01 openings\n    account:cash  50\n    account:shop  0\n    equity:openings\n\n1970-01-01 ann 1 pay\n    account:cash  -26\n    account:shop  20\n    account:cash  5\n    account:shop  1\n\n; ann 2 transfer cash shop 90 short\n\n1970-01-01 ann 3 read\n    account:shop  0 = 21\n|book,2\nprocesses,ann\nlimits,4,4\naccount,cash,50,ann\naccount,shop,0,\n|pay,cash,shop,20,cash,5,shop,1\ntransfer,cash,shop,90\nread,shop\n
+ledger book 0|0|1970-01-01 openings\n    account:0  100\n    account:1  5\n    equity:openings\n|TWO_OF_NOBODY|EMPTY
+END
+answered <<'END'
+|2|SECOND_USAGE|TWO_OF_NOBODY
+kinds|2|SECOND_USAGE|TWO_OF_NOBODY
+orders|2|SECOND_USAGE|TWO_OF_NOBODY
+ledger|2|SECOND_USAGE|TWO_OF_NOBODY
+--help|2|SECOND_USAGE|TWO_OF_NOBODY
+run book 0|2|SECOND_USAGE|TWO_OF_NOBODY|EMPTY
+Kinds book 0|2|SECOND_USAGE|TWO_OF_NOBODY|EMPTY
+kinds book|2|files: wanted 1, given 0\n|TWO_OF_NOBODY
+ledger book 0 0|2|files: wanted 1, given 2\n|TWO_OF_NOBODY|EMPTY
+kinds 0 0|3|book: line 1: shape\n|TWO_OF_NOBODY|EMPTY
+ledger book 0|4|payments 0: line 2: shape\n|TWO_OF_NOBODY|read,0\npay,0,1,1\n
+kinds book 1|5|read fault: file 1\n|TWO_OF_NOBODY|EMPTY
+END
+with=run
 
 # The longest file is read. For a replay a file is longest by its calls.
 files ONE
