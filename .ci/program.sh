@@ -327,6 +327,26 @@ each_way() {
         END { exit !(NR == kinds && seen == 1024) }
     ' kinds=$# - && [ ! -s err ] && good=yes || good=no
     count "$good" "each way of ten turns after a start, of which $# journals come: $*"
+    for way in way*; do
+        "$showing" trace book.csv "$way" pay0.csv pay1.csv
+    done >traces 2>err
+    awk -F '[, ]' '
+        # The first and the last turn of each call, by the turns alone.
+        FNR == NR && /^turn,/ { way++; next }
+        FNR == NR { call = way SUBSEP $2 SUBSEP $3; if (!(call in first)) first[call] = $1; last[call] = $1; next }
+        # No line stands behind one whose call began after its own had ended, but where neither moved anything.
+        /^journal/ { run++; lines = 0; listed = 1; next }
+        /^balances/ {
+            for (i = 1; i < lines; i++)
+                for (j = i + 1; j <= lines; j++)
+                    if ((done[i] || done[j]) && first[line[i]] + 0 > last[line[j]] + 0) late++
+            listed = 0
+            next
+        }
+        listed { lines++; line[lines] = run SUBSEP $1 SUBSEP $2; done[lines] = $NF == "done" }
+        END { exit !(way == 1024 && run == 1024 && late == 0) }
+    ' traces ways && [ ! -s err ] && good=yes || good=no
+    count "$good" "the journals of these ways keep the time of their turns: $*"
 }
 # The schedules make the first turns of all.
 turns

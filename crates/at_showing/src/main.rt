@@ -1,13 +1,8 @@
 //! The second program: shows of a book and payments what needs agreement, what each call of a run cost and which replies each
-//! call has in some order, and prints the journal of a run for other programs.
+//! call has in some order and what each turn of a run by a schedule did, and prints the journal of a run for other programs.
 //!
 //! `show_all` of `at_shows` does it all, over any shelf and sinks; here it has the real ones.
 #![tactic(auto)]
-
-#[cfg(test)]
-mod test_rows;
-#[cfg(test)]
-mod tests;
 
 use at_commands::words_given;
 use at_io::{DirShelf, StdSink};
