@@ -11,7 +11,7 @@ returns-in-Some-View g c =
       files = left.files;
       later = left.later;
       as_told = left.as_told;
-      unread = λ none. absurd (rw asks at none);
+      unread = λ none. let wrong = rw asks at none in absurd (cc);
       answered = rw asks left.answered;
       done_kept = left.done_kept;
       write_fault = left.write_fault;
@@ -27,7 +27,7 @@ returns-in-Some-Trace g c =
       files = left.files;
       later = left.later;
       as_told = left.as_told;
-      unread = λ none. absurd (rw asks at none);
+      unread = λ none. let wrong = rw asks at none in absurd (cc);
       answered = rw (asks, c.requires) left.answered;
       done_kept = left.done_kept;
       write_fault = left.write_fault;
