@@ -66,11 +66,7 @@ pub trait TurnsText {
     ghost prints: { Printing };
 
     /// The text of the run of what was loaded by the schedule.
-    fn text(
-        alloc: Global,
-        loaded: Loaded<Call>,
-        schedule: &[u32],
-    ) -> Result<Vec<u8>, AllocError>
+    fn text(alloc: Global, loaded: Loaded<Call>, schedule: &[u32]) -> Result<Vec<u8>, AllocError>
         requires names { AreNamesOf loaded.book loaded.names }
         requires count { length loaded.files.items ≡ loaded.book.processes }
         requires known { All (IsPlayable (length loaded.book.accounts)) (contents_of loaded.files.items) }
@@ -85,11 +81,7 @@ pub struct ReplayReport;
 impl TurnsText for ReplayReport {
     ghost prints = { ReportsReplay };
 
-    fn text(
-        alloc: Global,
-        loaded: Loaded<Call>,
-        schedule: &[u32],
-    ) -> Result<Vec<u8>, AllocError> {
+    fn text(alloc: Global, loaded: Loaded<Call>, schedule: &[u32]) -> Result<Vec<u8>, AllocError> {
         replayed_text(alloc, loaded, schedule)
     }
 }

@@ -19,21 +19,13 @@ pub(crate) struct Trace;
 impl TurnsText for Trace {
     ghost prints = { ShowsTrace };
 
-    fn text(
-        alloc: Global,
-        loaded: Loaded<Call>,
-        schedule: &[u32],
-    ) -> Result<Vec<u8>, AllocError> {
+    fn text(alloc: Global, loaded: Loaded<Call>, schedule: &[u32]) -> Result<Vec<u8>, AllocError> {
         traced_text(alloc, loaded, schedule)
     }
 }
 
 /// What each turn did of the run of what was loaded by the schedule.
-fn traced_text(
-    alloc: Global,
-    loaded: Loaded<Call>,
-    schedule: &[u32],
-) -> Result<Vec<u8>, AllocError>
+fn traced_text(alloc: Global, loaded: Loaded<Call>, schedule: &[u32]) -> Result<Vec<u8>, AllocError>
     requires names { AreNamesOf loaded.book loaded.names }
     requires count { length loaded.files.items ≡ loaded.book.processes }
     requires known { All (IsPlayable (length loaded.book.accounts)) (contents_of loaded.files.items) }
