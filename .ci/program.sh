@@ -318,7 +318,7 @@ each_way() {
             }
         }
     ' schedule.csv
-    for way in way*; do
+    for way in way[0-9]*; do
         "$program" replay book.csv "$way" pay0.csv pay1.csv || echo "refused: $way"
     done >ways 2>err
     cat "$@" ways | awk '/^journal/ { if (one) print one; one = "" } { one = one $0 "/" } END { print one }' | sort | uniq -c | awk '
@@ -327,7 +327,7 @@ each_way() {
         END { exit !(NR == kinds && seen == 1024) }
     ' kinds=$# - && [ ! -s err ] && good=yes || good=no
     count "$good" "each way of ten turns after a start, of which $# journals come: $*"
-    for way in way*; do
+    for way in way[0-9]*; do
         "$showing" trace book.csv "$way" pay0.csv pay1.csv
     done >traces 2>err
     awk -F '[, ]' '
