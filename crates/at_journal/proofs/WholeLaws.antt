@@ -12,8 +12,9 @@ use Rattle.at_ledger.specs.declared.call.Call.{Call}
 use Rattle.at_ledger.specs.declared.call.Line.{Line}
 use Rattle.at_log.specs.ClosingTerms.{ClosingTerms, log_lengths, receipts_of}
 use Rattle.at_log.specs.Coherent.{Coherent}
-use Rattle.at_log.specs.JournalOrder.{journal_lines, line_key, process_lines_at}
-use Rattle.at_log.specs.Receipts.{calls_of}
+use Rattle.at_log.specs.JournalOrder.{journal_lines, line_key, line_of, process_lines_at}
+use Rattle.at_log.specs.Receipts.{calls_of, receipt_at}
+use Rattle.at_log.specs.declared.receipt.Receipt.{Receipt}
 use Rattle.at_log.proofs.Laws.Buckets.{flat_map-buckets}
 use Rattle.at_log.proofs.Laws.Order.{All-flat_map, filter-first, flat_map-values}
 use Rattle.at_journal.proofs.JournalRuns.{length-journal_order}
@@ -68,6 +69,23 @@ lines_of-journal_lines b c p coherent known =
     (λ i within. lt-ltb (key i) limit (omega (arith, line_key-le b c p i coherent known (omega (arith, within)), length-journal_order c)))
     (λ i beyond within. absurd (omega (arith, beyond, within))))))
 
+-- what is read off the lines of a process is what is read off its receipts. The other value stands for that of a line that isn't there
+pub map-lines_of : {X : Type 0} (of_line : Line → X) (of_receipt : Receipt → X) (e : X) (b : BookTerms) (c : ClosingTerms) (p : ℕ)
+    → ((i : ℕ) (r : Receipt) → of_line (line_of p i r) ≡ of_receipt r) → Coherent b c → p < b.processes
+    → map of_line (lines_of p (journal_lines c)) ≡ map of_receipt (receipts_of c p)
+map-lines_of of_line of_receipt e b c p same coherent known =
+    let receipts = receipts_of c p in
+    let count = length receipts in
+    let lines = map (line c p) (range_with_len 0 count) in
+    ap (map of_line) (lines_of-journal_lines b c p coherent known)
+    ∙ ext_get_or e (map of_line lines) (map of_receipt receipts)
+    (length-map lines of_line ∙ (length-map-range_with_len (line c p) 0 count ∙ sym (length-map receipts of_receipt)))
+    (λ i inside.
+    let here : i < count = omega (arith, inside, length-map lines of_line, length-map-range_with_len (line c p) 0 count) in
+    get_or-map of_line lines i (line c p 0) e (omega (arith, here, length-map-range_with_len (line c p) 0 count))
+    ∙ (ap of_line (get_or-map-range_with_len (line c p) 0 count i i (line c p 0) here (omega arith))
+    ∙ (same i (receipt_at receipts i) ∙ sym (get_or-map of_receipt receipts i no_receipt e here))))
+
 -- each receipt is a line
 pub Whole-journal_lines : (b : BookTerms) (c : ClosingTerms) → Coherent b c → Whole (calls_in c) (journal_lines c)
 unfolding journal_lines
@@ -85,18 +103,8 @@ Whole-journal_lines b c coherent =
           (omega (arith, size, coherent.receipts, get_or-range_with_len 0 n j e (omega (arith, there, length-range_with_len 0 n)), there, length-range_with_len 0 n))));
       calls = λ p within.
           let known : p < b.processes = omega (arith, within, size) in
-          let R = receipts_of c p in
-          let count = length R in
-          let is = lines_of-journal_lines b c p coherent known in
-          ap (map (λ l. l.call)) is
-          ∙ (ext_get_or (Call.Read 0) (map (λ (l : Line). l.call) (map (line c p) (range_with_len 0 count))) (calls_of R)
-          (length-map (map (line c p) (range_with_len 0 count)) (λ (l : Line). l.call) ∙ (length-map-range_with_len (line c p) 0 count ∙ sym (length-map R (λ r. r.call))))
-          (λ i inside.
-          let here : i < count = omega (arith, inside, length-map (map (line c p) (range_with_len 0 count)) (λ (l : Line). l.call), length-map-range_with_len (line c p) 0 count) in
-          get_or-map (λ (l : Line). l.call) (map (line c p) (range_with_len 0 count)) i (line c p 0) (Call.Read 0) (omega (arith, here, length-map-range_with_len (line c p) 0 count))
-          ∙ (ap (λ (l : Line). l.call) (get_or-map-range_with_len (line c p) 0 count i i (line c p 0) here (omega arith))
-          ∙ sym (get_or-map (λ r. r.call) R i no_receipt (Call.Read 0) here)))
-          ∙ sym (get_or-map calls_of c.receipts p [] [] (omega (arith, known, coherent.receipts))));
+          map-lines_of (λ (l : Line). l.call) (λ (r : Receipt). r.call) (Call.Read 0) b c p (λ i r. refl) coherent known
+          ∙ sym (get_or-map calls_of c.receipts p [] [] (omega (arith, known, coherent.receipts)));
       numbers = λ p within.
           let known : p < b.processes = omega (arith, within, size) in
           let count = length (receipts_of c p) in

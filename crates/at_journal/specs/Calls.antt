@@ -1,5 +1,5 @@
 -- The calls of a closing, by process and number.
-use Rattle.std.specs.Prelude.{ℕ, ◌<◌, List, length, map, All}
+use Rattle.std.specs.Prelude.{◌<◌, List, length, map, All}
 use Rattle.at_ledger.specs.declared.call.Call.{Call}
 use Rattle.at_ledger.specs.declared.call.Line.{Line}
 use Rattle.at_log.specs.ClosingTerms.{ClosingTerms, receipts_of}
