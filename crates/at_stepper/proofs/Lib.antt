@@ -21,3 +21,4 @@ pub mod ScheduleLaws
 pub mod CountedTurns
 pub mod ClosedLaws
 pub mod JournalLaws
+pub mod ReplyLaws

@@ -1,10 +1,12 @@
 -- Runs by turns: which turns lead to a run, when its calls begin and end, and what its journal is.
-use Rattle.std.specs.Prelude.{◌≡◌, ◌≢◌, ◌⊎◌, ℕ, ◌+◌, ◌-◌, ◌<◌, ◌≤◌, ◌==◌, ◌&&◌, ◌++◌, Bool, false, true, List, Option, None, Some, [], ◌∷◌, count_by, filter, if◌then◌else◌, length, map, slice_index, slice_index_or, take}
+use Rattle.std.specs.Prelude.{◌≡◌, ◌≢◌, ◌⊎◌, ℕ, ◌+◌, ◌-◌, ◌<◌, ◌≤◌, ◌==◌, ◌&&◌, ◌++◌, Bool, false, true, List, Option, None, Some, [], ◌∷◌, count_by, filter, filter_map, if◌then◌else◌, length, map, slice_index, slice_index_or, take}
 use Rattle.std.specs.List.{range_with_len}
 use Rattle.at_journal.specs.Linearizable.{AreTimed, CallTimes, IsLinearizable}
 use Rattle.at_ledger.specs.Book.{BookTerms}
 use Rattle.at_ledger.specs.declared.call.Call.{Call}
 use Rattle.at_ledger.specs.declared.call.Line.{Line}
+use Rattle.at_ledger.specs.declared.call.Reply.{Reply}
+use Rattle.at_ledger.specs.Run.{lines_of}
 use Rattle.at_history.specs.BoardState.{publication_at}
 use Rattle.at_history.specs.Publications.{count_of, publications_of}
 use Rattle.at_history.specs.declared.publication.Publication.{Publication}
@@ -121,6 +123,10 @@ pub record IsMadeByTurns (turns : List TurnMade) (loaded : CallerTerms → ℕ �
   pub counts : (other : CallerTerms) (p i : ℕ) → p < length c.receipts → i < length (receipts_of c p) →
       CountsLoads turns (loaded other) published p i (receipt_at (receipts_of c p) i).at
 
+-- the replies of a process's calls, in the order of the turns that answered them
+abbrev pub replies_by : ℕ → List TurnMade → List Reply
+replies_by p turns = filter_map (λ t. if t.process == p then t.reply else None) turns
+
 -- the lines are the journal of a run: those of a coherent closing of its receipts and of what is published, in the order of its keys. Whatever
 -- turns led to the run, they have made the closing, its calls have their times, and the lines are linearizable
 pub record IsJournalOf (s : StepperTerms) (lines : List Line) : Type 0 where
@@ -136,11 +142,13 @@ pub record IsJournalOf (s : StepperTerms) (lines : List Line) : Type 0 where
   pub linearizable : (b : BookTerms) (files : List (List Call)) (turns : List TurnMade) → RunsTo b files turns s →
       IsLinearizable b files (times_of turns) lines
 
--- what was made of files by a schedule: its turns lead from a new run to one whose calls are all answered, and its lines are that run's journal
+-- what was made of files by a schedule: its turns lead from a new run to one whose calls are all answered, and its lines are that run's journal.
+-- The lines of a process have the replies that its turns answered
 pub record IsReplayBy (b : BookTerms) (files : List (List Call)) (schedule : List ℕ) (r : Replayed) : Type 0 where
   pub run : StepperTerms
   pub runs : RunsTo b files r.turns.items run
   pub over : IsOver run
   pub turns : AreTurnsOf files schedule r.turns.items
   pub journal : IsJournalOf run r.lines.items
+  pub replies : (p : ℕ) → p < length files → map (λ l. l.reply) (lines_of p r.lines.items) ≡ replies_by p r.turns.items
   pub linearizable : IsLinearizable b files (times_of r.turns.items) r.lines.items

@@ -2,6 +2,7 @@ use Rattle.std.proofs.Common.{◌≡◌, ◌∙◌, ◌<◌, All, length, subst,
 use Rattle.std.proofs.lemmas.List.{length-map}
 use Rattle.at_log.specs.Receipts.{lists_in}
 use Rattle.at_stepper.proofs.EntryLaws.{known-AreTurnsOf}
+use Rattle.at_stepper.proofs.ReplyLaws.{replies-IsJournalOf}
 use Rattle.at_stepper.specs.declared.replaying.TurnMade.{TurnMade}
 use Rattle.at_stepper.proofs.replaying.replay.Goals as goal
 
@@ -18,6 +19,7 @@ returns-in-Ok-finish-clause-replay c =
       over = made.over;
       turns = all.1;
       journal = journal;
+      replies = replies-IsJournalOf book files c.make_turns.new.turns.items c.make_turns.new.stepper c.in-Ok-finish.lines.items all.0 journal;
       linearizable = journal.linearizable book files c.make_turns.new.turns.items all.0;
     }
 
