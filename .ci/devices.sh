@@ -198,19 +198,19 @@ over_second() {
 costs_in_turn() {
     over_second THREADS=none costs book.csv pay0.csv pay1.csv
     head='process,line,call,account,kind,reply,steps,exchanges,new,most_steps,most_exchanges'
-    printf '%s\n' "$head" "$2" "$3" "$4" "$5" >wanted
-    printf '%s\n' "$head" "$6" "$7" "$8" "$9" >other
+    lines "$head" "$2" "$3" "$4" "$5" >wanted
+    lines "$head" "$6" "$7" "$8" "$9" >other
     [ "$(cat out)" = "$(cat other)" ] && cp other wanted
     printed "$1, one process after the other" wanted
 }
-printf '%s\n' book,1 processes,2 limits,4,4 'account,0,100,0 1' account,1,0, >book.csv
-printf '%s\n' transfer,0,1,60 read,0 | tee pay0.csv >pay1.csv
+lines book,1 processes,2 limits,4,4 'account,0,100,0 1' account,1,0, >book.csv
+lines transfer,0,1,60 read,0 | tee pay0.csv >pay1.csv
 costs_in_turn 'payments from a shared account' \
     0,1,transfer,0,agreed,done,34,1,0,73,2 0,2,read,0,read,40,4,0,0,8,0 1,1,transfer,0,agreed,short,47,1,1,80,2 1,2,read,0,read,40,4,0,0,8,0 \
     0,1,transfer,0,agreed,short,47,1,1,80,2 0,2,read,0,read,40,4,0,0,8,0 1,1,transfer,0,agreed,done,34,1,0,73,2 1,2,read,0,read,40,4,0,0,8,0
-printf '%s\n' book,1 processes,2 limits,4,4 account,0,100,0 account,1,100,1 >book.csv
-printf '%s\n' transfer,0,1,30 read,1 >pay0.csv
-printf '%s\n' transfer,1,0,20 read,0 >pay1.csv
+lines book,1 processes,2 limits,4,4 account,0,100,0 account,1,100,1 >book.csv
+lines transfer,0,1,30 read,1 >pay0.csv
+lines transfer,1,0,20 read,0 >pay1.csv
 costs_in_turn 'payments from accounts of one owner' \
     0,1,transfer,0,alone,done,14,0,0,18,0 0,2,read,1,read,130,4,0,0,8,0 1,1,transfer,1,alone,done,21,0,1,25,0 1,2,read,0,read,90,4,0,0,8,0 \
     0,1,transfer,0,alone,done,21,0,1,25,0 0,2,read,1,read,110,4,0,0,8,0 1,1,transfer,1,alone,done,14,0,0,18,0 1,2,read,0,read,120,4,0,0,8,0

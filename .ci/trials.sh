@@ -6,15 +6,6 @@
 #                                  are named
 
 . "$(dirname -- "$0")/cases.sh"
-lines() { printf '%s\n' "$@"; }
-
-# A schedule, of processes and how many turns each has. What it leaves is played in turn.
-turns() {
-    while [ $# -gt 0 ]; do
-        yes "$1" | head -n "$2"
-        shift 2
-    done >schedule.csv
-}
 
 # What is wanted of a run is spelled in short. A line is of one call, `PROCESS.LINE`, and of one stretch of its turns, which make steps
 # of one kind: `0.1 load length 0..2` is three loads. `-> REPLY` at its end is the reply. These are the stretches that calls are made
