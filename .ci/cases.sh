@@ -32,6 +32,16 @@ count() {
     fi
 }
 
+lines() { printf '%s\n' "$@"; }
+
+# A schedule, of processes and how many turns each has. What it leaves is played in turn.
+turns() {
+    while [ $# -gt 0 ]; do
+        yes "$1" | head -n "$2"
+        shift 2
+    done >schedule.csv
+}
+
 # All was done, and the output is that file.
 printed() {
     [ "$status" -eq 0 ] && [ ! -s err ] && cmp -s "$2" out && good=yes || good=no

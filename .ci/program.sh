@@ -41,7 +41,6 @@ refused 'a forged report' 12 "$(cat "$household/forged.said")"
 # Two processes share an account, the other two have one each, all four share one, and one has no owner. Each makes 60 calls. Of the
 # payments 20, 30 and 30 are from accounts that the process doesn't own, and of each owner's ten requests on a shared account the last
 # two are over the room.
-lines() { printf '%s\n' "$@"; }
 lines book,2 processes,a,b,c,d limits,16,8 'account,pair,100,a b' account,third,100,c account,fourth,100,d 'account,all,60,a b c d' \
     account,none,0, >book.csv
 awk 'BEGIN {
@@ -66,14 +65,7 @@ echo 2 >schedule.csv
 run replay "$replay/helping/book.csv" schedule.csv "$replay/helping"/pay*.csv
 refused 'a schedule of no process' 9 'schedule: line 1: unknown process'
 
-# Worked journals: a schedule, of processes and how many turns each has, leads to one order of the publications, whatever the
-# processes' numbers are. What it leaves is played in turn.
-turns() {
-    while [ $# -gt 0 ]; do
-        yes "$1" | head -n "$2"
-        shift 2
-    done >schedule.csv
-}
+# Worked journals: a schedule leads to one order of the publications, whatever the processes' numbers are.
 replayed() {
     cat >wanted
     run replay book.csv schedule.csv pay0.csv pay1.csv "$@"

@@ -34,6 +34,7 @@ PAYER|book,2\nprocesses,ann\nlimits,4,4\naccount,cash,100,ann\naccount,shop,0,\n
 TWO_OF_NOBODY|book,1\nprocesses,1\nlimits,1,4\naccount,0,100,0\naccount,1,5,\n
 SAME_OWNERS|book,1\nprocesses,2\nlimits,4,4\naccount,0,60,0 1\naccount,1,60,0 1\naccount,2,7,1\n
 PART_OWNERS|book,2\nprocesses,a,b,c\nlimits,4,4\naccount,pair,60,a b\naccount,all,60,a b c\naccount,none,0,\n
+SMALL_ROOMS|book,2\nprocesses,p,q\nlimits,1,2\naccount,a,10,p\naccount,b,5,p q\naccount,c,0,\n
 ONES|1\n1\n1\n1\n1\n1\n1\n1\n1\n1\n1\n1\n1\n1\n
 USUAL_REPORT|journal 3\n0 1 transfer 0 1 30 done\n0 2 read 0 70\n0 3 read 1 30\nbalances 2\n0 70\n1 30\ntotal 100\n
 THIRTY_FIRST|journal 2\n0 1 transfer 0 1 30 done\n1 1 transfer 1 0 20 done\nbalances 2\n0 90\n1 110\ntotal 200\n
@@ -99,6 +100,7 @@ run book 0 0|0|journal 2\n0 1 read 0 100\n1 1 read 0 100\nbalances 3\n0 100\n1 0
 check book 0 1|0|checked 2 3 3\n|TWO|read,0\n|read,1\nread,2\n
 run book 0 1|0|journal 2\nann 1 pay ann-cash shop 30 joint 20 done\nann 2 read shop 30\nbalances 3\nann-cash 50\njoint 70\nshop 30\ntotal 150\n|NAMED|pay,ann-cash,shop,30,joint,20\nread,shop\n|EMPTY
 run book 0|0|journal 2\nann 1 pay cash shop 18446744073709551615 inn 18446744073709551615 shop 18446744073709551615 inn 18446744073709551615 short\nann 2 pay cash shop 10 inn 20 shop 30 inn 40 done\nbalances 3\ncash 0\nshop 40\ninn 60\ntotal 100\n|PAYER|pay,cash,shop,18446744073709551615,inn,18446744073709551615,shop,18446744073709551615,inn,18446744073709551615\npay,cash,shop,10,inn,20,shop,30,inn,40\n
+run book 0|0|journal 2\nann 1 pay cash shop 60 inn 41 short\nann 2 pay cash shop 50 shop 50 done\nbalances 3\ncash 0\nshop 100\ninn 0\ntotal 100\n|PAYER|pay,cash,shop,60,inn,41\npay,cash,shop,50,shop,50\n
 END
 
 # Each cause of a book's fault but that of too many accounts.
@@ -180,6 +182,8 @@ verify book 1 0|12|report: line 1: not legal\n|ONE|USUAL|balances 2\n0 70\n1 30\
 verify book 2 0 1|12|report: line 2: not legal\n|CROSSED|read,0\n|read,1\n|journal 2\n0 1 read 1 10\n1 1 read 1 10\nbalances 2\n0 0\n1 10\ntotal 10\n
 verify book 2 0 1|0|verified 2\n|JOINT|transfer,0,1,11\ntransfer,0,1,1\n|EMPTY|journal 2\n0 1 transfer 0 1 11 short\n0 2 transfer 0 1 1 full\nbalances 2\n0 10\n1 0\ntotal 10\n
 verify book 2 0 1|12|report: line 3: not legal\n|JOINT|transfer,0,1,11\ntransfer,0,1,1\n|EMPTY|journal 2\n0 1 transfer 0 1 11 short\n0 2 transfer 0 1 1 done\nbalances 2\n0 9\n1 1\ntotal 10\n
+verify book 2 0 1|0|verified 10\n|SMALL_ROOMS|transfer,a,c,1\ntransfer,a,c,1000\ntransfer,b,c,5\ntransfer,c,c,0\npay,b,a,0,b,0\n|transfer,a,c,0\ntransfer,b,c,6\ntransfer,b,b,5\ntransfer,b,c,6\nread,c\n|journal 10\nq 1 transfer a c 0 not-owner\np 1 transfer a c 1 done\np 2 transfer a c 1000 full\nq 2 transfer b c 6 short\nq 3 transfer b b 5 done\nq 4 transfer b c 6 full\np 3 transfer b c 5 done\np 4 transfer c c 0 not-owner\nq 5 read c 6\np 5 pay b a 0 b 0 done\nbalances 3\na 9\nb 0\nc 6\ntotal 15\n
+verify book 2 0 1|12|report: line 7: not legal\n|SMALL_ROOMS|transfer,a,c,1\ntransfer,a,c,1000\ntransfer,b,c,5\ntransfer,c,c,0\npay,b,a,0,b,0\n|transfer,a,c,0\ntransfer,b,c,6\ntransfer,b,b,5\ntransfer,b,c,6\nread,c\n|journal 10\nq 1 transfer a c 0 not-owner\np 1 transfer a c 1 done\np 2 transfer a c 1000 full\nq 2 transfer b c 6 short\nq 3 transfer b b 5 done\nq 4 transfer b c 6 short\np 3 transfer b c 5 done\np 4 transfer c c 0 not-owner\nq 5 read c 6\np 5 pay b a 0 b 0 done\nbalances 3\na 9\nb 0\nc 6\ntotal 15\n
 verify|2|USAGE
 verify book|2|USAGE|ONE
 verify book 0|2|files: wanted 1, given 0\n|ONE|EMPTY

@@ -80,13 +80,13 @@ done
 
 words='sync::atomic|Atomic(U|I|Bool|Ptr)|Mutex|RwLock|Condvar|OnceLock|crossbeam|mpsc|channel\(|yield_now|spin_loop|atomic_table'
 grep -nE "$words" */src/*.rt |
-    grep -vE '^(at_board|at_players|at_[a-z_]*trials)/|^at_program/src/gate_tests\.rt:' |
+    grep -vE '^at_board/|^at_program/src/gate_tests\.rt:' |
     grep -vE ':[0-9]+: *(//|ghost use)' && say "a word, a lock or a channel outside the board"
 grep -nE 'sync::atomic' at_board/src/*.rt | grep -vE '^at_board/src/meet.rt:' && say "at_board: an atomic word outside its table"
 
 # Who may put together what several seats have seen.
 grep -nE '\bOverview\b|learn_overview|add_to_overview' */src/*.rt |
-    grep -vE '^(at_board|at_object|at_machines|at_calling|at_stepper|at_trials)/' |
+    grep -vE '^(at_board|at_object|at_machines|at_calling|at_stepper)/' |
     grep -vE ':[0-9]+: *//' && say "an overview outside the crates whose caller has all seats"
 
 [ "$failed" -eq 0 ] && echo "steps: each operation on the board is one counted step, and no other word is shared"

@@ -193,7 +193,7 @@ fn is_done_at<R: Threads + Sync, G: Gate + Sync>(
     gate: &G,
     text: &[u8],
 ) -> bool {
-    let Some(mut shelf) = shelf_of(alloc, contents, &[], usize::MAX) else {
+    let Some(mut shelf) = shelf_of(alloc, contents) else {
         return false;
     };
     is_done_over(rt, alloc, line, &mut shelf, gate, text)

@@ -1,13 +1,14 @@
-//! `serve` over shelves and sinks in memory: each call of a shelf fails in turn, outputs have too little room, and bytes come one at a
-//! time. What it answers to words and files is looked at over the built program.
-
-ghost use Rattle.std.specs.Prelude.{◌<◌};
+//! `serve` over a shelf and sinks in memory, for the tests at gates; and what nothing else shows of the crates below: a writer whose flush
+//! fails, and that threads may share a book and a state. What the program answers to words and files, and over devices that fail, is
+//! looked at over the built program.
 
 use crate::serving::serve;
-use at_io::{MemoryShelf, MemorySink, SteadySink};
+use at_io::{MemoryShelf, MemorySink, StdSink, SteadySink, WriteFault, put_all};
+use at_ledger::{Book, State};
 use at_report::Status;
-use at_workers::{Gate, OpenGate};
+use at_workers::Gate;
 use std::alloc::{AllocError, Global};
+use std::io;
 use std::thread::Threads;
 
 /// The words of a line.
@@ -35,22 +36,12 @@ fn files_of(alloc: Global, contents: &[&[u8]]) -> Result<Vec<(String, Vec<u8>)>,
     Ok(files)
 }
 
-/// A shelf of these files, of which some calls fail, and a read gives at most so many bytes.
-pub(crate) fn shelf_of(
-    alloc: Global,
-    contents: &[&[u8]],
-    failing: &[u64],
-    grain: usize,
-) -> Option<MemoryShelf>
-    requires { 0 < grain }
-{
-    let Ok(failing) = Vec::from_slice(alloc, failing) else {
-        return None;
-    };
-    let Ok(files) = files_of(alloc, contents) else {
-        return None;
-    };
-    Some(MemoryShelf::with_grain(files, failing, grain))
+/// A shelf of these files.
+pub(crate) fn shelf_of(alloc: Global, contents: &[&[u8]]) -> Option<MemoryShelf> {
+    match files_of(alloc, contents) {
+        Ok(files) => Some(MemoryShelf::new(files, Vec::new(alloc))),
+        Err(_) => None,
+    }
 }
 
 /// The status of the words, and whether a closed ledger is kept.
@@ -84,99 +75,35 @@ pub(crate) fn is_answered<R: Threads + Sync, G: Gate + Sync>(
     status == *wanted && is_kept == matches!(wanted, Status::Done | Status::WriteFault)
 }
 
-const ONE: &[u8] = b"book,1\nprocesses,1\nlimits,4,4\naccount,0,100,0\naccount,1,0,\n";
+/// A writer whose flush fails.
+#[derive(Drop)]
+struct Unflushed;
 
-const USUAL: &[u8] = b"transfer,0,1,30\nread,0\nread,1\n";
-
-const USUAL_REPORT: &[u8] =
-    b"journal 3\n0 1 transfer 0 1 30 done\n0 2 read 0 70\n0 3 read 1 30\nbalances 2\n0 70\n1 30\ntotal 100\n";
-
-/// Whether the usual run over this shelf is answered by this status, where the output has so much room and takes so many bytes at
-/// once, and leaves so many bytes of the report.
-fn is_usual_over<R: Threads + Sync>(
-    rt: &R,
-    alloc: Global,
-    shelf: &mut MemoryShelf,
-    room: usize,
-    grain: usize,
-    wanted: &Status,
-    taken: usize,
-) -> bool
-    requires { 0 < grain }
-{
-    let Ok(mut out) = MemorySink::with_grain(alloc, room, grain) else {
-        return false;
-    };
-    is_answered(rt, alloc, "run book 0", shelf, &mut out, &OpenGate, wanted)
-        && USUAL_REPORT.get(..taken) == Some(out.taken())
-}
-
-/// The same where this call of the shelf fails, and a read gives as many bytes.
-fn is_usual<R: Threads + Sync>(
-    rt: &R,
-    alloc: Global,
-    failing: u64,
-    room: usize,
-    grain: usize,
-    wanted: &Status,
-    taken: usize,
-) -> bool
-    requires { 0 < grain }
-{
-    let Some(mut shelf) = shelf_of(alloc, &[ONE, USUAL], &[failing], grain) else {
-        return false;
-    };
-    is_usual_over(rt, alloc, &mut shelf, room, grain, wanted, taken)
-}
-
-/// The first room of an output that is answered otherwise than by a write fault, or, where the whole report has room, by the report.
-fn first_wrong_room<R: Threads + Sync>(rt: &R, alloc: Global) -> Option<usize> {
-    for room in 0..95 {
-        let wanted = if room < 94 {
-            &Status::WriteFault
-        } else {
-            &Status::Done
-        };
-        if !is_usual(rt, alloc, 100, room, usize::MAX, wanted, room) {
-            return Some(room);
-        }
+impl io::Write for Unflushed {
+    fn write(&mut self, buf: &[u8]) -> io::Result<usize> {
+        Ok(buf.len())
     }
-    None
-}
 
-#[test]
-fn outputs_of_each_room(rt: HostRuntime) {
-    assert_eq!(rt; first_wrong_room(&rt, rt.alloc()), None);
-}
-
-#[test]
-fn a_byte_at_a_time(rt: HostRuntime) {
-    assert!(rt; is_usual(&rt, rt.alloc(), 1_000, 400, 1, &Status::Done, 94));
-}
-
-/// Three calls of the shelf read the book, and then three the payments.
-const FAILING: &[(u64, Status, usize)] = &[
-    (0, Status::ReadFault { file: 0 }, 0),
-    (1, Status::ReadFault { file: 0 }, 0),
-    (2, Status::ReadFault { file: 0 }, 0),
-    (3, Status::ReadFault { file: 1 }, 0),
-    (4, Status::ReadFault { file: 1 }, 0),
-    (5, Status::ReadFault { file: 1 }, 0),
-    (6, Status::Done, 94),
-];
-
-/// The first call whose failure is answered otherwise.
-fn first_wrong_call<R: Threads + Sync>(rt: &R, alloc: Global) -> Option<u64> {
-    for (call, wanted, taken) in FAILING {
-        if !is_usual(rt, alloc, *call, 400, usize::MAX, wanted, *taken) {
-            return Some(*call);
-        }
+    fn flush(&mut self) -> io::Result<()> {
+        Err(io::Error::other("no flush"))
     }
-    None
 }
 
-/// Each call of the shelf fails in turn.
+/// A failing flush is a write fault, where something was written.
 #[test]
-fn failing_calls(rt: HostRuntime) {
-    assert_eq!(rt; first_wrong_call(&rt, rt.alloc()), None);
+fn a_failing_flush_is_a_write_fault(rt: HostRuntime) {
+    let mut unflushed = StdSink::new(Unflushed);
+    let nothing = put_all(&mut unflushed, b"");
+    let something = put_all(&mut unflushed, b"hello");
+    assert!(rt; nothing == Ok(()) && something == Err(WriteFault));
+}
+
+/// Whether values of a type may be moved to threads, and shared by them. Where they may not, this doesn't compile.
+fn is_shared_by_threads<T: Send + Sync>() -> bool {
+    true
+}
+
+#[test]
+fn books_and_states_are_shared_by_threads(rt: HostRuntime) {
+    assert!(rt; is_shared_by_threads::<Book>() && is_shared_by_threads::<State>());
 }

@@ -1,2 +1,0 @@
-pub mod SmallBoardLaws
-pub mod AskedLaws

@@ -1,2 +1,0 @@
-pub mod SmallBoard
-pub mod Found

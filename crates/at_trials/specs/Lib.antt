@@ -1,4 +1,0 @@
-pub mod Players
-pub mod SmallFold
-pub mod SmallScan
-pub mod SmallShared
