@@ -1,0 +1,24 @@
+#!/bin/sh
+# Builds what calls the static library from C, and runs it: each export with each kind of handle, wrong numbers and refused memory, and
+# a thread for each process. It needs a C compiler, and says so where there is none.
+set -eu
+cd "$(dirname "$0")/.."
+cc=${CC:-cc}
+if ! command -v "$cc" >/dev/null; then
+    echo "bindings: not tried, since there is no C compiler"
+    exit 0
+fi
+kit=$(dirname "$(rt doc)")
+heap=$kit/c/liblibc_c.a
+(cd crates/at_c && rt lib >/dev/null)
+library=crates/at_c/out/libat_c.a
+work=$(mktemp -d)
+trap 'rm -rf -- "$work"' EXIT
+flags="-std=c11 -D_POSIX_C_SOURCE=200809L -Wall -Wextra -Werror -O1 -g -pthread -Ibindings/c"
+"$cc" $flags bindings/c/test.c "$library" "$heap" -Wl,--wrap=malloc -Wl,--wrap=realloc -Wl,--wrap=free -o "$work/test"
+"$work/test"
+"$cc" $flags bindings/c/example.c "$library" "$heap" -o "$work/example"
+for turn in 1 2 3; do
+    "$work/example" examples/realistic/book.csv >"$work/said"
+done
+tail -n 1 "$work/said"

@@ -1,0 +1,89 @@
+/* Bezglami in a program of one's own: a payment ledger that no thread waits for.
+ *
+ * Link out/libat_c.a of crates/at_c and liblibc_c.a of Rattle's kit (its folder c/), and threads of your own.
+ * A handle is a pointer that the library alone follows. Null stands for a handle that holds nothing, so one is made by
+ * `bezglami_handle ledger = BEZGLAMI_NOTHING;`. A handle isn't copied: one place holds it.
+ *
+ * What C has to keep to, and nothing checks:
+ *   - a handle is BEZGLAMI_NOTHING or as an export left it, and its address isn't null;
+ *   - one call at a time is given a handle; from one call to the next a handle may go to another thread, where a lock, a
+ *     thread's start or join, or an atomic orders the two. Different handles may be used at once, in any threads;
+ *   - answer and line point to their types, and `book` to `length` bytes that no other thread writes meanwhile;
+ *   - malloc, realloc and free are one allocator's, which aligns a block to each power of two up to 16 that divides its
+ *     size; no export is called from a signal handler or in the child of a fork of a process with threads.
+ *
+ * Costs: `bezglami_read` and `bezglami_transfer` take no memory, and take no more steps than the bound of the call (README,
+ * "What needs agreement"). `bezglami_open` and `bezglami_caller` take memory. All others are constant but `bezglami_free`. */
+#ifndef BEZGLAMI_H
+#define BEZGLAMI_H
+
+#include <stdint.h>
+#include <stddef.h>
+
+#ifdef __cplusplus
+extern "C" {
+#endif
+
+#define BEZGLAMI_VERSION 1
+
+typedef struct bezglami_handle {
+    void *at;
+} bezglami_handle;
+
+#define BEZGLAMI_NOTHING { NULL }
+
+/* What came of an export. Where it isn't BEZGLAMI_DONE, nothing has changed but `line` of a bad book. */
+enum bezglami_outcome {
+    BEZGLAMI_DONE = 0,
+    BEZGLAMI_WRONG_HANDLE = 1, /* the handle holds no ledger, or no caller, as the export wants one */
+    BEZGLAMI_IN_USE = 2,       /* the handle that is to be filled holds something */
+    BEZGLAMI_NO_MEMORY = 3,
+    BEZGLAMI_BAD_BOOK = 4,     /* the bytes spell no book: `line` is that of the first fault, from 1 */
+    BEZGLAMI_NO_CALLER = 5,    /* all callers of the ledger were handed out */
+    BEZGLAMI_NO_ACCOUNT = 6,   /* the call names an account that isn't there */
+    BEZGLAMI_NO_ROOM = 7       /* there is no room for the receipt of the call */
+};
+
+enum bezglami_reply {
+    BEZGLAMI_REPLY_DONE = 0,
+    BEZGLAMI_REPLY_SHORT = 1,
+    BEZGLAMI_REPLY_NOT_OWNER = 2,
+    BEZGLAMI_REPLY_FULL = 3,
+    BEZGLAMI_REPLY_BALANCE = 4
+};
+
+/* What a call answered: its reply, the balance that a read found and else 0, and the steps of this call, of which so many
+ * were exchanges. */
+typedef struct bezglami_answer {
+    uint32_t reply;
+    uint64_t balance;
+    uint64_t steps;
+    uint64_t exchanges;
+} bezglami_answer;
+
+/* Fills `ledger`, which holds nothing, with a ledger for the book that the bytes spell. */
+uint32_t bezglami_open(const uint8_t *book, size_t length, bezglami_handle *ledger, uint32_t *line);
+
+/* Fills `caller`, which holds nothing, with the caller of the next process of the ledger: the first is that of process 0.
+ * It has memory for so many receipts, one for each call. It is used in any thread, also after `ledger` was freed. */
+uint32_t bezglami_caller(bezglami_handle *ledger, uint32_t calls, bezglami_handle *caller);
+
+/* Moves the amount from one account to another. */
+uint32_t bezglami_transfer(bezglami_handle *caller, uint32_t from, uint32_t to, uint64_t amount, bezglami_answer *answer);
+
+/* Tells the balance of an account. */
+uint32_t bezglami_read(bezglami_handle *caller, uint32_t account, bezglami_answer *answer);
+
+/* How many steps all calls of the caller have made, and how many of them were exchanges. 0 of a handle that holds no caller. */
+uint64_t bezglami_steps(bezglami_handle *caller);
+uint64_t bezglami_exchanges(bezglami_handle *caller);
+
+/* Frees what the handle holds, whatever it is, and leaves it with nothing. The board of a ledger goes with the last of its
+ * ledger and callers. */
+void bezglami_free(bezglami_handle *handle);
+
+#ifdef __cplusplus
+}
+#endif
+
+#endif

@@ -1,0 +1,34 @@
+-- Callers as exports see them, what the type of a caller keeps, and what a call leaves.
+use Rattle.std.specs.Prelude.{◌≡◌, ℕ, ◌-◌, ◌^◌, ◌<◌, ◌≤◌, ◌++◌, List, [], ◌∷◌, length}
+use Rattle.at_ledger.specs.declared.call.Call.{Call}
+use Rattle.at_ledger.specs.declared.call.Reply.{Reply}
+use Rattle.at_log.specs.declared.receipt.Receipt.{Receipt}
+use Rattle.at_object.specs.Calls.{CallMade, StaysWithin}
+use Rattle.at_object.specs.Passes.{IsPassOf, PassTerms, Stands}
+use Rattle.at_c.specs.declared.shared.Shared.{Shared}
+
+-- a caller by its ledger and the names of its book, its pass, the receipts of its calls, and how many receipts it has memory for
+pub record CallerTerms : Type 0 where
+  pub shared : Shared
+  pub pass : PassTerms
+  pub receipts : List Receipt
+  pub room : ℕ
+
+-- the pass is of the ledger, and the receipts are those of all calls that were made with it. They fit the memory
+pub record IsCaller (caller : CallerTerms) : Type 0 where
+  pub of_ledger : IsPassOf caller.pass caller.shared.ledger
+  pub stands : Stands caller.pass caller.receipts
+  pub counted : caller.pass.calls ≡ length caller.receipts
+  pub within : length caller.receipts ≤ caller.room
+  pub few : caller.room < 2 ^ 32
+
+-- the call was made by the caller on its ledger, and answered so. It made so many steps, and so many of them were exchanges. Its
+-- receipt was put behind the others, and nothing else of the caller has changed but the pass
+pub record MakesCall (call : Call) (before after : CallerTerms) (reply : Reply) (steps exchanges : ℕ) : Type 0 where
+  pub receipt : Receipt
+  pub made : CallMade before.shared.ledger.book before.pass after.pass call receipt
+  pub within : StaysWithin before.shared.ledger.book before.pass after.pass call receipt
+  pub replies : reply ≡ receipt.reply
+  pub steps_are : steps ≡ after.pass.steps - before.pass.steps
+  pub exchanges_are : exchanges ≡ after.pass.exchanges - before.pass.exchanges
+  pub after_is : after ≡ record before { pass = after.pass; receipts = before.receipts ++ receipt ∷ [] }

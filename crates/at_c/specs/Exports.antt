@@ -1,0 +1,158 @@
+-- What exports answer, as numbers and as plain data.
+use Rattle.std.specs.Prelude.{◌≡◌, ℕ, ◌<◌, ◌≤◌, true, is_some, length, Err, List, [], None, Option, Some, ⊤}
+use Rattle.at_files.specs.BookFile.{book_of_records}
+use Rattle.at_files.specs.Records.{file_records}
+use Rattle.at_files.specs.declared.book_fault.BadBook.{BadBook}
+use Rattle.at_ledger.specs.Call.{IsCallOn}
+use Rattle.at_ledger.specs.declared.call.Call.{Call}
+use Rattle.at_ledger.specs.declared.call.Reply.{Reply}
+use Rattle.at_ledger.specs.declared.call.Reply.TheVariants as reply
+use Rattle.at_c.specs.Callers.{CallerTerms, MakesCall}
+use Rattle.at_c.specs.Ledgers.{HandsOut, IsNewLedger, OpenedTerms}
+use Rattle.at_c.specs.declared.handing.Handed.{Handed}
+use Rattle.at_c.specs.declared.held.Held.{Held}
+use Rattle.at_c.specs.declared.outcome.Answer.{Answer}
+use Rattle.at_c.specs.declared.outcome.Outcome.{Outcome}
+
+abbrev pub number_of : Outcome → ℕ
+number_of Outcome.Done = 0
+number_of Outcome.WrongHandle = 1
+number_of Outcome.InUse = 2
+number_of Outcome.NoMemory = 3
+number_of Outcome.BadBook = 4
+number_of Outcome.NoCaller = 5
+number_of Outcome.NoAccount = 6
+number_of Outcome.NoRoom = 7
+
+abbrev pub reply_number : Reply → ℕ
+reply_number reply.Done = 0
+reply_number reply.Short = 1
+reply_number reply.NotOwner = 2
+reply_number reply.Full = 3
+reply_number (reply.Balance amount) = 4
+
+-- the balance that a read found
+abbrev pub balance_in : Reply → ℕ
+balance_in reply.Done = 0
+balance_in reply.Short = 0
+balance_in reply.NotOwner = 0
+balance_in reply.Full = 0
+balance_in (reply.Balance amount) = amount
+
+abbrev pub answer_of : Reply → ℕ → ℕ → Answer
+answer_of r steps exchanges = record { reply = reply_number r; balance = balance_in r; steps = steps; exchanges = exchanges }
+
+-- the call was made by the caller, and answered so
+pub record Makes (call : Call) (before after : CallerTerms) (answer : Answer) : Type 0 where
+  pub reply : Reply
+  pub steps : ℕ
+  pub exchanges : ℕ
+  pub made : MakesCall call before after reply steps exchanges
+  pub answer_is : answer ≡ answer_of reply steps exchanges
+
+-- a call that a caller was asked to make was answered so. Where it is done, it was made; where it isn't, nothing has changed. It names
+-- an account that isn't there, or there is no room for its receipt, or else it is done
+abbrev pub AnswersBy : Call → CallerTerms → CallerTerms → Answer → Answer → Outcome → Type 0
+AnswersBy call before after was now Outcome.Done =
+    IsCallOn (length before.shared.ledger.book.accounts) call × (length before.receipts < before.room) × Makes call before after now
+AnswersBy call before after was now Outcome.NoAccount =
+    (¬ IsCallOn (length before.shared.ledger.book.accounts) call) × (after ≡ before) × (now ≡ was)
+AnswersBy call before after was now Outcome.NoRoom =
+    IsCallOn (length before.shared.ledger.book.accounts) call × (before.room ≤ length before.receipts) × (after ≡ before) × (now ≡ was)
+AnswersBy call before after was now Outcome.WrongHandle = ⊥
+AnswersBy call before after was now Outcome.InUse = ⊥
+AnswersBy call before after was now Outcome.NoMemory = ⊥
+AnswersBy call before after was now Outcome.BadBook = ⊥
+AnswersBy call before after was now Outcome.NoCaller = ⊥
+
+-- a call that a handle was given for: the caller that it holds answers it. Where it holds none, nothing has changed
+abbrev pub Answers : Call → Option Held → Option Held → Answer → Answer → Outcome → Type 0
+Answers call None after was now outcome = (outcome ≡ Outcome.WrongHandle) × (after ≡ None) × (now ≡ was)
+Answers call (Some Held.Nothing) after was now outcome = (outcome ≡ Outcome.WrongHandle) × (after ≡ Some Held.Nothing) × (now ≡ was)
+Answers call (Some (Held.Ledger l)) after was now outcome = (outcome ≡ Outcome.WrongHandle) × (after ≡ Some (Held.Ledger l)) × (now ≡ was)
+Answers call (Some (Held.Caller c)) after was now outcome =
+    (c' : CallerTerms) × (after ≡ Some (Held.Caller c')) × AnswersBy call c c' was now outcome
+
+-- a handle was to be filled with a ledger of the bytes
+abbrev pub Opens : List ℕ → Option Held → Option Held → ℕ → Outcome → Type 0
+Opens bytes before after line Outcome.Done =
+    (before ≡ None) × ((l : OpenedTerms) × (after ≡ Some (Held.Ledger l)) × IsNewLedger bytes l)
+Opens bytes before after line Outcome.BadBook = (before ≡ None) × (after ≡ before)
+    × ((bad : BadBook) × (book_of_records (file_records bytes) ≡ Err bad) × (line ≡ bad.line))
+Opens bytes before after line Outcome.InUse = (is_some before ≡ true) × (after ≡ before)
+Opens bytes before after line Outcome.NoMemory = (before ≡ None) × (after ≡ before)
+Opens bytes before after line Outcome.WrongHandle = ⊥
+Opens bytes before after line Outcome.NoCaller = ⊥
+Opens bytes before after line Outcome.NoAccount = ⊥
+Opens bytes before after line Outcome.NoRoom = ⊥
+
+-- the next caller of a ledger was handed out
+abbrev pub HandsOutOf : ℕ → Held → Held → CallerTerms → Type 0
+HandsOutOf calls Held.Nothing after caller = ⊥
+HandsOutOf calls (Held.Caller c) after caller = ⊥
+HandsOutOf calls (Held.Ledger l) after caller =
+    (l' : OpenedTerms) × (after ≡ Held.Ledger l') × HandsOut calls l l' (Some caller)
+
+-- this is no ledger
+abbrev pub IsNoLedger : Held → Type 0
+IsNoLedger Held.Nothing = ⊤
+IsNoLedger (Held.Caller c) = ⊤
+IsNoLedger (Held.Ledger l) = ⊥
+
+-- this is a ledger of which all callers were handed out
+abbrev pub HasNoneLeft : Held → Type 0
+HasNoneLeft Held.Nothing = ⊥
+HasNoneLeft (Held.Caller c) = ⊥
+HasNoneLeft (Held.Ledger l) = l.waiting ≡ []
+
+-- what was asked for the next caller of its ledger has answered so, and was left so
+abbrev pub HandedOf : ℕ → Held → Held → Handed → Type 0
+HandedOf calls before after (Handed.Next caller) = HandsOutOf calls before after caller
+HandedOf calls before after Handed.NoCaller = HasNoneLeft before × (after ≡ before)
+HandedOf calls before after Handed.NoMemory = after ≡ before
+HandedOf calls before after Handed.NoLedger = IsNoLedger before × (after ≡ before)
+
+-- the same of what a handle holds
+abbrev pub HoldsNoLedger : Option Held → Type 0
+HoldsNoLedger None = ⊤
+HoldsNoLedger (Some held) = IsNoLedger held
+
+abbrev pub HoldsNoneLeft : Option Held → Type 0
+HoldsNoneLeft None = ⊥
+HoldsNoneLeft (Some held) = HasNoneLeft held
+
+-- a handle was to be filled with the next caller of the ledger that another holds. Where it isn't, nothing has changed
+abbrev pub HandsOutTo : ℕ → Option Held → Option Held → Option Held → Option Held → Outcome → Type 0
+HandsOutTo calls ledger ledger_now caller caller_now Outcome.Done = (caller ≡ None)
+    × ((held : Held) × (held_now : Held) × (next : CallerTerms) × (ledger ≡ Some held) × (ledger_now ≡ Some held_now)
+    × (caller_now ≡ Some (Held.Caller next)) × HandsOutOf calls held held_now next)
+HandsOutTo calls ledger ledger_now caller caller_now Outcome.InUse =
+    (is_some caller ≡ true) × (ledger_now ≡ ledger) × (caller_now ≡ caller)
+HandsOutTo calls ledger ledger_now caller caller_now Outcome.WrongHandle =
+    (caller ≡ None) × (ledger_now ≡ ledger) × (caller_now ≡ caller) × HoldsNoLedger ledger
+HandsOutTo calls ledger ledger_now caller caller_now Outcome.NoMemory = (caller ≡ None) × (ledger_now ≡ ledger) × (caller_now ≡ caller)
+HandsOutTo calls ledger ledger_now caller caller_now Outcome.NoCaller =
+    (caller ≡ None) × (ledger_now ≡ ledger) × (caller_now ≡ caller) × HoldsNoneLeft ledger
+HandsOutTo calls ledger ledger_now caller caller_now Outcome.BadBook = ⊥
+HandsOutTo calls ledger ledger_now caller caller_now Outcome.NoAccount = ⊥
+HandsOutTo calls ledger ledger_now caller caller_now Outcome.NoRoom = ⊥
+
+-- the steps of a caller
+abbrev pub steps_in : Held → ℕ
+steps_in Held.Nothing = 0
+steps_in (Held.Ledger l) = 0
+steps_in (Held.Caller c) = c.pass.steps
+
+abbrev pub exchanges_in : Held → ℕ
+exchanges_in Held.Nothing = 0
+exchanges_in (Held.Ledger l) = 0
+exchanges_in (Held.Caller c) = c.pass.exchanges
+
+-- the same of what a handle holds
+abbrev pub steps_of : Option Held → ℕ
+steps_of None = 0
+steps_of (Some held) = steps_in held
+
+abbrev pub exchanges_of : Option Held → ℕ
+exchanges_of None = 0
+exchanges_of (Some held) = exchanges_in held

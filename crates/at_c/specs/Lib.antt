@@ -1,0 +1,4 @@
+pub mod Callers
+pub mod Exports
+pub mod Handles
+pub mod Ledgers

@@ -1,0 +1,129 @@
+//! Callers: a pass with its ledger and the receipts of its calls.
+
+ghost use Rattle.std.specs.Prelude.{◌≡◌, ℕ, ◌<◌, ◌^◌, [], length};
+ghost use Rattle.std.specs.Arc.{arc_value};
+ghost use Rattle.std.specs.Vec.{vec_capacity};
+ghost use Rattle.at_ledger.specs.Call.{IsCallOn};
+ghost use Rattle.at_object.specs.Passes.{IsNewPass};
+ghost use Rattle.at_c.specs.Callers.{MakesCall};
+
+use crate::shared::Shared;
+use at_ledger::{Call, Reply};
+use at_log::Receipt;
+use at_object::Pass;
+use std::alloc::Global;
+use std::marker::Model;
+use std::sync::Arc;
+
+/// The pass of a process, the ledger that it is of, and the receipts of its calls. It has the memory for so many receipts from the
+/// start.
+#[derive(Drop)]
+pub struct Caller {
+    shared: Arc<Shared>,
+    pass: Pass,
+    receipts: Vec<Receipt>,
+}
+
+impl Model for Caller {
+    ghost use Rattle.std.specs.Arc.{arc_value};
+    ghost use Rattle.std.specs.Vec.{vec_capacity};
+    ghost use Rattle.at_c.specs.Callers.{CallerTerms, IsCaller};
+
+    ghost Value = { CallerTerms };
+
+    ghost view = { λ c. record {
+      shared = arc_value c.shared;
+      pass = c.pass;
+      receipts = c.receipts.items;
+      room = vec_capacity c.receipts;
+    } };
+
+    ghost invariant = { λ c. IsCaller (record {
+      shared = arc_value c.shared;
+      pass = c.pass;
+      receipts = c.receipts.items;
+      room = vec_capacity c.receipts;
+    }) };
+}
+
+/// What a call answered, and what it took.
+#[derive(Drop)]
+pub(crate) struct Called {
+    pub(crate) reply: Reply,
+    pub(crate) steps: u64,
+    pub(crate) exchanges: u64,
+}
+
+impl Caller {
+    /// The caller of a new pass. The memory of its receipts was taken before.
+    pub(crate) fn new(shared: Arc<Shared>, pass: Pass, receipts: Vec<Receipt>) -> Caller
+        requires pass { (process : ℕ) × IsNewPass (arc_value shared).ledger process pass }
+        requires empty { receipts.items ≡ [] }
+        requires few { vec_capacity receipts < 2 ^ 32 }
+        ensures { result ≡ record {
+          shared = arc_value shared;
+          pass = pass;
+          receipts = [];
+          room = vec_capacity receipts;
+        } }
+    {
+        Caller {
+            shared,
+            pass,
+            receipts,
+        }
+    }
+
+    /// How many receipts there are.
+    pub(crate) fn made(&self) -> usize
+        ensures { result ≡ length self.now.receipts }
+    {
+        self.receipts.len()
+    }
+
+    /// How many there is memory for.
+    pub(crate) fn room(&self) -> usize
+        ensures { result ≡ self.now.room }
+    {
+        self.receipts.capacity()
+    }
+
+    /// How many accounts the book has.
+    pub(crate) fn accounts(&self) -> u32
+        ensures { result ≡ length self.now.shared.ledger.book.accounts }
+    {
+        self.shared.ledger.book().accounts()
+    }
+
+    /// Makes a call. Takes no memory.
+    pub(crate) fn call(&mut self, call: Call) -> Called
+        requires accounts { IsCallOn (length self.old.shared.ledger.book.accounts) call }
+        requires room { length self.old.receipts < self.old.room }
+        ensures { MakesCall call self.old self.new result.reply result.steps result.exchanges }
+    {
+        let steps = self.pass.steps();
+        let exchanges = self.pass.exchanges();
+        let receipt = self.shared.ledger.call(&mut self.pass, call);
+        let reply = receipt.reply;
+        self.receipts.push_reserved(receipt);
+        Called {
+            reply,
+            steps: self.pass.steps().saturating_sub(steps),
+            exchanges: self.pass.exchanges().saturating_sub(exchanges),
+        }
+    }
+
+    /// How many steps the caller's calls have made.
+    pub(crate) fn steps(&self) -> u64
+        ensures { result ≡ self.now.pass.steps }
+    {
+        self.pass.steps()
+    }
+
+    /// How many of them were exchanges.
+    pub(crate) fn exchanges(&self) -> u64
+        ensures { result ≡ self.now.pass.exchanges }
+    {
+        self.pass.exchanges()
+    }
+}

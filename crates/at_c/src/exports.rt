@@ -1,0 +1,95 @@
+//! The exports: one function of C each, which calls one function of the crate.
+
+ghost use Rattle.std.specs.Prelude.{◌≡◌, None};
+ghost use Rattle.at_ledger.specs.declared.call.Call.{Call};
+ghost use Rattle.at_c.specs.Exports.{Answers, HandsOutTo, Opens, number_of, steps_of, exchanges_of};
+ghost use Rattle.at_c.specs.declared.outcome.Outcome.{Outcome};
+
+use crate::handle::Handle;
+use crate::outcome::Answer;
+use std::alloc::Global;
+
+/// Fills a handle, which holds nothing, with a ledger for the book that the bytes spell. Where they spell none, `line` is that of the
+/// first fault.
+#[unsafe(no_mangle)]
+pub extern "C" fn bezglami_open(
+    alloc: Global,
+    book: &[u8],
+    ledger: &mut Handle,
+    line: &mut u32,
+) -> u32
+    ensures { (outcome : Outcome) × (result ≡ number_of outcome)
+        × Opens book.now ledger.old.held ledger.new.held line.new outcome }
+{
+    ledger.open(alloc, book, line).number()
+}
+
+/// Fills a handle, which holds nothing, with the caller of the next process of the ledger, with memory for so many receipts.
+#[unsafe(no_mangle)]
+pub extern "C" fn bezglami_caller(
+    alloc: Global,
+    ledger: &mut Handle,
+    calls: u32,
+    caller: &mut Handle,
+) -> u32
+    ensures { (outcome : Outcome) × (result ≡ number_of outcome)
+        × HandsOutTo calls ledger.old.held ledger.new.held caller.old.held caller.new.held outcome }
+{
+    ledger.hand_out(alloc, calls, caller).number()
+}
+
+/// Moves the amount from one account to another, by this caller. Takes no memory and waits for no thread.
+#[unsafe(no_mangle)]
+pub extern "C" fn bezglami_transfer(
+    alloc: Global,
+    caller: &mut Handle,
+    from: u32,
+    to: u32,
+    amount: u64,
+    answer: &mut Answer,
+) -> u32
+    ensures { (outcome : Outcome) × (result ≡ number_of outcome)
+        × Answers (Call.Transfer from to amount) caller.old.held caller.new.held answer.old answer.new outcome }
+{
+    caller.transfer(alloc, from, to, amount, answer).number()
+}
+
+/// Tells the balance of an account, by this caller. Takes no memory and waits for no thread.
+#[unsafe(no_mangle)]
+pub extern "C" fn bezglami_read(
+    alloc: Global,
+    caller: &mut Handle,
+    account: u32,
+    answer: &mut Answer,
+) -> u32
+    ensures { (outcome : Outcome) × (result ≡ number_of outcome)
+        × Answers (Call.Read account) caller.old.held caller.new.held answer.old answer.new outcome }
+{
+    caller.read(alloc, account, answer).number()
+}
+
+/// How many steps the calls of this caller have made, and 0 where the handle holds none.
+#[unsafe(no_mangle)]
+pub extern "C" fn bezglami_steps(alloc: Global, caller: &mut Handle) -> u64
+    ensures steps { result ≡ steps_of caller.old.held }
+    ensures same { caller.new.held ≡ caller.old.held }
+{
+    caller.steps(alloc)
+}
+
+/// How many of them were exchanges.
+#[unsafe(no_mangle)]
+pub extern "C" fn bezglami_exchanges(alloc: Global, caller: &mut Handle) -> u64
+    ensures exchanges { result ≡ exchanges_of caller.old.held }
+    ensures same { caller.new.held ≡ caller.old.held }
+{
+    caller.exchanges(alloc)
+}
+
+/// Frees what the handle holds, whatever it is. The handle is left with nothing.
+#[unsafe(no_mangle)]
+pub extern "C" fn bezglami_free(alloc: Global, handle: &mut Handle)
+    ensures { handle.new.held ≡ None }
+{
+    drop(handle.take(alloc));
+}

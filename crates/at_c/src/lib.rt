@@ -1,0 +1,17 @@
+//! The object inside a program in C: one export for each thing that a program does with a ledger.
+//!
+//! `bezglami_open` makes a ledger for the book that bytes spell, and `bezglami_caller` hands out the caller of the next process. A call
+//! is made by a caller, in any thread, by one thread at a time. None waits for another, and none takes memory. A handle is a pointer
+//! to what only the library reads; null stands for a handle that holds nothing.
+#![tactic(auto)]
+
+mod caller;
+mod calls;
+mod exports;
+mod handing;
+mod handle;
+mod held;
+mod loose;
+mod opened;
+mod outcome;
+mod shared;
