@@ -22,6 +22,10 @@ here=$(cd -- "$(dirname -- "$0")" && pwd)
 work=$(mktemp -d)
 trap 'rm -rf -- "$work"' EXIT
 plain=$work/built/release/plain
+# What the C library's allocator is told, of both programs, where a figure says "with the settings": large pages.
+settings=glibc.malloc.hugetlb=1
+tunables=
+unset GLIBC_TUNABLES
 
 # Builds the plain program in the new folder.
 build_plain() {
@@ -194,13 +198,18 @@ payments_of() {
     for ((p = 0; p < $1; p++)); do payments+=("$2/pay$p.csv"); done
 }
 
+# Runs a program under what `tunables` says to the allocator.
+with_tunables() {
+    if [ -z "$tunables" ]; then "$@"; else GLIBC_TUNABLES=$tunables "$@"; fi
+}
+
 # Runs a program, and leaves its microseconds in `took`. Its status is not looked at. The text of the run before is
 # removed first, so that its removal falls into no program's time.
 run_timed() {
     local began ended
     rm -f -- "$work/text"
     began=$EPOCHREALTIME
-    "$@" >"$work/text" 2>"$work/refusal" || true
+    with_tunables "$@" >"$work/text" 2>"$work/refusal" || true
     ended=$EPOCHREALTIME
     took=$((${ended/./} - ${began/./}))
 }
@@ -244,6 +253,30 @@ run_named() {
     echo "$1: proved $(milliseconds "proved $1"), plain $(milliseconds "plain $1"), proved to plain $(ratio "proved $1" "plain $1")"
 }
 
+# How long the parts of one run take by the clock, if perf is there. It looks ten times a millisecond which function
+# each thread is in; a part begins with the first look at a function of its crates after the part before began.
+time_parts() {
+    command -v perf >/dev/null || return 0
+    payments_of 16 "$work/input16"
+    with_tunables perf record --quiet -e cpu-clock -c 100000 -o "$work/samples" "$proved" run "$work/input16/book.csv" "${payments[@]}" >"$work/text" 2>/dev/null || return 0
+    perf script -i "$work/samples" -F time,ip,sym 2>/dev/null | awk -v settings="$1" '
+        BEGIN {
+            parts = split("reading and making the board,calls and closing,journal,report", name, ",")
+            split("^at_files:: ^at_(object|single|shared|snapshot|fold):: ^at_journal:: ^at_report::", functions, " ")
+        }
+        {
+            at = 1000 * $1
+            if (!looks++) start = at
+            for (i = part + 1; i <= parts && i <= part + 2; i++) if ($3 ~ functions[i]) { part = i; began[i] = at; break }
+        }
+        END {
+            began[1] = start
+            began[parts + 1] = at
+            for (i = parts; i > 1; i--) if (!(i in began)) began[i] = began[i + 1]
+            for (i = 1; i <= parts; i++) printf "parts of run, proved%s, %s: %.1f ms\n", settings, name[i], began[i + 1] - began[i]
+        }'
+}
+
 # Where the instructions of a run go, if valgrind is there: what each part takes of them, with all that it calls.
 count_instructions() {
     local part
@@ -268,7 +301,19 @@ take_turns() {
             keep_best "plain check $n" "$plain" check "$input/book.csv" "${payments[@]}"
             keep_best "plain records $n" "$plain" records "$input/book.csv" "${payments[@]}"
         done
+        take_set_turn
     done
+}
+
+# The same of both programs with the settings, for 16 processes.
+take_set_turn() {
+    local word
+    tunables=$settings
+    for word in run check; do
+        keep_best "proved $word set" "$proved" "$word" "$work/input16/book.csv" "${payments[@]}"
+        keep_best "plain $word set" "$plain" "$word" "$work/input16/book.csv" "${payments[@]}"
+    done
+    tunables=
 }
 
 # Verifies the report of so many calls of each of 16 processes, beside `check` on the same files, in turns. The report
@@ -354,11 +399,14 @@ refuse_long() {
     echo "a file of $1 bytes: refused in $(milliseconds "long $1")"
 }
 
-peak_memory() {
+# The most memory and the page faults of `run`.
+count_memory() {
+    local peak faults
     [ -x /usr/bin/time ] || return 0
     payments_of 16 "$work/input16"
-    /usr/bin/time -f %M -o "$work/peak" "$1" run "$work/input16/book.csv" "${payments[@]}" >/dev/null
-    echo "peak memory of run, $2: $(($(cat "$work/peak") / 1024)) MiB"
+    with_tunables /usr/bin/time -f '%M %R' -o "$work/memory" "$1" run "$work/input16/book.csv" "${payments[@]}" >/dev/null
+    read -r peak faults <"$work/memory"
+    echo "memory of run, $2: $((peak / 1024)) MiB at most, $faults page faults"
 }
 
 if [ "$part" = deliver ]; then
@@ -384,6 +432,9 @@ for n in 8 16; do
     echo "$n processes, run: proved $(milliseconds "proved run $n"), plain $(milliseconds "plain run $n")"
     echo "$n processes, check: proved $(milliseconds "proved check $n"), plain $(milliseconds "plain check $n"), records alone $(milliseconds "plain records $n")"
 done
+for word in run check; do
+    echo "16 processes, $word, with the settings: proved $(milliseconds "proved $word set"), plain $(milliseconds "plain $word set"), proved to plain $(ratio "proved $word set" "plain $word set")"
+done
 echo "run, proved to plain: $(ratio "proved run 16" "plain run 16")"
 echo "check, proved to plain: $(ratio "proved check 16" "plain check 16")"
 echo "check, proved to records alone: $(ratio "proved check 16" "plain records 16")"
@@ -404,6 +455,10 @@ check_named
 measure_deliver
 refuse_long 8388609
 refuse_long 4294967296
-peak_memory "$proved" proved
-peak_memory "$plain" plain
+for tunables in "" "$settings"; do
+    count_memory "$proved" "proved${tunables:+, with the settings}"
+    count_memory "$plain" "plain${tunables:+, with the settings}"
+    time_parts "${tunables:+, with the settings}"
+done
+tunables=
 count_instructions
