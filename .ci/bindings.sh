@@ -1,17 +1,21 @@
 #!/bin/sh
 # Builds what calls the static library from C, and runs it: each export with each kind of handle, wrong numbers and refused memory, and
-# a thread for each process. It needs a C compiler, and says so where there is none.
+# a thread for each process. It needs a C compiler, and the library that `bezglami build` leaves; where one of them isn't there, or a
+# source is newer than the library, it tries nothing and says so.
 set -eu
 cd "$(dirname "$0")/.."
 cc=${CC:-cc}
+library=crates/at_c/out/libat_c.a
 if ! command -v "$cc" >/dev/null; then
     echo "bindings: not tried, since there is no C compiler"
     exit 0
 fi
+if ! [ -f "$library" ] || [ -n "$(find crates.txt crates/*/src crates/*/specs crates/*/proofs -newer "$library" | head -n 1)" ]; then
+    echo "bindings: not tried, since $library isn't built"
+    exit 0
+fi
 kit=$(dirname "$(rt doc)")
 heap=$kit/c/liblibc_c.a
-(cd crates/at_c && rt lib >/dev/null)
-library=crates/at_c/out/libat_c.a
 work=$(mktemp -d)
 trap 'rm -rf -- "$work"' EXIT
 flags="-std=c11 -D_POSIX_C_SOURCE=200809L -Wall -Wextra -Werror -O1 -g -pthread -Ibindings/c"

@@ -6,12 +6,12 @@ use Rattle.at_log.specs.declared.receipt.Receipt.{Receipt}
 use Rattle.at_object.proofs.Laws.Calls.{stands-CallMade}
 use Rattle.at_object.specs.Calls.{CallMade}
 use Rattle.at_object.specs.Passes.{IsNewPass, IsPassOf, PassTerms, Stands, one_more_call}
-use Rattle.at_c.specs.Callers.{CallerTerms, IsCaller}
+use Rattle.at_c.specs.Callers.{OwnCallerTerms, IsCaller}
 use Rattle.at_c.specs.Ledgers.{IsOpened, OpenedTerms}
 use Rattle.at_c.specs.declared.shared.Shared.{Shared}
 
 -- a caller by its parts
-abbrev pub caller_of : Shared → PassTerms → List Receipt → ℕ → CallerTerms
+abbrev pub caller_of : Shared → PassTerms → List Receipt → ℕ → OwnCallerTerms
 caller_of shared pass receipts room = record { shared = shared; pass = pass; receipts = receipts; room = room }
 
 -- one more call keeps a caller

@@ -8,14 +8,14 @@ use Rattle.at_object.specs.Passes.{IsPassOf, PassTerms, Stands}
 use Rattle.at_c.specs.declared.shared.Shared.{Shared}
 
 -- a caller by its ledger and the names of its book, its pass, the receipts of its calls, and how many receipts it has memory for
-pub record CallerTerms : Type 0 where
+pub record OwnCallerTerms : Type 0 where
   pub shared : Shared
   pub pass : PassTerms
   pub receipts : List Receipt
   pub room : ℕ
 
 -- the pass is of the ledger, and the receipts are those of all calls that were made with it. They fit the memory
-pub record IsCaller (caller : CallerTerms) : Type 0 where
+pub record IsCaller (caller : OwnCallerTerms) : Type 0 where
   pub of_ledger : IsPassOf caller.pass caller.shared.ledger
   pub stands : Stands caller.pass caller.receipts
   pub counted : caller.pass.calls ≡ length caller.receipts
@@ -24,7 +24,7 @@ pub record IsCaller (caller : CallerTerms) : Type 0 where
 
 -- the call was made by the caller on its ledger, and answered so. It made so many steps, and so many of them were exchanges. Its
 -- receipt was put behind the others, and nothing else of the caller has changed but the pass
-pub record MakesCall (call : Call) (before after : CallerTerms) (reply : Reply) (steps exchanges : ℕ) : Type 0 where
+pub record MakesCall (call : Call) (before after : OwnCallerTerms) (reply : Reply) (steps exchanges : ℕ) : Type 0 where
   pub receipt : Receipt
   pub made : CallMade before.shared.ledger.book before.pass after.pass call receipt
   pub within : StaysWithin before.shared.ledger.book before.pass after.pass call receipt

@@ -7,22 +7,22 @@ use Rattle.at_ledger.specs.Call.{IsCallOn}
 use Rattle.at_ledger.specs.declared.call.Call.{Call}
 use Rattle.at_ledger.specs.declared.call.Reply.{Reply}
 use Rattle.at_ledger.specs.declared.call.Reply.TheVariants as reply
-use Rattle.at_c.specs.Callers.{CallerTerms, MakesCall}
+use Rattle.at_c.specs.Callers.{OwnCallerTerms, MakesCall}
 use Rattle.at_c.specs.Ledgers.{HandsOut, IsNewLedger, OpenedTerms}
 use Rattle.at_c.specs.declared.handing.Handed.{Handed}
 use Rattle.at_c.specs.declared.held.Held.{Held}
 use Rattle.at_c.specs.declared.outcome.Answer.{Answer}
 use Rattle.at_c.specs.declared.outcome.Outcome.{Outcome}
 
-abbrev pub number_of : Outcome → ℕ
-number_of Outcome.Done = 0
-number_of Outcome.WrongHandle = 1
-number_of Outcome.InUse = 2
-number_of Outcome.NoMemory = 3
-number_of Outcome.BadBook = 4
-number_of Outcome.NoCaller = 5
-number_of Outcome.NoAccount = 6
-number_of Outcome.NoRoom = 7
+abbrev pub outcome_number : Outcome → ℕ
+outcome_number Outcome.Done = 0
+outcome_number Outcome.WrongHandle = 1
+outcome_number Outcome.InUse = 2
+outcome_number Outcome.NoMemory = 3
+outcome_number Outcome.BadBook = 4
+outcome_number Outcome.NoCaller = 5
+outcome_number Outcome.NoAccount = 6
+outcome_number Outcome.NoRoom = 7
 
 abbrev pub reply_number : Reply → ℕ
 reply_number reply.Done = 0
@@ -39,39 +39,39 @@ balance_in reply.NotOwner = 0
 balance_in reply.Full = 0
 balance_in (reply.Balance amount) = amount
 
-abbrev pub answer_of : Reply → ℕ → ℕ → Answer
-answer_of r steps exchanges = record { reply = reply_number r; balance = balance_in r; steps = steps; exchanges = exchanges }
+abbrev pub answer_with : Reply → ℕ → ℕ → Answer
+answer_with r steps exchanges = record { reply = reply_number r; balance = balance_in r; steps = steps; exchanges = exchanges }
 
 -- the call was made by the caller, and answered so
-pub record Makes (call : Call) (before after : CallerTerms) (answer : Answer) : Type 0 where
+pub record Makes (call : Call) (before after : OwnCallerTerms) (answer : Answer) : Type 0 where
   pub reply : Reply
   pub steps : ℕ
   pub exchanges : ℕ
   pub made : MakesCall call before after reply steps exchanges
-  pub answer_is : answer ≡ answer_of reply steps exchanges
+  pub answer_is : answer ≡ answer_with reply steps exchanges
 
 -- a call that a caller was asked to make was answered so. Where it is done, it was made; where it isn't, nothing has changed. It names
 -- an account that isn't there, or there is no room for its receipt, or else it is done
-abbrev pub AnswersBy : Call → CallerTerms → CallerTerms → Answer → Answer → Outcome → Type 0
-AnswersBy call before after was now Outcome.Done =
+abbrev pub CallerAnswers : Call → OwnCallerTerms → OwnCallerTerms → Answer → Answer → Outcome → Type 0
+CallerAnswers call before after was now Outcome.Done =
     IsCallOn (length before.shared.ledger.book.accounts) call × (length before.receipts < before.room) × Makes call before after now
-AnswersBy call before after was now Outcome.NoAccount =
+CallerAnswers call before after was now Outcome.NoAccount =
     (¬ IsCallOn (length before.shared.ledger.book.accounts) call) × (after ≡ before) × (now ≡ was)
-AnswersBy call before after was now Outcome.NoRoom =
+CallerAnswers call before after was now Outcome.NoRoom =
     IsCallOn (length before.shared.ledger.book.accounts) call × (before.room ≤ length before.receipts) × (after ≡ before) × (now ≡ was)
-AnswersBy call before after was now Outcome.WrongHandle = ⊥
-AnswersBy call before after was now Outcome.InUse = ⊥
-AnswersBy call before after was now Outcome.NoMemory = ⊥
-AnswersBy call before after was now Outcome.BadBook = ⊥
-AnswersBy call before after was now Outcome.NoCaller = ⊥
+CallerAnswers call before after was now Outcome.WrongHandle = ⊥
+CallerAnswers call before after was now Outcome.InUse = ⊥
+CallerAnswers call before after was now Outcome.NoMemory = ⊥
+CallerAnswers call before after was now Outcome.BadBook = ⊥
+CallerAnswers call before after was now Outcome.NoCaller = ⊥
 
 -- a call that a handle was given for: the caller that it holds answers it. Where it holds none, nothing has changed
-abbrev pub Answers : Call → Option Held → Option Held → Answer → Answer → Outcome → Type 0
-Answers call None after was now outcome = (outcome ≡ Outcome.WrongHandle) × (after ≡ None) × (now ≡ was)
-Answers call (Some Held.Nothing) after was now outcome = (outcome ≡ Outcome.WrongHandle) × (after ≡ Some Held.Nothing) × (now ≡ was)
-Answers call (Some (Held.Ledger l)) after was now outcome = (outcome ≡ Outcome.WrongHandle) × (after ≡ Some (Held.Ledger l)) × (now ≡ was)
-Answers call (Some (Held.Caller c)) after was now outcome =
-    (c' : CallerTerms) × (after ≡ Some (Held.Caller c')) × AnswersBy call c c' was now outcome
+abbrev pub HandleAnswers : Call → Option Held → Option Held → Answer → Answer → Outcome → Type 0
+HandleAnswers call None after was now outcome = (outcome ≡ Outcome.WrongHandle) × (after ≡ None) × (now ≡ was)
+HandleAnswers call (Some Held.Nothing) after was now outcome = (outcome ≡ Outcome.WrongHandle) × (after ≡ Some Held.Nothing) × (now ≡ was)
+HandleAnswers call (Some (Held.Ledger l)) after was now outcome = (outcome ≡ Outcome.WrongHandle) × (after ≡ Some (Held.Ledger l)) × (now ≡ was)
+HandleAnswers call (Some (Held.Caller c)) after was now outcome =
+    (c' : OwnCallerTerms) × (after ≡ Some (Held.Caller c')) × CallerAnswers call c c' was now outcome
 
 -- a handle was to be filled with a ledger of the bytes
 abbrev pub Opens : List ℕ → Option Held → Option Held → ℕ → Outcome → Type 0
@@ -87,7 +87,7 @@ Opens bytes before after line Outcome.NoAccount = ⊥
 Opens bytes before after line Outcome.NoRoom = ⊥
 
 -- the next caller of a ledger was handed out
-abbrev pub HandsOutOf : ℕ → Held → Held → CallerTerms → Type 0
+abbrev pub HandsOutOf : ℕ → Held → Held → OwnCallerTerms → Type 0
 HandsOutOf calls Held.Nothing after caller = ⊥
 HandsOutOf calls (Held.Caller c) after caller = ⊥
 HandsOutOf calls (Held.Ledger l) after caller =
@@ -124,7 +124,7 @@ HoldsNoneLeft (Some held) = HasNoneLeft held
 -- a handle was to be filled with the next caller of the ledger that another holds. Where it isn't, nothing has changed
 abbrev pub HandsOutTo : ℕ → Option Held → Option Held → Option Held → Option Held → Outcome → Type 0
 HandsOutTo calls ledger ledger_now caller caller_now Outcome.Done = (caller ≡ None)
-    × ((held : Held) × (held_now : Held) × (next : CallerTerms) × (ledger ≡ Some held) × (ledger_now ≡ Some held_now)
+    × ((held : Held) × (held_now : Held) × (next : OwnCallerTerms) × (ledger ≡ Some held) × (ledger_now ≡ Some held_now)
     × (caller_now ≡ Some (Held.Caller next)) × HandsOutOf calls held held_now next)
 HandsOutTo calls ledger ledger_now caller caller_now Outcome.InUse =
     (is_some caller ≡ true) × (ledger_now ≡ ledger) × (caller_now ≡ caller)
@@ -138,21 +138,21 @@ HandsOutTo calls ledger ledger_now caller caller_now Outcome.NoAccount = ⊥
 HandsOutTo calls ledger ledger_now caller caller_now Outcome.NoRoom = ⊥
 
 -- the steps of a caller
-abbrev pub steps_in : Held → ℕ
-steps_in Held.Nothing = 0
-steps_in (Held.Ledger l) = 0
-steps_in (Held.Caller c) = c.pass.steps
+abbrev pub steps_of_held : Held → ℕ
+steps_of_held Held.Nothing = 0
+steps_of_held (Held.Ledger l) = 0
+steps_of_held (Held.Caller c) = c.pass.steps
 
-abbrev pub exchanges_in : Held → ℕ
-exchanges_in Held.Nothing = 0
-exchanges_in (Held.Ledger l) = 0
-exchanges_in (Held.Caller c) = c.pass.exchanges
+abbrev pub exchanges_of_held : Held → ℕ
+exchanges_of_held Held.Nothing = 0
+exchanges_of_held (Held.Ledger l) = 0
+exchanges_of_held (Held.Caller c) = c.pass.exchanges
 
 -- the same of what a handle holds
-abbrev pub steps_of : Option Held → ℕ
-steps_of None = 0
-steps_of (Some held) = steps_in held
+abbrev pub steps_by_handle : Option Held → ℕ
+steps_by_handle None = 0
+steps_by_handle (Some held) = steps_of_held held
 
-abbrev pub exchanges_of : Option Held → ℕ
-exchanges_of None = 0
-exchanges_of (Some held) = exchanges_in held
+abbrev pub exchanges_by_handle : Option Held → ℕ
+exchanges_by_handle None = 0
+exchanges_by_handle (Some held) = exchanges_of_held held

@@ -3,7 +3,7 @@ use Rattle.std.specs.Prelude.{◌≡◌, ℕ, ◌+◌, ◌<◌, List, [], ◌∷
 use Rattle.at_files.specs.BookFile.{Spells}
 use Rattle.at_files.specs.Records.{file_records}
 use Rattle.at_object.specs.Passes.{IsNewPass, PassTerms}
-use Rattle.at_c.specs.Callers.{CallerTerms}
+use Rattle.at_c.specs.Callers.{OwnCallerTerms}
 use Rattle.at_c.specs.declared.shared.Shared.{Shared}
 
 -- an opened ledger by what its callers share, how many callers were handed out, and the passes of the others
@@ -24,7 +24,7 @@ pub record IsNewLedger (bytes : List ℕ) (o : OpenedTerms) : Type 0 where
 
 -- where a pass waited, the caller of the next process was handed out, which has made no call and has room for so many. The others still
 -- wait. Where none did, all is as it was
-abbrev pub HandsOut : ℕ → OpenedTerms → OpenedTerms → Option CallerTerms → Type 0
+abbrev pub HandsOut : ℕ → OpenedTerms → OpenedTerms → Option OwnCallerTerms → Type 0
 HandsOut calls before after None = (before.waiting ≡ []) × (after ≡ before)
 HandsOut calls before after (Some caller) =
     (pass : PassTerms) × (rest : List PassTerms) × (before.waiting ≡ pass ∷ rest) × IsNewPass before.shared.ledger before.given pass

@@ -27,9 +27,9 @@ pub struct Caller {
 impl Model for Caller {
     ghost use Rattle.std.specs.Arc.{arc_value};
     ghost use Rattle.std.specs.Vec.{vec_capacity};
-    ghost use Rattle.at_c.specs.Callers.{CallerTerms, IsCaller};
+    ghost use Rattle.at_c.specs.Callers.{OwnCallerTerms, IsCaller};
 
-    ghost Value = { CallerTerms };
+    ghost Value = { OwnCallerTerms };
 
     ghost view = { λ c. record {
       shared = arc_value c.shared;

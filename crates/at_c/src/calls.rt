@@ -3,7 +3,7 @@
 ghost use Rattle.std.specs.Prelude.{◌≡◌, Some, length};
 ghost use Rattle.at_ledger.specs.Call.{IsCallOn};
 ghost use Rattle.at_ledger.specs.declared.call.Call.{Call};
-ghost use Rattle.at_c.specs.Exports.{Answers, AnswersBy};
+ghost use Rattle.at_c.specs.Exports.{HandleAnswers, CallerAnswers};
 
 use crate::caller::Caller;
 use crate::handle::Handle;
@@ -16,7 +16,7 @@ impl Caller {
     /// Makes a call, where there is room for its receipt.
     fn answer(&mut self, call: Call, answer: &mut Answer) -> Outcome
         requires { IsCallOn (length self.old.shared.ledger.book.accounts) call }
-        ensures { AnswersBy call self.old self.new answer.old answer.new result }
+        ensures { CallerAnswers call self.old self.new answer.old answer.new result }
     {
         if self.made() >= self.room() {
             return Outcome::NoRoom;
@@ -28,7 +28,7 @@ impl Caller {
 
     /// Makes a transfer, where there are such accounts.
     fn transfer(&mut self, from: u32, to: u32, amount: u64, answer: &mut Answer) -> Outcome
-        ensures { AnswersBy (Call.Transfer from to amount) self.old self.new answer.old answer.new
+        ensures { CallerAnswers (Call.Transfer from to amount) self.old self.new answer.old answer.new
             result }
     {
         let accounts = self.accounts();
@@ -43,7 +43,7 @@ impl Caller {
 
     /// Makes a read, where there is such an account.
     fn read(&mut self, account: u32, answer: &mut Answer) -> Outcome
-        ensures { AnswersBy (Call.Read account) self.old self.new answer.old answer.new result }
+        ensures { CallerAnswers (Call.Read account) self.old self.new answer.old answer.new result }
     {
         if account >= self.accounts() {
             return Outcome::NoAccount;
@@ -54,7 +54,7 @@ impl Caller {
 
 impl Held {
     fn transfer(&mut self, from: u32, to: u32, amount: u64, answer: &mut Answer) -> Outcome
-        ensures { Answers (Call.Transfer from to amount) (Some self.old) (Some self.new) answer.old
+        ensures { HandleAnswers (Call.Transfer from to amount) (Some self.old) (Some self.new) answer.old
             answer.new result }
     {
         match self {
@@ -65,7 +65,7 @@ impl Held {
     }
 
     fn read(&mut self, account: u32, answer: &mut Answer) -> Outcome
-        ensures { Answers (Call.Read account) (Some self.old) (Some self.new) answer.old answer.new
+        ensures { HandleAnswers (Call.Read account) (Some self.old) (Some self.new) answer.old answer.new
             result }
     {
         match self {
@@ -86,7 +86,7 @@ impl Handle {
         amount: u64,
         answer: &mut Answer,
     ) -> Outcome
-        ensures { Answers (Call.Transfer from to amount) self.old.held self.new.held answer.old
+        ensures { HandleAnswers (Call.Transfer from to amount) self.old.held self.new.held answer.old
             answer.new result }
     {
         let Some(mut held) = self.take(alloc) else {
@@ -99,7 +99,7 @@ impl Handle {
 
     /// Makes a read by the caller that the handle holds.
     pub(crate) fn read(&mut self, alloc: Global, account: u32, answer: &mut Answer) -> Outcome
-        ensures { Answers (Call.Read account) self.old.held self.new.held answer.old answer.new
+        ensures { HandleAnswers (Call.Read account) self.old.held self.new.held answer.old answer.new
             result }
     {
         let Some(mut held) = self.take(alloc) else {

@@ -2,7 +2,7 @@
 
 ghost use Rattle.std.specs.Prelude.{◌≡◌, None};
 ghost use Rattle.at_ledger.specs.declared.call.Call.{Call};
-ghost use Rattle.at_c.specs.Exports.{Answers, HandsOutTo, Opens, number_of, steps_of, exchanges_of};
+ghost use Rattle.at_c.specs.Exports.{HandleAnswers, HandsOutTo, Opens, outcome_number, steps_by_handle, exchanges_by_handle};
 ghost use Rattle.at_c.specs.declared.outcome.Outcome.{Outcome};
 
 use crate::handle::Handle;
@@ -18,7 +18,7 @@ pub extern "C" fn bezglami_open(
     ledger: &mut Handle,
     line: &mut u32,
 ) -> u32
-    ensures { (outcome : Outcome) × (result ≡ number_of outcome)
+    ensures { (outcome : Outcome) × (result ≡ outcome_number outcome)
         × Opens book.now ledger.old.held ledger.new.held line.new outcome }
 {
     ledger.open(alloc, book, line).number()
@@ -32,7 +32,7 @@ pub extern "C" fn bezglami_caller(
     calls: u32,
     caller: &mut Handle,
 ) -> u32
-    ensures { (outcome : Outcome) × (result ≡ number_of outcome)
+    ensures { (outcome : Outcome) × (result ≡ outcome_number outcome)
         × HandsOutTo calls ledger.old.held ledger.new.held caller.old.held caller.new.held outcome }
 {
     ledger.hand_out(alloc, calls, caller).number()
@@ -48,8 +48,8 @@ pub extern "C" fn bezglami_transfer(
     amount: u64,
     answer: &mut Answer,
 ) -> u32
-    ensures { (outcome : Outcome) × (result ≡ number_of outcome)
-        × Answers (Call.Transfer from to amount) caller.old.held caller.new.held answer.old answer.new outcome }
+    ensures { (outcome : Outcome) × (result ≡ outcome_number outcome)
+        × HandleAnswers (Call.Transfer from to amount) caller.old.held caller.new.held answer.old answer.new outcome }
 {
     caller.transfer(alloc, from, to, amount, answer).number()
 }
@@ -62,8 +62,8 @@ pub extern "C" fn bezglami_read(
     account: u32,
     answer: &mut Answer,
 ) -> u32
-    ensures { (outcome : Outcome) × (result ≡ number_of outcome)
-        × Answers (Call.Read account) caller.old.held caller.new.held answer.old answer.new outcome }
+    ensures { (outcome : Outcome) × (result ≡ outcome_number outcome)
+        × HandleAnswers (Call.Read account) caller.old.held caller.new.held answer.old answer.new outcome }
 {
     caller.read(alloc, account, answer).number()
 }
@@ -71,7 +71,7 @@ pub extern "C" fn bezglami_read(
 /// How many steps the calls of this caller have made, and 0 where the handle holds none.
 #[unsafe(no_mangle)]
 pub extern "C" fn bezglami_steps(alloc: Global, caller: &mut Handle) -> u64
-    ensures steps { result ≡ steps_of caller.old.held }
+    ensures steps { result ≡ steps_by_handle caller.old.held }
     ensures same { caller.new.held ≡ caller.old.held }
 {
     caller.steps(alloc)
@@ -80,7 +80,7 @@ pub extern "C" fn bezglami_steps(alloc: Global, caller: &mut Handle) -> u64
 /// How many of them were exchanges.
 #[unsafe(no_mangle)]
 pub extern "C" fn bezglami_exchanges(alloc: Global, caller: &mut Handle) -> u64
-    ensures exchanges { result ≡ exchanges_of caller.old.held }
+    ensures exchanges { result ≡ exchanges_by_handle caller.old.held }
     ensures same { caller.new.held ≡ caller.old.held }
 {
     caller.exchanges(alloc)

@@ -2,7 +2,7 @@
 
 ghost use Rattle.std.specs.Prelude.{◌≡◌, None, Some};
 ghost use Rattle.std.specs.Option.{is_some};
-ghost use Rattle.at_c.specs.Exports.{HandedOf, HandsOutTo, Opens, exchanges_in, exchanges_of, steps_in, steps_of};
+ghost use Rattle.at_c.specs.Exports.{HandedOf, HandsOutTo, Opens, exchanges_of_held, exchanges_by_handle, steps_of_held, steps_by_handle};
 
 use crate::caller::Caller;
 use crate::handle::Handle;
@@ -42,7 +42,7 @@ impl Held {
     }
 
     fn steps(&self) -> u64
-        ensures { result ≡ steps_in self.now }
+        ensures { result ≡ steps_of_held self.now }
     {
         match self {
             Held::Caller(caller) => caller.steps(),
@@ -52,7 +52,7 @@ impl Held {
     }
 
     fn exchanges(&self) -> u64
-        ensures { result ≡ exchanges_in self.now }
+        ensures { result ≡ exchanges_of_held self.now }
     {
         match self {
             Held::Caller(caller) => caller.exchanges(),
@@ -153,7 +153,7 @@ impl Handle {
 
     /// The steps of the caller that the handle holds.
     pub(crate) fn steps(&mut self, alloc: Global) -> u64
-        ensures steps { result ≡ steps_of self.old.held }
+        ensures steps { result ≡ steps_by_handle self.old.held }
         ensures same { self.new.held ≡ self.old.held }
     {
         let Some(held) = self.take(alloc) else {
@@ -166,7 +166,7 @@ impl Handle {
 
     /// The exchanges of the caller that the handle holds.
     pub(crate) fn exchanges(&mut self, alloc: Global) -> u64
-        ensures exchanges { result ≡ exchanges_of self.old.held }
+        ensures exchanges { result ≡ exchanges_by_handle self.old.held }
         ensures same { self.new.held ≡ self.old.held }
     {
         let Some(held) = self.take(alloc) else {

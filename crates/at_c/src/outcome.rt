@@ -1,7 +1,7 @@
 //! What an export answers, and what it leaves of a call.
 
 ghost use Rattle.std.specs.Prelude.{◌≡◌};
-ghost use Rattle.at_c.specs.Exports.{answer_of, number_of};
+ghost use Rattle.at_c.specs.Exports.{answer_with, outcome_number};
 
 use at_ledger::Reply;
 
@@ -29,7 +29,7 @@ pub enum Outcome {
 impl Outcome {
     /// The number of the outcome in C.
     pub(crate) fn number(self) -> u32
-        ensures { result ≡ number_of self }
+        ensures { result ≡ outcome_number self }
     {
         match self {
             Outcome::Done => 0,
@@ -58,7 +58,7 @@ pub struct Answer {
 impl Answer {
     /// The answer of a call with this reply, and with so many steps and exchanges.
     pub(crate) fn of(reply: Reply, steps: u64, exchanges: u64) -> Answer
-        ensures { result ≡ answer_of reply steps exchanges }
+        ensures { result ≡ answer_with reply steps exchanges }
     {
         let (reply, balance) = match reply {
             Reply::Done => (0, 0),
