@@ -7,3 +7,4 @@ pub mod Slots
 pub mod FileLists
 pub mod Made
 pub mod Continuing
+pub mod TargetLists

@@ -3,27 +3,31 @@
 ghost use Rattle.std.specs.Prelude.{◌≡◌, ◌<◌, ◌≤◌, ◌^◌, ◌++◌, [], ◌∷◌, length};
 ghost use Rattle.at_ledger.specs.Limits.{most_targets};
 
-use arrayvec::ArrayVec;
 use std::marker::Model;
 
 /// The most targets of one pay-out.
 pub const TARGETS_MAX: usize = 4;
 
 /// One to four accounts with an amount for each. An account may stand in it twice.
+///
+/// Accounts and amounts stand apart, since a pair of both would have four bytes that say nothing.
 #[derive(Debug, Drop)]
 pub struct Targets {
-    list: ArrayVec<(u32, u64), TARGETS_MAX>,
+    amounts: [u64; TARGETS_MAX],
+    accounts: [u32; TARGETS_MAX],
+    count: u32,
 }
 
 impl Model for Targets {
-    ghost use Rattle.std.specs.Prelude.{◌≤◌, List, ℕ, length};
+    ghost use Rattle.std.specs.Prelude.{◌≤◌, List, ℕ, take};
+    ghost use Rattle.std.specs.List.{zip};
     ghost use Rattle.at_ledger.specs.Limits.{most_targets};
 
     ghost Value = { List (ℕ × ℕ) };
 
-    ghost view = { λ t. t.list.items };
+    ghost view = { λ t. take t.count (zip t.accounts t.amounts) };
 
-    ghost invariant = { λ t. (1 ≤ length t.list.items) × (length t.list.items ≤ most_targets) };
+    ghost invariant = { λ t. (1 ≤ t.count) × (t.count ≤ most_targets) };
 }
 
 impl Targets {
@@ -33,9 +37,11 @@ impl Targets {
     pub fn one(to: u32, amount: u64) -> Targets
         ensures { result ≡ (to, amount) ∷ [] }
     {
-        let mut list = ArrayVec::new();
-        list.push((to, amount));
-        Targets { list }
+        Targets {
+            amounts: [amount, 0, 0, 0],
+            accounts: [to, 0, 0, 0],
+            count: 1,
+        }
     }
 
     /// Adds a target after the others.
@@ -43,7 +49,10 @@ impl Targets {
         requires { length self.old < most_targets }
         ensures { self.new ≡ self.old ++ (to, amount) ∷ [] }
     {
-        self.list.push((to, amount));
+        let i = self.count as usize;
+        self.amounts[i] = amount;
+        self.accounts[i] = to;
+        self.count += 1;
     }
 
     /// How many targets there are.
@@ -53,7 +62,7 @@ impl Targets {
         ensures few { length self.now ≤ most_targets }
         ensures limit { TARGETS_MAX ≡ most_targets }
     {
-        self.list.len() as u32
+        self.count
     }
 
     /// The account of a target.
@@ -61,7 +70,7 @@ impl Targets {
         requires { i < length self.now }
         ensures { result ≡ (target_at self.now i).0 }
     {
-        self.list[i as usize].0
+        self.accounts[i as usize]
     }
 
     /// The amount for a target.
@@ -69,7 +78,7 @@ impl Targets {
         requires { i < length self.now }
         ensures { result ≡ (target_at self.now i).1 }
     {
-        self.list[i as usize].1
+        self.amounts[i as usize]
     }
 
     /// The sum of the amounts, which may not fit 64 bits.
@@ -78,8 +87,8 @@ impl Targets {
         ensures small { result ≤ 2 ^ 66 }
     {
         let mut sum = 0u128;
-        for target in self.list.as_slice() {
-            sum += u128::from(target.1);
+        for i in 0..self.count {
+            sum += u128::from(self.amounts[i as usize]);
         }
         sum
     }
@@ -88,8 +97,10 @@ impl Targets {
     pub fn copy(&self) -> Targets
         ensures { result ≡ self.now }
     {
-        let mut list = ArrayVec::new();
-        list.try_extend_from_slice(self.list.as_slice()).unwrap();
-        Targets { list }
+        Targets {
+            amounts: self.amounts,
+            accounts: self.accounts,
+            count: self.count,
+        }
     }
 }

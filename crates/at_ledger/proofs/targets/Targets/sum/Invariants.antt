@@ -1,7 +1,8 @@
 use Rattle.std.proofs.Common.{◌≡◌, ◌≤◌, ◌*◌, ◌^◌, take}
+use Rattle.std.specs.List.{zip}
 use Rattle.at_ledger.specs.Call.{amount_of}
 use Rattle.at_ledger.proofs.targets.Targets.sum.Given as goal
 
-abbrev pub invariant-loop-target : goal.invariant-loop-target
-invariant-loop-target l =
-    (l.sum ≡ amount_of (take l.target-index l.target-items)) × (l.sum ≤ l.target-index * 2 ^ 64)
+abbrev pub invariant-loop-i : goal.invariant-loop-i
+invariant-loop-i l =
+    (l.sum ≡ amount_of (take l.i (zip l.self-inside.accounts l.self-inside.amounts))) × (l.sum ≤ l.i * 2 ^ 64)
