@@ -833,6 +833,9 @@ for folder in "$root"/examples/replay/*/; do
     shows trace "$folder/book.csv" "$folder/schedule.csv" "$folder/pay0.csv" "$folder/pay1.csv"
     cp "$folder/$example.trace" wanted
     printed "the turns of $example" wanted
+    shows show "$folder/book.csv" "$folder/schedule.csv" "$folder/pay0.csv" "$folder/pay1.csv"
+    cp "$folder/$example.html" wanted
+    printed "the page of $example" wanted
 done
 lines book,1 processes,1 limits,4,1 account,0,100,0 account,1,0, >book.csv
 lines transfer,1,0,5 read,0 >pay.csv
@@ -845,8 +848,10 @@ shows trace book.csv schedule.csv pay.csv
 refused 'a bad schedule for trace' 9 'schedule: line 2: unknown process'
 shows trace book.csv schedule.csv
 refused 'too few files for trace' 2 'files: wanted 1, given 0'
+shows show book.csv schedule.csv pay.csv
+refused 'a bad schedule for show' 9 'schedule: line 2: unknown process'
 
-usage='usage: kinds BOOK PAY... | costs BOOK PAY... | orders BOOK PAY... | ledger BOOK PAY... | trace BOOK SCHEDULE PAY...'
+usage='usage: kinds BOOK PAY... | costs BOOK PAY... | orders BOOK PAY... | ledger BOOK PAY... | trace BOOK SCHEDULE PAY... | show BOOK SCHEDULE PAY...'
 shows --help
 refused 'words of no form for the second program' 2 "$usage"
 shows kinds
@@ -857,6 +862,8 @@ shows orders
 refused 'orders alone' 2 "$usage"
 shows trace "$usual/book.csv"
 refused 'trace with a book alone' 2 "$usage"
+shows show "$usual/book.csv"
+refused 'show with a book alone' 2 "$usage"
 shows run "$usual/book.csv" "$usual/pay0.csv"
 refused 'words of the first program for the second' 2 "$usage"
 shows kinds "$(printf '\377')"
@@ -887,5 +894,8 @@ done
 "$showing" trace "$usual/book.csv" empty.csv "$usual/pay0.csv" >/dev/full 2>err
 status=$?
 refused 'a full device for trace' 6 'write fault'
+"$showing" show "$usual/book.csv" empty.csv "$usual/pay0.csv" >/dev/full 2>err
+status=$?
+refused 'a full device for show' 6 'write fault'
 
 told

@@ -5,3 +5,4 @@ pub mod Groups
 pub mod GroupKeys
 pub mod Totals
 pub mod CallFields
+pub mod Sentence

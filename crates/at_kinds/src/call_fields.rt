@@ -11,7 +11,7 @@ use at_ledger::{Book, Call, NoMemory};
 use at_report::push_field;
 
 /// What is called.
-fn call_word(call: &Call) -> &'static [u8]
+pub fn call_word(call: &Call) -> &'static [u8]
     ensures { result.now ≡ call_word call.now }
 {
     match call {
@@ -22,7 +22,7 @@ fn call_word(call: &Call) -> &'static [u8]
 }
 
 /// The word of a kind.
-fn kind_word(kind: Kind) -> &'static [u8]
+pub fn kind_word(kind: Kind) -> &'static [u8]
     ensures { result.now ≡ kind_word kind }
 {
     match kind {

@@ -106,7 +106,11 @@ fn push_head(out: &mut Vec<u8>, book: &Book, counts: &Counts) -> Result<(), NoMe
 }
 
 /// Adds the names of these processes.
-fn push_names(out: &mut Vec<u8>, names: &Names, processes: &[u32]) -> Result<(), NoMemory>
+pub(crate) fn push_names(
+    out: &mut Vec<u8>,
+    names: &Names,
+    processes: &[u32],
+) -> Result<(), NoMemory>
     requires { All (λ process. process < length names.now.processes) processes.now }
     ensures { OnOk result
         (out.new.items ≡ out.old.items ++ spaced (owner_words names.now processes.now)) }

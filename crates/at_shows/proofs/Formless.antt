@@ -5,9 +5,10 @@ use Rattle.at_report.specs.declared.status.Status.TheVariants.{Usage}
 use Rattle.at_report.specs.declared.status.UsageFault.TheVariants.{Words}
 use Rattle.at_shows.specs.Answered.{LeavesShown}
 use Rattle.at_shows.specs.Words.{Showing}
-use Rattle.at_shows.specs.Words.Showing.{Files, Trace}
+use Rattle.at_shows.specs.Words.Showing.{Files, Show, Trace}
 
 pub LeavesShown-formless : (wanted : Option Showing) (s : Found) (o : Outcome) → LeavesShown wanted s o → (o.answer ≡ Usage Words) ↔ (wanted ≡ None)
 LeavesShown-formless (Some (Files view form)) s o left = (λ is. absurd (left.formed is), λ none. absurd (cc))
 LeavesShown-formless (Some (Trace asked)) s o left = (λ is. absurd (left.formed is), λ none. absurd (cc))
+LeavesShown-formless (Some (Show asked)) s o left = (λ is. absurd (left.formed is), λ none. absurd (cc))
 LeavesShown-formless None s o left = (λ is. refl, λ none. left)

@@ -8,11 +8,12 @@ use Rattle.at_loading.specs.Loading.{Loaded, MayReach, Spelled, loaded}
 use Rattle.at_loading.specs.Words.{Form}
 use Rattle.at_report.specs.declared.status.Status.TheVariants.{Done, NoMemory, ReadFault, Usage, WriteFault}
 use Rattle.at_report.specs.declared.status.UsageFault.TheVariants.{Words}
+use Rattle.at_shows.specs.Picturing.{ShowsPage}
 use Rattle.at_shows.specs.Refused.{AnswersView, Completes, MayRefuseView}
 use Rattle.at_shows.specs.Tracing.{ShowsTrace}
 use Rattle.at_shows.specs.Views.{ShowsRead, is_run}
 use Rattle.at_shows.specs.Words.{Showing}
-use Rattle.at_shows.specs.Words.Showing.{Files, Trace}
+use Rattle.at_shows.specs.Words.Showing.{Files, Show, Trace}
 use Rattle.at_shows.specs.declared.words.View.{View}
 
 -- `kinds`, `costs`, `orders` and `ledger`. Under `Done` all bytes that were taken are the text of the view for what was read, which is what the
@@ -33,8 +34,9 @@ pub record AnsweredView (view : View) (form : Form) (s : Found) (o : Outcome) : 
   pub numbered : HasFileNumbers (length form.payments) o.answer
   pub formed : o.answer ≢ Usage Words
 
--- what is left of what words ask to be shown: `trace` plays its schedule as `replay` does (`AnsweredTurns` of at_commands)
+-- what is left of what words ask to be shown: `trace` and `show` play their schedule as `replay` does (`AnsweredTurns` of at_commands)
 abbrev pub LeavesShown : Option Showing → Found → Outcome → Type 0
 LeavesShown (Some (Files view form)) s o = AnsweredView view form s o
 LeavesShown (Some (Trace asked)) s o = AnsweredTurns ShowsTrace asked s o
+LeavesShown (Some (Show asked)) s o = AnsweredTurns ShowsPage asked s o
 LeavesShown None s o = o.answer ≡ Usage Words

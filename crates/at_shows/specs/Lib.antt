@@ -1,4 +1,5 @@
 pub mod Tracing
+pub mod Picturing
 pub mod Words
 pub mod Usage
 pub mod Views

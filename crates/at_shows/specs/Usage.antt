@@ -9,7 +9,7 @@ use Rattle.at_report.specs.declared.status.UsageFault.TheVariants.{Words}
 
 -- what the words have to be
 abbrev pub usage_line : List ℕ
-usage_line = codes "usage: kinds BOOK PAY... | costs BOOK PAY... | orders BOOK PAY... | ledger BOOK PAY... | trace BOOK SCHEDULE PAY..." ++ 10 ∷ []
+usage_line = codes "usage: kinds BOOK PAY... | costs BOOK PAY... | orders BOOK PAY... | ledger BOOK PAY... | trace BOOK SCHEDULE PAY... | show BOOK SCHEDULE PAY..." ++ 10 ∷ []
 
 -- whether the words have no form
 abbrev pub is_formless : Status → Bool

@@ -11,6 +11,7 @@ ghost use Rattle.at_shows.specs.Refused.{MayRefuseView};
 ghost use Rattle.at_shows.specs.Views.{ShowsRead, is_run};
 ghost use Rattle.at_shows.specs.Words.{showing_shown};
 
+use crate::picturing::Page;
 use crate::tracing::Trace;
 use crate::views::view_shown;
 use crate::words::{Asked, View};
@@ -149,5 +150,6 @@ pub(crate) fn answer_shown<R: Threads + Sync, F: Shelf, O: Sink, G: Gate + Sync>
             answer_view(rt, alloc, shelf, out, *view, form, gate, kept)
         }
         Some(Asked::Trace(asked)) => answer_turns::<F, O, Trace>(alloc, shelf, out, asked),
+        Some(Asked::Show(asked)) => answer_turns::<F, O, Page>(alloc, shelf, out, asked),
     }
 }

@@ -18,7 +18,7 @@ use std::alloc::Global;
 use std::thread::Threads;
 
 const USAGE: &str =
-    "usage: kinds BOOK PAY... | costs BOOK PAY... | orders BOOK PAY... | ledger BOOK PAY... | trace BOOK SCHEDULE PAY...\n";
+    "usage: kinds BOOK PAY... | costs BOOK PAY... | orders BOOK PAY... | ledger BOOK PAY... | trace BOOK SCHEDULE PAY... | show BOOK SCHEDULE PAY...\n";
 
 /// Whether the words have no form.
 fn is_formless(status: &Status) -> bool
@@ -77,7 +77,8 @@ fn tell_unless_done<E: Sink>(err: &mut E, status: &Status)
 /// write. `words` are those after the program's name. `costs` and `ledger` make the calls of all processes at once on one
 /// ledger, by a thread for each process where threads can be had; the gate is told of each call, and under `Done` and a
 /// write fault that ledger is left, closed, in `kept`. The work grows with the bytes of the files and the calls, for
-/// `kinds` by a logarithm of the accounts more, and for `orders` with the stages that the orders go through, and for `trace` with the turns.
+/// `kinds` by a logarithm of the accounts more, and for `orders` with the stages that the orders go through, for `trace` with the
+/// turns, and for `show` with the turns times the processes.
 pub fn show_all<R: Threads + Sync, F: Shelf, O: Sink, E: Sink, G: Gate + Sync>(
     rt: &R,
     alloc: Global,

@@ -2,7 +2,7 @@
 
 ghost use Rattle.std.specs.Prelude.{◌≡◌, option_map};
 ghost use Rattle.at_loading.specs.Words.{words_of};
-ghost use Rattle.at_shows.specs.Words.{showing_of, showing_shown, trace_wanted, view_wanted};
+ghost use Rattle.at_shows.specs.Words.{show_wanted, showing_of, showing_shown, trace_wanted, view_wanted};
 
 use at_loading::{Command, Form, Replaying};
 
@@ -26,6 +26,8 @@ pub enum Asked<'a> {
     View { view: View, form: Form<'a> },
     /// The turns of a run by a schedule, whose files are read as for `replay`.
     Trace(Replaying<'a>),
+    /// The page of such a run.
+    Show(Replaying<'a>),
 }
 
 /// What the words after the name of a view ask for.
@@ -57,6 +59,20 @@ fn trace_asked(words: &[String]) -> Option<Asked<'_>>
     }))
 }
 
+/// What the words after `show` ask for.
+fn show_asked(words: &[String]) -> Option<Asked<'_>>
+    ensures { option_map showing_shown result ≡ show_wanted (words_of words.now) }
+{
+    let [book, schedule, payments @ ..] = words else {
+        return None;
+    };
+    Some(Asked::Show(Replaying {
+        book: book.as_str(),
+        schedule: schedule.as_str(),
+        payments,
+    }))
+}
+
 /// What the words after the program's name ask to be shown, if they have the form of a command. A word is never taken as
 /// an option.
 pub fn shown_by(words: &[String]) -> Option<Asked<'_>>
@@ -71,6 +87,7 @@ pub fn shown_by(words: &[String]) -> Option<Asked<'_>>
         "orders" => view_asked(View::Orders, words),
         "ledger" => view_asked(View::Ledger, words),
         "trace" => trace_asked(words),
+        "show" => show_asked(words),
         _ => None,
     }
 }

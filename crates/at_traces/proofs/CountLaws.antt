@@ -18,7 +18,7 @@ pub record AreCounted (turns : List TurnMade) (i : ℕ) (answered : List ℕ) : 
 abbrev pub added : ℕ → TurnMade → ℕ
 added p t = cond ((t.process == p) && is_some t.reply) 1 0
 
-answered_by-more : (turns : List TurnMade) (i p : ℕ) → i < length turns
+pub answered_by-more : (turns : List TurnMade) (i p : ℕ) → i < length turns
     → answered_by p (take (i + 1) turns) ≡ answered_by p (take i turns) + added p (turn_at turns i)
 answered_by-more turns i p within =
     ap (answered_by p) (take_more turns i _ within)
@@ -39,10 +39,10 @@ AreCounted-none turns = record {
 }
 
 -- what a turn adds to its own process, and to another
-own-added : (t : TurnMade) → added t.process t ≡ cond (is_some t.reply) 1 0
+pub own-added : (t : TurnMade) → added t.process t ≡ cond (is_some t.reply) 1 0
 own-added t = ap {B = ℕ} (λ (x : Bool). cond (x && is_some t.reply) 1 0) (eq-eqb t.process t.process refl)
 
-other-added : (p : ℕ) (t : TurnMade) → t.process ≢ p → added p t ≡ 0
+pub other-added : (p : ℕ) (t : TurnMade) → t.process ≢ p → added p t ≡ 0
 other-added p t apart = ap {B = ℕ} (λ (x : Bool). cond (x && is_some t.reply) 1 0) (ne_eqb t.process p apart)
 
 -- the next turn is counted at its process

@@ -22,7 +22,7 @@ fn push_head(out: &mut Vec<u8>) -> Result<(), NoMemory>
 }
 
 /// What a turn does to a word.
-fn step_word(step: &Option<BoardStep>) -> &'static [u8]
+pub fn step_word(step: &Option<BoardStep>) -> &'static [u8]
     ensures { result.now ≡ step_word step.now }
 {
     match step {
@@ -34,7 +34,7 @@ fn step_word(step: &Option<BoardStep>) -> &'static [u8]
 }
 
 /// Adds the address of the word, and nothing where the turn makes no step.
-fn push_step_address(
+pub fn push_step_address(
     out: &mut Vec<u8>,
     book: &Book,
     names: &Names,

@@ -1,0 +1,22 @@
+use Rattle.std.proofs.Common.{◌≡◌, ◌+◌, ◌++◌, ◌∷◌, [], ℕ, List, append_assoc, append-nil, codes, decimal, flat_map}
+use Rattle.std.proofs.lemmas.Grind.{flat_map-append}
+use Rattle.at_files.specs.Names.{process_name}
+use Rattle.at_ledger.specs.Files.{contents_of}
+use Rattle.at_traces.specs.TraceText.{reply_field}
+use Rattle.at_pages.specs.Bars.{spanned_call}
+use Rattle.at_pages.specs.Tables.{call_cells}
+use Rattle.at_pages.specs.declared.spans.Span.{Span}
+use Rattle.at_pages.proofs.tables.push_row.Goals as goal
+
+-- the parts of a row, one after another
+row-parts : (f : List ℕ → List ℕ) (out begin a b : List ℕ) (words : List (List ℕ)) (c d e end : List ℕ)
+    → (((((((out ++ begin) ++ flat_map f (a ∷ [])) ++ flat_map f (b ∷ [])) ++ flat_map f words) ++ flat_map f (c ∷ [])) ++ flat_map f (d ∷ [])) ++ flat_map f (e ∷ [])) ++ end
+    ≡ out ++ (begin ++ flat_map f (a ∷ b ∷ (words ++ c ∷ d ∷ e ∷ [])) ++ end)
+row-parts f out begin a b words c d e end = rw (flat_map-append f words (c ∷ d ∷ e ∷ [])) (simp (append_assoc, append-nil))
+
+pub returns : goal.returns
+returns c =
+    let s : Span = c.args.span.now in
+    rw (c.in_ok-extend_from_slice-2.ensures.items, c.in_ok-push_number_cell-3.ensures, c.in_ok-push_number_cell-2.ensures, c.in_ok-push_reply_cell.ensures, c.in_ok-push_call_cells.ensures, c.in_ok-push_number_cell.ensures, c.in_ok-push_cell.ensures, c.process.ensures.name, c.in_ok-extend_from_slice.ensures.items)
+    (row-parts (λ word. codes "<td>" ++ word ++ codes "</td>") c.args.out.now.items (codes "<tr>") (process_name c.args.names.now s.process) (decimal (s.number + 1))
+    (call_cells c.args.book.now c.args.names.now s.process (spanned_call (contents_of c.args.files.now) s)) (reply_field s.reply) (decimal s.steps) (decimal s.exchanges) (codes "</tr>\n"))

@@ -1,0 +1,48 @@
+-- Where the picture has what: time goes from left to right by turns, and each process has a lane.
+use Rattle.std.specs.Prelude.{ℕ, ◌+◌, ◌-◌, ◌*◌, List, ◌++◌, codes, decimal}
+
+-- the place of a turn, from 0
+abbrev pub time_place : ℕ → ℕ
+time_place m = 136 + 6 * m
+
+-- the place of a process's lane
+abbrev pub lane_place : ℕ → ℕ
+lane_place p = 64 + 132 * p
+
+-- a bar, from half a turn before its first to half a turn after its last, and from above its lane
+abbrev pub bar_left : ℕ → ℕ
+bar_left first = 133 + 6 * first
+
+abbrev pub bar_width : ℕ → ℕ → ℕ
+bar_width first last = 6 * (last - first) + 6
+
+abbrev pub bar_top : ℕ → ℕ
+bar_top p = 51 + 132 * p
+
+-- the right end of a bar, and the lines of text above and below it
+abbrev pub bar_right : ℕ → ℕ
+bar_right last = 139 + 6 * last
+
+abbrev pub words_line : ℕ → ℕ
+words_line p = 45 + 132 * p
+
+abbrev pub reply_line : ℕ → ℕ
+reply_line p = 92 + 132 * p
+
+-- the line of a process's name
+abbrev pub name_line : ℕ → ℕ
+name_line p = 68 + 132 * p
+
+-- the size of a picture of so many turns and processes, and how long its lanes are
+abbrev pub picture_width : ℕ → ℕ
+picture_width turns = 160 + 6 * turns
+
+abbrev pub picture_height : ℕ → ℕ
+picture_height processes = 132 * processes
+
+abbrev pub lane_width : ℕ → ℕ
+lane_width turns = 24 + 6 * turns
+
+-- an element's place
+abbrev pub place_text : ℕ → ℕ → List ℕ
+place_text x y = codes " x='" ++ decimal x ++ codes "' y='" ++ decimal y ++ codes "'"

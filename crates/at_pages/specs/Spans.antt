@@ -1,0 +1,50 @@
+-- The turns that each call took.
+use Rattle.std.specs.Prelude.{ℕ, ◌==◌, ◌&&◌, Bool, false, true, List, [], ◌∷◌, ◌++◌, Option, None, Some, count_by, filter, flat_map, is_some, length, map, slice_get, take, unwrap_or}
+use Rattle.std.specs.List.{range_with_len}
+use Rattle.at_board.specs.declared.step.BoardStep.{BoardStep}
+use Rattle.at_board.specs.declared.step.BoardStep.TheVariants.{Exchange, Load, Store}
+use Rattle.at_stepper.specs.InTurns.{is_turn_of, turn_at}
+use Rattle.at_stepper.specs.Schedules.{answered_by}
+use Rattle.at_stepper.specs.declared.replaying.TurnMade.{TurnMade}
+use Rattle.at_pages.specs.declared.spans.Span.{Span}
+
+-- whether a turn makes a step, and whether that is an exchange
+abbrev pub makes_step : List TurnMade → ℕ → Bool
+makes_step turns m = is_some (turn_at turns m).step
+
+abbrev pub is_exchange : Option BoardStep → Bool
+is_exchange None = false
+is_exchange (Some (Load word)) = false
+is_exchange (Some (Store word)) = false
+is_exchange (Some (Exchange word)) = true
+
+abbrev pub makes_exchange : List TurnMade → ℕ → Bool
+makes_exchange turns m = is_exchange (turn_at turns m).step
+
+-- whether a turn of the process answers a call
+abbrev pub answers : List TurnMade → ℕ → ℕ → Bool
+answers turns p m = ((turn_at turns m).process == p) && is_some (turn_at turns m).reply
+
+-- the turns before this one of the call of the process that is in the making then
+abbrev pub turns_before : List TurnMade → ℕ → ℕ → List ℕ
+turns_before turns p m = filter (is_turn_of turns p (answered_by p (take m turns))) (range_with_len 0 m)
+
+-- the call of the process that this turn answers: its number from 0, its first turn and its last, its steps and exchanges, and its reply
+abbrev pub span_at : List TurnMade → ℕ → ℕ → Span
+span_at turns p m = record {
+  process = p;
+  number = answered_by p (take m turns);
+  first = unwrap_or (slice_get (turns_before turns p m) 0) m;
+  last = m;
+  steps = count_by (makes_step turns) (turns_before turns p m ++ m ∷ []);
+  exchanges = count_by (makes_exchange turns) (turns_before turns p m ++ m ∷ []);
+  reply = (turn_at turns m).reply;
+}
+
+-- the calls of a process, by the turns that answer them
+abbrev pub spans_of : List TurnMade → ℕ → List Span
+spans_of turns p = map (span_at turns p) (filter (answers turns p) (range_with_len 0 (length turns)))
+
+-- the calls of all processes, by process and then in their order
+abbrev pub all_spans : List TurnMade → ℕ → List Span
+all_spans turns processes = flat_map (spans_of turns) (range_with_len 0 processes)

@@ -1,0 +1,40 @@
+-- The table of the calls, and the journal.
+use Rattle.std.specs.Prelude.{ℕ, ◌+◌, List, [], ◌∷◌, ◌++◌, Option, None, Some, codes, decimal, flat_map}
+use Rattle.at_files.specs.Names.{NameList, process_name}
+use Rattle.at_kinds.specs.CallFields.{call_fields}
+use Rattle.at_ledger.specs.Book.{BookTerms}
+use Rattle.at_ledger.specs.declared.call.Call.{Call}
+use Rattle.at_ledger.specs.declared.call.Line.{Line}
+use Rattle.at_report.specs.Lines.{Words, journal_words, line_text}
+use Rattle.at_traces.specs.TraceText.{reply_field}
+use Rattle.at_pages.specs.Bars.{spanned_call}
+use Rattle.at_pages.specs.declared.spans.Span.{Span}
+
+-- a cell for each word
+abbrev pub cells_text : Words → List ℕ
+cells_text words = flat_map (λ word. codes "<td>" ++ word ++ codes "</td>") words
+
+-- what is called, the account that it names first, and the call's kind
+abbrev pub call_cells : BookTerms → NameList → ℕ → Option Call → Words
+call_cells b names process None = []
+call_cells b names process (Some call) = call_fields b names process call
+
+-- whose call it is, and which of its calls; what it is; what it was answered, and its steps and exchanges
+abbrev pub row_words : BookTerms → NameList → List (List Call) → Span → Words
+row_words b names files s =
+    process_name names s.process ∷ decimal (s.number + 1)
+    ∷ (call_cells b names s.process (spanned_call files s) ++ reply_field s.reply ∷ decimal s.steps ∷ decimal s.exchanges ∷ [])
+
+abbrev pub row_text : BookTerms → NameList → List (List Call) → Span → List ℕ
+row_text b names files s = codes "<tr>" ++ cells_text (row_words b names files s) ++ codes "</tr>\n"
+
+-- the rows of all calls
+abbrev pub rows_text : BookTerms → NameList → List (List Call) → List Span → List ℕ
+rows_text b names files spans = flat_map (row_text b names files) spans
+
+-- a line of the journal, as the report has it
+abbrev pub item_text : NameList → Line → List ℕ
+item_text names l = codes "<li>" ++ line_text (journal_words names l) ++ codes "</li>\n"
+
+abbrev pub items_text : NameList → List Line → List ℕ
+items_text names lines = flat_map (item_text names) lines

@@ -1,0 +1,157 @@
+//! The table of the calls, and the journal.
+
+ghost use Rattle.std.specs.Prelude.{◌≡◌, ◌<◌, [], ◌∷◌, ◌++◌, All, OnOk, decimal, length};
+ghost use Rattle.at_ledger.specs.Call.{IsCallOn, IsLineOn};
+ghost use Rattle.at_ledger.specs.Files.{IsPlayable, contents_of};
+ghost use Rattle.at_files.specs.Names.{AreNamesOf};
+ghost use Rattle.at_kinds.specs.CallFields.{call_fields};
+ghost use Rattle.at_traces.specs.TraceText.{reply_field};
+ghost use Rattle.at_pages.specs.Bars.{spanned_call};
+ghost use Rattle.at_pages.specs.Tables.{call_cells, cells_text, item_text, items_text, row_text, rows_text};
+
+use crate::NoMemory;
+use crate::bars::push_reply;
+use crate::files::file_of;
+use crate::parts::push_size;
+use crate::spans::Span;
+use at_files::Names;
+use at_kinds::{call_word, kind_of, kind_word};
+use at_ledger::{Book, Call, Line, Reply};
+use at_report::push_line;
+
+/// Adds a cell of a word.
+fn push_cell(out: &mut Vec<u8>, word: &[u8]) -> Result<(), NoMemory>
+    ensures { OnOk result (out.new.items ≡ out.old.items ++ cells_text (word.now ∷ [])) }
+{
+    out.extend_from_slice(b"<td>")?;
+    out.extend_from_slice(word)?;
+    out.extend_from_slice(b"</td>")
+}
+
+/// Adds a cell of a number.
+fn push_number_cell(out: &mut Vec<u8>, n: u128) -> Result<(), NoMemory>
+    ensures { OnOk result (out.new.items ≡ out.old.items ++ cells_text (decimal n ∷ [])) }
+{
+    out.extend_from_slice(b"<td>")?;
+    push_size(out, n)?;
+    out.extend_from_slice(b"</td>")
+}
+
+/// Adds a cell of a reply.
+fn push_reply_cell(out: &mut Vec<u8>, reply: Option<Reply>) -> Result<(), NoMemory>
+    ensures { OnOk result (out.new.items ≡ out.old.items ++ cells_text (reply_field reply ∷ [])) }
+{
+    out.extend_from_slice(b"<td>")?;
+    push_reply(out, reply)?;
+    out.extend_from_slice(b"</td>")
+}
+
+/// Adds the cells of a call: what is called, the account that it names first, and its kind.
+fn push_fields(
+    out: &mut Vec<u8>,
+    book: &Book,
+    names: &Names,
+    process: u32,
+    call: &Call,
+) -> Result<(), NoMemory>
+    requires names { length names.now.accounts ≡ length book.now.accounts }
+    requires call { IsCallOn (length book.now.accounts) call.now }
+    ensures { OnOk result (out.new.items
+        ≡ out.old.items ++ cells_text (call_fields book.now names.now process call.now)) }
+{
+    push_cell(out, call_word(call))?;
+    push_cell(out, names.account(call.first_account()))?;
+    push_cell(out, kind_word(kind_of(book, process, call)))?;
+    Ok(())
+}
+
+/// Adds the cells of the call of these turns, if the files have it.
+fn push_call_cells(
+    out: &mut Vec<u8>,
+    book: &Book,
+    names: &Names,
+    files: &[Vec<Call>],
+    span: &Span,
+) -> Result<(), NoMemory>
+    requires names { length names.now.accounts ≡ length book.now.accounts }
+    requires process { span.now.process < length files.now }
+    requires files { All (IsPlayable (length book.now.accounts)) (contents_of files.now) }
+    ensures { OnOk result (out.new.items ≡ out.old.items ++ cells_text
+        (call_cells book.now names.now span.now.process (spanned_call (contents_of files.now) span.now))) }
+{
+    let file = file_of(files, span.process);
+    let number = span.number;
+    if number < file.len() {
+        push_fields(out, book, names, span.process, &file[number])
+    } else {
+        Ok(())
+    }
+}
+
+/// Adds the row of a call.
+fn push_row(
+    out: &mut Vec<u8>,
+    book: &Book,
+    names: &Names,
+    files: &[Vec<Call>],
+    span: &Span,
+) -> Result<(), NoMemory>
+    requires names { AreNamesOf book.now names.now }
+    requires count { length files.now ≡ book.now.processes }
+    requires process { span.now.process < length files.now }
+    requires files { All (IsPlayable (length book.now.accounts)) (contents_of files.now) }
+    ensures { OnOk result (out.new.items
+        ≡ out.old.items ++ row_text book.now names.now (contents_of files.now) span.now) }
+{
+    out.extend_from_slice(b"<tr>")?;
+    push_cell(out, names.process(span.process))?;
+    push_number_cell(out, span.number as u128 + 1)?;
+    push_call_cells(out, book, names, files, span)?;
+    push_reply_cell(out, span.reply)?;
+    push_number_cell(out, span.steps as u128)?;
+    push_number_cell(out, span.exchanges as u128)?;
+    out.extend_from_slice(b"</tr>\n")?;
+    Ok(())
+}
+
+/// Adds the rows of all calls.
+pub(crate) fn push_rows(
+    out: &mut Vec<u8>,
+    book: &Book,
+    names: &Names,
+    files: &[Vec<Call>],
+    spans: &[Span],
+) -> Result<(), NoMemory>
+    requires names { AreNamesOf book.now names.now }
+    requires count { length files.now ≡ book.now.processes }
+    requires process { All (λ s. s.process < length files.now) spans.now }
+    requires files { All (IsPlayable (length book.now.accounts)) (contents_of files.now) }
+    ensures { OnOk result (out.new.items
+        ≡ out.old.items ++ rows_text book.now names.now (contents_of files.now) spans.now) }
+{
+    for span in spans {
+        push_row(out, book, names, files, span)?;
+    }
+    Ok(())
+}
+
+/// Adds a line of the journal.
+fn push_item(out: &mut Vec<u8>, names: &Names, line: &Line) -> Result<(), NoMemory>
+    requires { IsLineOn (length names.now.processes) (length names.now.accounts) line.now }
+    ensures { OnOk result (out.new.items ≡ out.old.items ++ item_text names.now line.now) }
+{
+    out.extend_from_slice(b"<li>")?;
+    push_line(out, names, line)?;
+    out.extend_from_slice(b"</li>\n")
+}
+
+/// Adds the lines of the journal.
+pub(crate) fn push_items(out: &mut Vec<u8>, names: &Names, lines: &[Line]) -> Result<(), NoMemory>
+    requires { All (IsLineOn (length names.now.processes) (length names.now.accounts)) lines.now }
+    ensures { OnOk result (out.new.items ≡ out.old.items ++ items_text names.now lines.now) }
+{
+    for line in lines {
+        push_item(out, names, line)?;
+    }
+    Ok(())
+}
