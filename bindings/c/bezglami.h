@@ -7,8 +7,10 @@
  * What C has to keep to, and nothing checks:
  *   - a handle is BEZGLAMI_NOTHING or as an export left it, and its address isn't null;
  *   - one call at a time is given a handle; from one call to the next a handle may go to another thread, where a lock, a
- *     thread's start or join, or an atomic orders the two. Different handles may be used at once, in any threads;
- *   - answer and line point to their types, and `book` to `length` bytes that no other thread writes meanwhile;
+ *     thread's start or join, or a sequentially consistent atomic orders the two. Different handles may be used at once,
+ *     in any threads. (That a handle may cross to another thread isn't proved of its type yet: docs/bindings.md);
+ *   - `answer` and `line` point to their types, and `book` to `length` bytes that no other thread writes meanwhile; none
+ *     of these is null, also where `length` is 0, and what one call is given doesn't overlap;
  *   - malloc, realloc and free are one allocator's, which aligns a block to each power of two up to 16 that divides its
  *     size; no export is called from a signal handler or in the child of a fork of a process with threads.
  *
@@ -32,7 +34,8 @@ typedef struct bezglami_handle {
 
 #define BEZGLAMI_NOTHING { NULL }
 
-/* What came of an export. Where it isn't BEZGLAMI_DONE, nothing has changed but `line` of a bad book. */
+/* What came of an export. Where it isn't BEZGLAMI_DONE, no handle and no answer has changed. `line` is that of the first
+ * fault of a bad book, and is to be read after BEZGLAMI_BAD_BOOK alone. */
 enum bezglami_outcome {
     BEZGLAMI_DONE = 0,
     BEZGLAMI_WRONG_HANDLE = 1, /* the handle holds no ledger, or no caller, as the export wants one */
