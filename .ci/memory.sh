@@ -160,6 +160,8 @@ tried 'kinds, of names' 0 kinds "$household/book.csv" "$household/ann.csv" "$hou
 tried 'costs' 0 costs "$examples/usual/book.csv" "$examples/usual/pay0.csv"
 tried 'orders' 0 orders book.csv pay0.csv pay1.csv
 tried 'ledger' 0 ledger "$examples/usual/book.csv" "$examples/usual/pay0.csv"
+tried 'trace' 0 trace "$replay/book.csv" "$replay/schedule.csv" "$replay"/pay*.csv
+tried 'show' 0 show "$replay/book.csv" "$replay/schedule.csv" "$replay"/pay*.csv
 tried 'a refusal of the second program' 0 kinds "$household/book.csv" "$household/book.csv" "$household/bob.csv"
 
 # The example closes its ledger once more, with what was handed back, where there was no memory for that. A closing of two processes takes

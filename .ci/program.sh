@@ -325,7 +325,13 @@ each_way() {
     awk -F '[, ]' '
         # The first and the last turn of each call, by the turns alone.
         FNR == NR && /^turn,/ { way++; next }
-        FNR == NR { call = way SUBSEP $2 SUBSEP $3; if (!(call in first)) first[call] = $1; last[call] = $1; next }
+        FNR == NR {
+            call = way SUBSEP $2 SUBSEP $3
+            if (!(call in first)) first[call] = $1
+            last[call] = $1
+            if ($NF != "") answer[call] = $NF
+            next
+        }
         # No line stands behind one whose call began after its own had ended, but where neither moved anything.
         /^journal/ { run++; lines = 0; listed = 1; next }
         /^balances/ {
@@ -335,10 +341,16 @@ each_way() {
             listed = 0
             next
         }
-        listed { lines++; line[lines] = run SUBSEP $1 SUBSEP $2; done[lines] = $NF == "done" }
-        END { exit !(way == 1024 && run == 1024 && late == 0) }
+        # The reply of each line is that of the last turn of its call.
+        listed {
+            line[++lines] = run SUBSEP $1 SUBSEP $2
+            done[lines] = $NF == "done"
+            if (answer[line[lines]] == $NF) answered++
+            else wrong++
+        }
+        END { exit !(way == 1024 && run == 1024 && late == 0 && wrong == 0 && answered > 0) }
     ' traces ways && [ ! -s err ] && good=yes || good=no
-    count "$good" "the journals of these ways keep the time of their turns: $*"
+    count "$good" "the journals of these ways keep the time of their turns, and have their replies: $*"
 }
 # The schedules make the first turns of all.
 turns
@@ -488,6 +500,19 @@ cp out report
 echo 'verified 1024' >verified
 [ "$status" -eq 0 ] && run verify largest.csv report $(each few)
 printed 'a replay at the limits' verified
+# The same turn by turn: the replies of the turns are those of the lines. Its page has a mark for each turn.
+shows trace largest.csv turns.csv $(each few)
+[ "$status" -eq 0 ] && [ ! -s err ] && awk -F '[, ]' '
+    FNR == NR { if (FNR > 1 && $NF != "") answer[$2, $3] = $NF; next }
+    /^balances/ { exit }
+    FNR > 1 { if (answer[$1, $2] == $NF) answered++; else wrong++ }
+    END { exit !(answered == 1024 && wrong == 0) }
+' out report && good=yes || good=no
+count "$good" 'a trace at the limits'
+made=$(($(wc -l <out) - 1))
+shows show largest.csv turns.csv $(each few)
+[ "$status" -eq 0 ] && [ ! -s err ] && [ "$(grep -c "^<use href='#" out)" -eq "$made" ] && good=yes || good=no
+count "$good" 'a page at the limits'
 
 echo 'agreed 8 4294967295' >agreed
 run agree 4294967295 4294967295 4294967295 4294967295 4294967295 4294967295 4294967295 4294967295
