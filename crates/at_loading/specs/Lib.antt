@@ -2,3 +2,4 @@ pub mod Limits
 pub mod Words
 pub mod Loading
 pub mod Faults
+pub mod Counting

@@ -6,12 +6,14 @@
 #![tactic(auto)]
 
 mod asked;
+mod counting;
 mod file_forms;
 mod loading;
 mod numbers;
 mod words;
 
 pub use crate::asked::{Asked, asked_by};
+pub use crate::counting::{Counted, count};
 pub use crate::file_forms::{FileForm, Messages, Payments, ReplayPayments};
 pub use crate::loading::{Loaded, fetch_file, load, load_all};
 pub use crate::numbers::{

@@ -1,0 +1,226 @@
+-- Files whose calls are counted, and not kept.
+use Rattle.std.proofs.Common.{◌≡◌, ◌∙◌, ℕ, ◌+◌, ◌<◌, ◌≤◌, zero, suc, Bool, true, false, List, [], ◌∷◌, length, map, sum, sum_by, Vec, get_or, take, ◌==◌, ◌⊎◌, inl, inr, Result, Ok, Err, All, refl, sym, ap, arith, if◌then◌else◌}
+use Rattle.std.specs.Global.{Global}
+use Rattle.std.proofs.lemmas.List.{length-map}
+use Rattle.std.proofs.lemmas.List.Sums.{sum_by-cons, sum_by_more}
+use Rattle.at_files.specs.BookRecords.{NamedBook}
+use Rattle.at_files.specs.Results.{and_then}
+use Rattle.at_ledger.specs.declared.call.Call.{Call}
+use Rattle.at_ledger.specs.Files.{contents_of}
+use Rattle.at_ledger.proofs.FileLists.{get_or-contents_of, length-contents_of}
+use Rattle.at_ledger.specs.Limits.{most_calls}
+use Rattle.at_report.specs.Lines.{Word}
+use Rattle.at_report.specs.declared.status.Status.{Status}
+use Rattle.at_report.specs.declared.status.Status.TheVariants.{Done, Usage, BadBook, BadPayments, ReadFault, WriteFault, NoMemory, TooLong, BadSchedule, BadOrder, BadMessages, NotLegal, TooManyOrders}
+use Rattle.at_report.specs.declared.status.UsageFault.TheVariants as usage
+use Rattle.at_loading.specs.Counting.{CountsBytes, CountsRead, IsCount, counted, counted_given}
+use Rattle.at_loading.specs.Faults.{IsBrought, IsUnread, MayRefuse}
+use Rattle.at_loading.specs.Loading.{EachSpells, Files, IsReached, IsSpelled, Loaded, LoadedOf, MayReach, MayReachOf, PaysBytes, SpellsFile, SpelledOf, all_loaded, book_loaded, calls_given, fetched, file_first, file_loaded, files_beside, files_loaded, loaded, named_book, with_book}
+use Rattle.at_loading.specs.Words.{Form}
+use Rattle.at_loading.proofs.Laws.SpelledLoaded.{loaded-Spelled}
+
+-- what a result that was changed comes of
+Ok-and_then : {A B E : Type 0} (r : Result A E) (f : A → B) (y : B) → and_then r (λ x. Ok (f x)) ≡ Ok y → (x : A) × (r ≡ Ok x)
+Ok-and_then (Ok x) f y is = (x, refl)
+Ok-and_then (Err refusal) f y is = absurd (cc)
+
+Err-and_then : {A B E : Type 0} (r : Result A E) (f : A → B) (refusal : E) → and_then r (λ x. Ok (f x)) ≡ Err refusal → r ≡ Err refusal
+Err-and_then (Ok x) f refusal is = absurd (cc)
+Err-and_then (Err other) f refusal is = cc
+
+-- a file's calls, counted once they were fetched
+fetched-counted : (fetch : Result (List ℕ) Status) (given : List ℕ → Result (List Call) Status)
+    → and_then fetch (λ bytes. and_then (given bytes) (λ calls. Ok (counted calls))) ≡ and_then (and_then fetch given) (λ calls. Ok (counted calls))
+fetched-counted (Ok bytes) given = refl
+fetched-counted (Err refusal) given = refl
+
+-- the first file counted, and then the others
+file_first-counted : (first : Result (List Call) Status) (rest : Result (List (List Call)) Status)
+    → and_then (and_then first (λ calls. Ok (counted calls))) (λ items. file_first items (and_then rest (λ all. Ok (map counted all))))
+    ≡ and_then (and_then first (λ calls. file_first calls rest)) (λ all. Ok (map counted all))
+file_first-counted (Ok calls) (Ok all) = refl
+file_first-counted (Ok calls) (Err refusal) = refl
+file_first-counted (Err refusal) rest = refl
+
+files_loaded-counted : (b : NamedBook) (files : Files) (process : ℕ) (words : List Word)
+    → files_loaded (counted_given b) files process words ≡ and_then (files_loaded (calls_given b) files process words) (λ all. Ok (map counted all))
+unfolding files_loaded
+files_loaded-counted b files process [] = refl
+files_loaded-counted b files process (name ∷ words) =
+    rw (files_loaded-counted b files (process + 1) words, fetched-counted (fetched (files name) (process + 1)) (calls_given b process))
+    (file_first-counted (file_loaded (calls_given b) files process name) (files_loaded (calls_given b) files (process + 1) words))
+
+-- what was loaded, counted
+abbrev counted_loaded : Loaded → LoadedOf ℕ
+counted_loaded l = record { book = l.book; names = l.names; files = map counted l.files }
+
+with_book-counted : (enough : Bool) (b : NamedBook) (refusal : Status) (rest : Result (List (List Call)) Status)
+    → (if enough then with_book b (and_then rest (λ all. Ok (map counted all))) else Err refusal)
+    ≡ and_then (if enough then with_book b rest else Err refusal) (λ l. Ok (counted_loaded l))
+with_book-counted true b refusal (Ok all) = refl
+with_book-counted true b refusal (Err other) = refl
+with_book-counted false b refusal rest = refl
+
+files_beside-counted : (read : Result NamedBook Status) (files : Files) (words : List Word)
+    → and_then read (λ b. files_beside counted_given files words b) ≡ and_then (and_then read (λ b. files_beside calls_given files words b)) (λ l. Ok (counted_loaded l))
+files_beside-counted (Ok b) files words =
+    rw (files_loaded-counted b files 0 words)
+    (with_book-counted (length words == b.book.processes) b (Usage (usage.Files b.book.processes (length words))) (files_loaded (calls_given b) files 0 words))
+files_beside-counted (Err refusal) files words = refl
+
+all_loaded-counted : (files : Files) (form : Form)
+    → all_loaded counted_given files form.book form.payments ≡ and_then (loaded files form) (λ l. Ok (counted_loaded l))
+all_loaded-counted files form = files_beside-counted (book_loaded files form.book) files form.payments
+
+-- a refusal of what is changed afterwards
+IsBrought-and_then : {A B : Type 0} (tells : Bool) (r : Result A Status) (f : A → B) (before now : ℕ) (refusal : Status)
+    → IsBrought tells (and_then r (λ x. Ok (f x))) before now refusal → IsBrought tells r before now refusal
+IsBrought-and_then tells r f before now refusal is = (is.0, λ told. Err-and_then r f refusal (is.1 told))
+
+IsUnread-and_then : {A B : Type 0} (tells : Bool) (r : Result A Status) (f : A → B) (before now : ℕ) (refusal : Status)
+    → IsUnread tells (and_then r (λ x. Ok (f x))) before now refusal → IsUnread tells r before now refusal
+IsUnread-and_then tells r f before now refusal (inl rose) = inl rose
+IsUnread-and_then tells r f before now refusal (inr lacks) = inr (lacks.0, Err-and_then r f refusal lacks.1)
+
+MayRefuse-and_then : {A B : Type 0} (tells : Bool) (r : Result A Status) (f : A → B) (before now : ℕ) (refusal : Status)
+    → MayRefuse tells (and_then r (λ x. Ok (f x))) before now refusal → MayRefuse tells r before now refusal
+MayRefuse-and_then tells r f before now NoMemory may = tt
+MayRefuse-and_then tells r f before now (ReadFault file) may = IsUnread-and_then tells r f before now (ReadFault file) may
+MayRefuse-and_then tells r f before now (Usage (usage.Files wanted given)) may = IsBrought-and_then tells r f before now (Usage (usage.Files wanted given)) may
+MayRefuse-and_then tells r f before now (BadBook bad) may = IsBrought-and_then tells r f before now (BadBook bad) may
+MayRefuse-and_then tells r f before now (TooLong file) may = IsBrought-and_then tells r f before now (TooLong file) may
+MayRefuse-and_then tells r f before now (BadPayments process bad) may = IsBrought-and_then tells r f before now (BadPayments process bad) may
+MayRefuse-and_then tells r f before now (Usage usage.Words) may = absurd may
+MayRefuse-and_then tells r f before now Done may = absurd may
+MayRefuse-and_then tells r f before now WriteFault may = absurd may
+MayRefuse-and_then tells r f before now (NotLegal line) may = absurd may
+MayRefuse-and_then tells r f before now TooManyOrders may = absurd may
+MayRefuse-and_then tells r f before now (BadSchedule line why) may = absurd may
+MayRefuse-and_then tells r f before now (BadOrder line why) may = absurd may
+MayRefuse-and_then tells r f before now (BadMessages process line why) may = absurd may
+
+-- a refusal of files that are counted is one of those that are loaded
+pub MayRefuse-counted : (tells : Bool) (files : Files) (form : Form) (before now : ℕ) (refusal : Status)
+    → MayRefuse tells (all_loaded counted_given files form.book form.payments) before now refusal → MayRefuse tells (loaded files form) before now refusal
+MayRefuse-counted tells files form before now refusal may =
+    MayRefuse-and_then tells (loaded files form) counted_loaded before now refusal (rw (all_loaded-counted files form) at may)
+
+IsReached-counted : (files : Files) (book : Word) (words : List Word) (file : ℕ) → IsReached counted_given files book words file → IsReached calls_given files book words file
+IsReached-counted files book words zero is = tt
+IsReached-counted files book words (suc process) is =
+    let found = Ok-and_then (files_loaded (calls_given is.read) files 0 (take process words)) (map counted) is.before.first
+    (sym (files_loaded-counted is.read files 0 (take process words)) ∙ is.before.good) in
+    record {
+      read = is.read;
+      loaded_is = is.loaded_is;
+      enough = is.enough;
+      before = record { there = is.before.there; first = found.0; good = found.1 };
+    }
+
+pub MayReach-counted : (tells : Bool) (files : Files) (form : Form) (file : ℕ)
+    → MayReachOf counted_given tells files form.book form.payments file → MayReach tells files form file
+MayReach-counted tells files form file may =
+    record { named = may.named; reached = λ told. IsReached-counted files form.book form.payments file (may.reached told) }
+
+-- the numbers of calls, summed
+sum_by-counted : (all : List (List Call)) → sum_by sum (map counted all) ≡ sum_by length all
+sum_by-counted [] = refl
+sum_by-counted (calls ∷ all) =
+    let here : sum (counted calls) ≡ length calls = omega arith in
+    let both : sum (counted calls) + sum_by sum (map counted all) ≡ length calls + sum_by length all = rw (here, sum_by-counted all) refl in
+    sum_by-cons sum (counted calls) (map counted all) ∙ both ∙ sym (sum_by-cons length calls all)
+
+-- calls of each file, so many as were counted
+record AreCallsOf (counts : List (List ℕ)) : Type 0 where
+  all : List (List Call)
+  same : counts ≡ map counted all
+
+AreCallsOf-known : (b : NamedBook) (counts : List (List ℕ)) → All (IsSpelled (CountsBytes b)) counts → AreCallsOf counts
+AreCallsOf-known b [] known = record { all = []; same = refl }
+AreCallsOf-known b (items ∷ counts) known =
+    let first = (known zero [] (omega arith)).1 in
+    let others = AreCallsOf-known b counts (λ k d below. known (suc k) d (omega arith)) in
+    let here : items ≡ counted first.0 = first.2 in
+    let rest : counts ≡ map counted others.all = others.same in
+    record { all = first.0 ∷ others.all; same = cc }
+
+-- the same where the files spell them
+record AreCallsIn (b : NamedBook) (files : Files) (words : List Word) (counts : List (List ℕ)) : Type 0 where
+  all : List (List Call)
+  same : counts ≡ map counted all
+  each : EachSpells (PaysBytes b) files words all
+
+EachSpells-cons : (b : NamedBook) (files : Files) (word : Word) (words : List Word) (calls : List Call) (all : List (List Call))
+    → SpellsFile (PaysBytes b) files word calls → EachSpells (PaysBytes b) files words all → EachSpells (PaysBytes b) files (word ∷ words) (calls ∷ all)
+EachSpells-cons b files word words calls all first rest zero below = first
+EachSpells-cons b files word words calls all first rest (suc p) below = rest p (omega arith)
+
+AreCallsIn-each : (b : NamedBook) (files : Files) (words : List Word) (counts : List (List ℕ)) → length words ≡ length counts
+    → EachSpells (CountsBytes b) files words counts → AreCallsIn b files words counts
+AreCallsIn-each b files words [] same each = record { all = []; same = refl; each = λ p below. absurd (omega arith) }
+AreCallsIn-each b files [] (items ∷ counts) same each = absurd (omega arith)
+AreCallsIn-each b files (word ∷ words) (items ∷ counts) same each =
+    let first = each zero (omega arith) in
+    let others = AreCallsIn-each b files words counts (omega arith) (λ p below. each (suc p) (omega arith)) in
+    let here : items ≡ counted first.spelled.0 = first.spelled.2 in
+    let rest : counts ≡ map counted others.all = others.same in
+    record {
+      all = first.spelled.0 ∷ others.all;
+      same = cc;
+      each = EachSpells-cons b files word words first.spelled.0 others.all (record { bytes = first.bytes; held = first.held; spelled = first.spelled.1 }) others.each;
+    }
+
+-- each file gave one number
+pub All-IsCount : (b : NamedBook) (counts : List (List ℕ)) → All (IsSpelled (CountsBytes b)) counts → All IsCount counts
+All-IsCount b counts known = λ k d below.
+    let spelled = (known k d below).1 in
+    record { number = length spelled.0; one = spelled.2; few = spelled.1.few }
+
+-- the number that a file gave
+pub IsCount-at : (files : List (Vec ℕ Global)) (i : ℕ) (file : Vec ℕ Global) → i < length files → file ≡ get_or files i file
+    → All IsCount (contents_of files) → IsCount file.items
+IsCount-at files i file within is counts =
+    rw (sym (get_or-contents_of files i file within is)) (counts i [] (omega (arith, within, length-contents_of files)))
+
+-- the number of one more file
+pub sum_by-number_more : (files : List (Vec ℕ Global)) (i : ℕ) (file : Vec ℕ Global) (number : ℕ) → i < length files → file ≡ get_or files i file
+    → file.items ≡ number ∷ [] → sum_by sum (take i (contents_of files)) + number ≡ sum_by sum (take (i + 1) (contents_of files))
+sum_by-number_more files i file number within is one =
+    let here : get_or (contents_of files) i [] ≡ number ∷ [] = get_or-contents_of files i file within is ∙ one in
+    let summed : sum (get_or (contents_of files) i []) ≡ number = ap sum here ∙ omega arith in
+    omega (arith, summed, sum_by_more sum (contents_of files) i [] (omega (arith, within, length-contents_of files)))
+
+-- what was counted is what was read
+counts-known : (files : Files) (form : Form) (l : LoadedOf ℕ) → length l.files ≡ length form.payments
+    → AreCallsOf l.files → CountsRead false files form l.book (sum_by sum l.files)
+counts-known files form l count are = record {
+  what = record { book = l.book; names = l.names; files = are.all };
+  book_is = refl;
+  calls_are = ap (sum_by sum) are.same ∙ sum_by-counted are.all;
+  count = sym (length-map are.all counted) ∙ ap length (sym are.same) ∙ count;
+  read = λ told. absurd (cc);
+  spelled = λ told. absurd (cc);
+}
+
+counts-spelled : (tells : Bool) (files : Files) (form : Form) (l : LoadedOf ℕ) → length l.files ≡ length form.payments
+    → SpelledOf CountsBytes files form.book form.payments l → CountsRead tells files form l.book (sum_by sum l.files)
+counts-spelled tells files form l count is =
+    let are = AreCallsIn-each (named_book l.book l.names) files form.payments l.files (is.files.enough ∙ sym is.files.count) is.files.each in
+    let same : length are.all ≡ length l.files = sym (length-map are.all counted) ∙ ap length (sym are.same) in
+    let what : Loaded = record { book = l.book; names = l.names; files = are.all } in
+    let spelled : SpelledOf PaysBytes files form.book form.payments what =
+    record { book = is.book; files = record { enough = is.files.enough; count = same ∙ is.files.count; each = are.each } } in
+    record {
+      what = what;
+      book_is = refl;
+      calls_are = ap (sum_by sum) are.same ∙ sum_by-counted are.all;
+      count = same ∙ count;
+      read = λ told. loaded-Spelled files form what spelled;
+      spelled = λ told. spelled;
+    }
+
+pub CountsRead-counted : (tells : Bool) (files : Files) (form : Form) (l : LoadedOf ℕ) → length l.files ≡ length form.payments
+    → (tells ≡ true → SpelledOf CountsBytes files form.book form.payments l) → All (IsSpelled (CountsBytes (named_book l.book l.names))) l.files
+    → CountsRead tells files form l.book (sum_by sum l.files)
+CountsRead-counted true files form l count spelled known = counts-spelled true files form l count (spelled refl)
+CountsRead-counted false files form l count spelled known = counts-known files form l count (AreCallsOf-known (named_book l.book l.names) l.files known)

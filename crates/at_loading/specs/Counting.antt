@@ -1,0 +1,37 @@
+-- What is read where the calls are counted, and not kept.
+use Rattle.std.specs.Prelude.{◌≡◌, ℕ, ◌≤◌, Bool, true, List, [], ◌∷◌, Ok, length, sum_by}
+use Rattle.at_files.specs.BookRecords.{NamedBook}
+use Rattle.at_files.specs.Results.{and_then}
+use Rattle.at_ledger.specs.Book.{BookTerms}
+use Rattle.at_ledger.specs.declared.call.Call.{Call}
+use Rattle.at_ledger.specs.Limits.{most_calls}
+use Rattle.at_loading.specs.Words.{Form}
+use Rattle.at_loading.specs.Loading.{Files, Giving, Loaded, PaysBytes, Spelled, Spelling, calls_given, loaded}
+
+-- how many calls there are, as the one thing that a file gives
+abbrev pub counted : List Call → List ℕ
+counted calls = length calls ∷ []
+
+-- a file gave the number of its calls, which aren't too many
+pub record IsCount (given : List ℕ) : Type 0 where
+  pub number : ℕ
+  pub one : given ≡ number ∷ []
+  pub few : number ≤ most_calls
+
+-- what a payment file's bytes give, counted
+abbrev pub counted_given : NamedBook → Giving ℕ
+counted_given b process bytes = and_then (calls_given b process bytes) (λ calls. Ok (counted calls))
+
+-- the bytes spell so many calls
+abbrev pub CountsBytes : Spelling ℕ
+CountsBytes b bytes given = (calls : List Call) × PaysBytes b bytes calls × (given ≡ counted calls)
+
+-- the book and so many calls are those of what was read of the words' files: the calls of one file for each of the words. Where the
+-- files are told, their bytes spell it
+pub record CountsRead (tells : Bool) (files : Files) (form : Form) (book : BookTerms) (calls : ℕ) : Type 0 where
+  pub what : Loaded
+  pub book_is : what.book ≡ book
+  pub calls_are : calls ≡ sum_by length what.files
+  pub count : length what.files ≡ length form.payments
+  pub read : tells ≡ true → loaded files form ≡ Ok what
+  pub spelled : tells ≡ true → Spelled files form what
