@@ -15,10 +15,10 @@ ghost use Rattle.at_report.specs.Report.{checked_line};
 use crate::closing_journal::ClosingJournal;
 use crate::ending::{Printed, end_keeping};
 use crate::playing::play_in_order;
-use at_files::{Names, count_calls};
+use at_files::Names;
 use at_io::{Shelf, Sink};
 use at_ledger::{Book, Call};
-use at_loading::{Command, Form, load};
+use at_loading::{Command, Form, Loaded, count, load};
 use at_object::Closed;
 use at_report::{Status, checked_text, journal_report};
 use at_workers::Gate;
@@ -53,40 +53,13 @@ fn run_text<R: Threads + Sync, G: Gate + Sync>(
     })
 }
 
-/// The line of how many calls the files have.
-fn check_text(alloc: Global, book: &Book, files: &[Vec<Call>]) -> Result<Printed, AllocError>
-    requires count { length files.now ≡ book.now.processes }
-    requires known { All (IsPlayable (length book.now.accounts)) (contents_of files.now) }
+/// The line of how many calls were counted.
+fn check_text(alloc: Global, book: &Book, calls: u32) -> Result<Printed, AllocError>
     ensures none { IfOk result (λ p. p.closed ≡ None) }
-    ensures text { IfOk result
-        (λ p. p.text.items ≡ checked_line book.now (sum_by length (contents_of files.now))) }
+    ensures text { IfOk result (λ p. p.text.items ≡ checked_line book.now calls) }
 {
-    let _known = book.accounts();
-    let text = checked_text(alloc, book, count_calls(files))?;
+    let text = checked_text(alloc, book, calls)?;
     Ok(Printed { text, closed: None })
-}
-
-/// What the command prints of the files.
-fn text_of<R: Threads + Sync, G: Gate + Sync>(
-    rt: &R,
-    alloc: Global,
-    command: Command,
-    book: &Book,
-    names: &Names,
-    files: Vec<Vec<Call>>,
-    gate: &G,
-) -> Result<Printed, AllocError>
-    requires names { AreNamesOf book.now names.now }
-    requires count { length files.items ≡ book.now.processes }
-    requires known { All (IsPlayable (length book.now.accounts)) (contents_of files.items) }
-    ensures { IfOk result (λ p. Prints command
-        (record { book = book.now; names = names.now; files = contents_of files.items })
-        p.closed p.text.items) }
-{
-    match command {
-        Command::Run => run_text(rt, alloc, book, names, files, gate),
-        Command::Check => check_text(alloc, book, files.as_slice()),
-    }
 }
 
 /// The text of the form's command for its files, or why there is none.
@@ -112,13 +85,27 @@ fn files_text<R: Threads + Sync, F: Shelf, G: Gate + Sync>(
         → MayReach (F.tells shelf.old) (F.file shelf.old) (form_shown form.now) file }
     ensures numbered { IfErr result (HasFileNumbers (length form.now.payments.now)) }
 {
-    let at_loading::Loaded { book, names, files } = match load(alloc, shelf, form) {
-        Ok(loaded) => loaded,
-        Err(refusal) => return Err(refusal),
-    };
-    match text_of(rt, alloc, form.command, &book, &names, files, gate) {
-        Ok(printed) => Ok(printed),
-        Err(_) => Err(Status::NoMemory),
+    match form.command {
+        Command::Run => {
+            let Loaded { book, names, files } = match load(alloc, shelf, form) {
+                Ok(loaded) => loaded,
+                Err(refusal) => return Err(refusal),
+            };
+            match run_text(rt, alloc, &book, &names, files, gate) {
+                Ok(report) => Ok(report),
+                Err(_) => Err(Status::NoMemory),
+            }
+        }
+        Command::Check => {
+            let counted = match count(alloc, shelf, form) {
+                Ok(counted) => counted,
+                Err(refusal) => return Err(refusal),
+            };
+            match check_text(alloc, &counted.book, counted.calls) {
+                Ok(line) => Ok(line),
+                Err(_) => Err(Status::NoMemory),
+            }
+        }
     }
 }
 
