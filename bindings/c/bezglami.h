@@ -8,7 +8,7 @@
  *   - a handle is BEZGLAMI_NOTHING or as an export left it, and its address isn't null;
  *   - one call at a time is given a handle; from one call to the next a handle may go to another thread, where a lock, a
  *     thread's start or join, or a sequentially consistent atomic orders the two. Different handles may be used at once,
- *     in any threads. (That a handle may cross to another thread isn't proved of its type yet: docs/bindings.md);
+ *     in any threads;
  *   - `answer` and `line` point to their types, `book` to `length` bytes and `targets` to `count` targets that no other
  *     thread writes meanwhile; none of these is null, also where their number is 0, and what one call is given doesn't overlap;
  *   - malloc, realloc and free are one allocator's, which aligns a block to each power of two up to 16 that divides its

@@ -7,6 +7,7 @@
 
 mod caller;
 mod calls;
+mod crossing;
 mod exports;
 mod handing;
 mod handle;
