@@ -1,2 +1,3 @@
 pub mod Kept
+pub mod Sharing
 mod Walks

@@ -27,6 +27,9 @@ impl Model for Handle {
     ghost also_owns = { λ h. owns_held the_row h.alloc h.at h.held };
 }
 
+// Right here: the pointer is that of a box which the handle alone owns, or null.
+unsafe impl Send for Handle {}
+
 impl Handle {
     /// A handle that holds nothing.
     fn closed(alloc: Global) -> Handle

@@ -7,6 +7,7 @@
 
 mod caller;
 mod calls;
+mod crossing;
 mod exports;
 mod handing;
 mod handle;
@@ -15,3 +16,4 @@ mod loose;
 mod opened;
 mod outcome;
 mod shared;
+mod target;
