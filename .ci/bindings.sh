@@ -1,6 +1,6 @@
 #!/bin/sh
 # Builds what calls the static library from C, and runs it: each export with each kind of handle, wrong numbers and refused memory, and
-# a thread for each process. Then threads under sanitizers and valgrind. It needs a C compiler, and
+# a thread for each process. Then threads under sanitizers and valgrind, the crate, the module, and the release. It needs a C compiler, and
 # the library that `bezglami build` leaves; where one of them isn't there, or a source is newer than the library, it tries nothing and
 # says so. So does each of the others for the tools that it needs.
 set -eu
@@ -29,3 +29,4 @@ done
 tail -n 1 "$work/said"
 bindings/libraries.sh "$work/libraries"
 .ci/bindings_threads.sh "$work/libraries"
+.ci/bindings_rust.sh "$work/libraries"

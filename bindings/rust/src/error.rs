@@ -1,0 +1,34 @@
+use std::fmt;
+
+/// Why something wasn't done. Nothing has changed then.
+#[derive(Clone, Copy, Debug, PartialEq, Eq, Hash)]
+#[non_exhaustive]
+pub enum Error {
+    /// The bytes spell no book. The line is that of the first fault; lines are records, counted from 1.
+    BadBook {
+        /// The line of the first fault.
+        line: u32,
+    },
+    /// There was no memory.
+    NoMemory,
+    /// The caller of each process was handed out before.
+    NoCaller,
+    /// The call names an account that isn't there.
+    NoAccount,
+    /// The caller has no room for the receipt of one more call.
+    NoRoom,
+}
+
+impl fmt::Display for Error {
+    fn fmt(&self, f: &mut fmt::Formatter<'_>) -> fmt::Result {
+        match self {
+            Error::BadBook { line } => write!(f, "no book: the first fault is in line {line}"),
+            Error::NoMemory => f.write_str("no memory"),
+            Error::NoCaller => f.write_str("the caller of each process was handed out"),
+            Error::NoAccount => f.write_str("no such account"),
+            Error::NoRoom => f.write_str("no room for one more receipt"),
+        }
+    }
+}
+
+impl std::error::Error for Error {}
