@@ -31,3 +31,4 @@ bindings/libraries.sh "$work/libraries"
 .ci/bindings_threads.sh "$work/libraries"
 .ci/bindings_rust.sh "$work/libraries"
 .ci/bindings_python.sh "$work/libraries"
+.ci/bindings_release.sh
