@@ -1,0 +1,57 @@
+/* Times the calls of one process from C, as one.rt.txt does from Rattle: the same calls on ledgers of the same books, whose receipts are
+ * kept too. Prints the number of processes and the least nanoseconds of a turn. */
+#include "bezglami.h"
+
+#include <stdio.h>
+#include <stdlib.h>
+#include <time.h>
+
+enum { TURNS = 200, PAIRS = 4096 };
+
+static void expect(uint32_t outcome) {
+    if (outcome != BEZGLAMI_DONE) {
+        fprintf(stderr, "one: %u\n", outcome);
+        exit(1);
+    }
+}
+
+static uint64_t now(void) {
+    struct timespec time;
+    clock_gettime(CLOCK_MONOTONIC, &time);
+    return (uint64_t)time.tv_sec * 1000000000u + (uint64_t)time.tv_nsec;
+}
+
+static uint64_t time_one(const char *book, size_t length) {
+    bezglami_handle ledger = BEZGLAMI_NOTHING, caller = BEZGLAMI_NOTHING;
+    bezglami_answer answer;
+    uint32_t line;
+    expect(bezglami_open((const uint8_t *)book, length, &ledger, &line));
+    expect(bezglami_caller(&ledger, 2 * PAIRS, &caller));
+    uint64_t began = now();
+    for (int i = 0; i < PAIRS; i++) {
+        expect(bezglami_transfer(&caller, 0, 1, 1, &answer));
+        expect(bezglami_read(&caller, 1, &answer));
+    }
+    uint64_t ended = now();
+    expect(answer.balance == PAIRS ? BEZGLAMI_DONE : BEZGLAMI_NO_ACCOUNT);
+    bezglami_free(&caller);
+    bezglami_free(&ledger);
+    return ended - began;
+}
+
+static void measure(int processes) {
+    char book[128];
+    int length = snprintf(book, sizeof book, "book,1\nprocesses,%d\nlimits,4096,4\naccount,0,1000000000,0\naccount,1,0,\n", processes);
+    uint64_t least = UINT64_MAX;
+    for (int turn = 0; turn < TURNS; turn++) {
+        uint64_t taken = time_one(book, (size_t)length);
+        least = taken < least ? taken : least;
+    }
+    printf("%d %llu\n", processes, (unsigned long long)least);
+}
+
+int main(void) {
+    measure(1);
+    measure(16);
+    return 0;
+}
