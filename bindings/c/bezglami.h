@@ -9,13 +9,14 @@
  *   - one call at a time is given a handle; from one call to the next a handle may go to another thread, where a lock, a
  *     thread's start or join, or a sequentially consistent atomic orders the two. Different handles may be used at once,
  *     in any threads. (That a handle may cross to another thread isn't proved of its type yet: docs/bindings.md);
- *   - `answer` and `line` point to their types, and `book` to `length` bytes that no other thread writes meanwhile; none
- *     of these is null, also where `length` is 0, and what one call is given doesn't overlap;
+ *   - `answer` and `line` point to their types, `book` to `length` bytes and `targets` to `count` targets that no other
+ *     thread writes meanwhile; none of these is null, also where their number is 0, and what one call is given doesn't overlap;
  *   - malloc, realloc and free are one allocator's, which aligns a block to each power of two up to 16 that divides its
  *     size; no export is called from a signal handler or in the child of a fork of a process with threads.
  *
- * Costs: `bezglami_read` and `bezglami_transfer` take no memory, and take no more steps than the bound of the call (README,
- * "What needs agreement"). `bezglami_open` and `bezglami_caller` take memory. All others are constant but `bezglami_free`. */
+ * Costs: `bezglami_read`, `bezglami_transfer` and `bezglami_pay` take no memory, and take no more steps than the bound of the
+ * call (README, "What needs agreement"). `bezglami_open` and `bezglami_caller` take memory. All others are constant but
+ * `bezglami_free`. */
 #ifndef BEZGLAMI_H
 #define BEZGLAMI_H
 
@@ -26,7 +27,10 @@
 extern "C" {
 #endif
 
-#define BEZGLAMI_VERSION 1
+/* The version of this header. `bezglami_version` answers that of the library. */
+#define BEZGLAMI_VERSION 2
+
+uint32_t bezglami_version(void);
 
 typedef struct bezglami_handle {
     void *at;
@@ -44,8 +48,25 @@ enum bezglami_outcome {
     BEZGLAMI_BAD_BOOK = 4,     /* the bytes spell no book: `line` is that of the first fault, from 1 */
     BEZGLAMI_NO_CALLER = 5,    /* all callers of the ledger were handed out */
     BEZGLAMI_NO_ACCOUNT = 6,   /* the call names an account that isn't there */
-    BEZGLAMI_NO_ROOM = 7       /* there is no room for the receipt of the call */
+    BEZGLAMI_NO_ROOM = 7,      /* there is no room for the receipt of the call */
+    BEZGLAMI_NO_PAY_OUT = 8    /* a pay-out has 1 to BEZGLAMI_TARGETS_MOST targets */
 };
+
+/* A few words on an outcome, in English. */
+static inline const char *bezglami_outcome_text(uint32_t outcome) {
+    switch (outcome) {
+    case BEZGLAMI_DONE: return "done";
+    case BEZGLAMI_WRONG_HANDLE: return "wrong handle";
+    case BEZGLAMI_IN_USE: return "handle in use";
+    case BEZGLAMI_NO_MEMORY: return "no memory";
+    case BEZGLAMI_BAD_BOOK: return "bad book";
+    case BEZGLAMI_NO_CALLER: return "no caller left";
+    case BEZGLAMI_NO_ACCOUNT: return "no such account";
+    case BEZGLAMI_NO_ROOM: return "no room";
+    case BEZGLAMI_NO_PAY_OUT: return "no pay-out";
+    default: return "unknown outcome";
+    }
+}
 
 enum bezglami_reply {
     BEZGLAMI_REPLY_DONE = 0,
@@ -64,6 +85,14 @@ typedef struct bezglami_answer {
     uint64_t exchanges;
 } bezglami_answer;
 
+/* An account that a pay-out pays, and the amount for it. */
+typedef struct bezglami_target {
+    uint32_t account;
+    uint64_t amount;
+} bezglami_target;
+
+#define BEZGLAMI_TARGETS_MOST 4
+
 /* Fills `ledger`, which holds nothing, with a ledger for the book that the bytes spell. */
 uint32_t bezglami_open(const uint8_t *book, size_t length, bezglami_handle *ledger, uint32_t *line);
 
@@ -73,6 +102,11 @@ uint32_t bezglami_caller(bezglami_handle *ledger, uint32_t calls, bezglami_handl
 
 /* Moves the amount from one account to another. */
 uint32_t bezglami_transfer(bezglami_handle *caller, uint32_t from, uint32_t to, uint64_t amount, bezglami_answer *answer);
+
+/* Moves each amount from one account to its target, or none of them. An account may stand among the targets twice. Where
+ * `count` is 0 or more than BEZGLAMI_TARGETS_MOST, the answer is BEZGLAMI_NO_PAY_OUT. */
+uint32_t bezglami_pay(bezglami_handle *caller, uint32_t from, const bezglami_target *targets, size_t count,
+    bezglami_answer *answer);
 
 /* Tells the balance of an account. */
 uint32_t bezglami_read(bezglami_handle *caller, uint32_t account, bezglami_answer *answer);

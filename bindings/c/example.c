@@ -17,14 +17,21 @@ struct worker {
     uint32_t replies[5];
 };
 
-/* Pays 10 from each account to the next one in turn, and reads what it paid from. Whose account it is decides the reply. */
+/* Pays 10 from an account to the next one, and from each fourth account 6 and 4 to the next two. */
+static uint32_t pay(struct worker *worker, uint32_t from, bezglami_answer *answer) {
+    bezglami_target targets[] = { { (from + 1) % worker->accounts, 6 }, { (from + 2) % worker->accounts, 4 } };
+    if (from % 4 == 3)
+        return bezglami_pay(&worker->caller, from, targets, 2, answer);
+    return bezglami_transfer(&worker->caller, from, targets[0].account, 10, answer);
+}
+
+/* Pays from each account in turn, and reads what it paid from. Whose account it is decides the reply. */
 static void *work(void *argument) {
     struct worker *worker = argument;
     for (uint32_t i = 0; i < ROUNDS * worker->accounts; i++) {
         uint32_t from = (i + worker->process) % worker->accounts;
         bezglami_answer answer;
-        if (bezglami_transfer(&worker->caller, from, (from + 1) % worker->accounts, 10, &answer) != BEZGLAMI_DONE
-            || answer.reply >= BEZGLAMI_REPLY_BALANCE) {
+        if (pay(worker, from, &answer) != BEZGLAMI_DONE || answer.reply >= BEZGLAMI_REPLY_BALANCE) {
             worker->refused++;
             continue;
         }
@@ -70,7 +77,7 @@ int main(int count, char **words) {
     uint32_t line = 0;
     uint32_t outcome = bezglami_open(book, length, &ledger, &line);
     if (outcome != BEZGLAMI_DONE) {
-        fprintf(stderr, "no ledger: outcome %u, line %u\n", outcome, line);
+        fprintf(stderr, "no ledger: %s, line %u\n", bezglami_outcome_text(outcome), line);
         return 3;
     }
     static struct worker workers[PROCESSES_MOST];

@@ -1,9 +1,10 @@
 -- What exports answer, as numbers and as plain data.
-use Rattle.std.specs.Prelude.{◌≡◌, ℕ, ◌<◌, ◌≤◌, true, is_some, length, Err, List, [], None, Option, Some, ⊤}
+use Rattle.std.specs.Prelude.{◌≡◌, ℕ, ◌<◌, ◌≤◌, true, is_some, length, map, Err, List, [], None, Option, Some, ⊤}
 use Rattle.at_files.specs.BookFile.{book_of_records}
 use Rattle.at_files.specs.Records.{file_records}
 use Rattle.at_files.specs.declared.book_fault.BadBook.{BadBook}
-use Rattle.at_ledger.specs.Call.{IsCallOn}
+use Rattle.at_ledger.specs.Call.{IsCallOn, TargetPair}
+use Rattle.at_ledger.specs.Limits.{most_targets}
 use Rattle.at_ledger.specs.declared.call.Call.{Call}
 use Rattle.at_ledger.specs.declared.call.Reply.{Reply}
 use Rattle.at_ledger.specs.declared.call.Reply.TheVariants as reply
@@ -13,6 +14,7 @@ use Rattle.at_c.specs.declared.handing.Handed.{Handed}
 use Rattle.at_c.specs.declared.held.Held.{Held}
 use Rattle.at_c.specs.declared.outcome.Answer.{Answer}
 use Rattle.at_c.specs.declared.outcome.Outcome.{Outcome}
+use Rattle.at_c.specs.declared.target.Target.{Target}
 
 abbrev pub outcome_number : Outcome → ℕ
 outcome_number Outcome.Done = 0
@@ -23,6 +25,7 @@ outcome_number Outcome.BadBook = 4
 outcome_number Outcome.NoCaller = 5
 outcome_number Outcome.NoAccount = 6
 outcome_number Outcome.NoRoom = 7
+outcome_number Outcome.NoPayOut = 8
 
 abbrev pub reply_number : Reply → ℕ
 reply_number reply.Done = 0
@@ -59,19 +62,27 @@ CallerAnswers call before after was now Outcome.NoAccount =
     (¬ IsCallOn (length before.shared.ledger.book.accounts) call) × (after ≡ before) × (now ≡ was)
 CallerAnswers call before after was now Outcome.NoRoom =
     IsCallOn (length before.shared.ledger.book.accounts) call × (before.room ≤ length before.receipts) × (after ≡ before) × (now ≡ was)
-CallerAnswers call before after was now Outcome.WrongHandle = ⊥
-CallerAnswers call before after was now Outcome.InUse = ⊥
-CallerAnswers call before after was now Outcome.NoMemory = ⊥
-CallerAnswers call before after was now Outcome.BadBook = ⊥
-CallerAnswers call before after was now Outcome.NoCaller = ⊥
+CallerAnswers call before after was now other = ⊥
 
 -- a call that a handle was given for: the caller that it holds answers it. Where it holds none, nothing has changed
 abbrev pub HandleAnswers : Call → Option Held → Option Held → Answer → Answer → Outcome → Type 0
-HandleAnswers call None after was now outcome = (outcome ≡ Outcome.WrongHandle) × (after ≡ None) × (now ≡ was)
-HandleAnswers call (Some Held.Nothing) after was now outcome = (outcome ≡ Outcome.WrongHandle) × (after ≡ Some Held.Nothing) × (now ≡ was)
-HandleAnswers call (Some (Held.Ledger l)) after was now outcome = (outcome ≡ Outcome.WrongHandle) × (after ≡ Some (Held.Ledger l)) × (now ≡ was)
 HandleAnswers call (Some (Held.Caller c)) after was now outcome =
     (c' : OwnCallerTerms) × (after ≡ Some (Held.Caller c')) × CallerAnswers call c c' was now outcome
+HandleAnswers call before after was now outcome = (outcome ≡ Outcome.WrongHandle) × (after ≡ before) × (now ≡ was)
+
+-- targets as pairs of an account and an amount
+abbrev pub pairs_of : List Target → List TargetPair
+pairs_of targets = map (λ (t : Target). (t.account, t.amount)) targets
+
+-- a pay-out may have these: they aren't none, and not too many
+abbrev pub IsPayOut : List Target → Type 0
+IsPayOut targets = (1 ≤ length targets) × (length targets ≤ most_targets)
+
+-- a handle was given a source and targets: the pay-out that they are is answered. Where they are none, nothing has changed
+abbrev pub HandlePays : ℕ → List Target → Option Held → Option Held → Answer → Answer → Outcome → Type 0
+HandlePays from targets before after was now outcome =
+    (IsPayOut targets → HandleAnswers (Call.Pay from (pairs_of targets)) before after was now outcome)
+    × ((¬ IsPayOut targets) → (outcome ≡ Outcome.NoPayOut) × (after ≡ before) × (now ≡ was))
 
 -- a handle was to be filled with a ledger of the bytes
 abbrev pub Opens : List ℕ → Option Held → Option Held → ℕ → Outcome → Type 0
@@ -81,10 +92,7 @@ Opens bytes before after line Outcome.BadBook = (before ≡ None) × (after ≡ 
     × ((bad : BadBook) × (book_of_records (file_records bytes) ≡ Err bad) × (line ≡ bad.line))
 Opens bytes before after line Outcome.InUse = (is_some before ≡ true) × (after ≡ before)
 Opens bytes before after line Outcome.NoMemory = (before ≡ None) × (after ≡ before)
-Opens bytes before after line Outcome.WrongHandle = ⊥
-Opens bytes before after line Outcome.NoCaller = ⊥
-Opens bytes before after line Outcome.NoAccount = ⊥
-Opens bytes before after line Outcome.NoRoom = ⊥
+Opens bytes before after line other = ⊥
 
 -- the next caller of a ledger was handed out
 abbrev pub HandsOutOf : ℕ → Held → Held → OwnCallerTerms → Type 0
@@ -133,9 +141,7 @@ HandsOutTo calls ledger ledger_now caller caller_now Outcome.WrongHandle =
 HandsOutTo calls ledger ledger_now caller caller_now Outcome.NoMemory = (caller ≡ None) × (ledger_now ≡ ledger) × (caller_now ≡ caller)
 HandsOutTo calls ledger ledger_now caller caller_now Outcome.NoCaller =
     (caller ≡ None) × (ledger_now ≡ ledger) × (caller_now ≡ caller) × HoldsNoneLeft ledger
-HandsOutTo calls ledger ledger_now caller caller_now Outcome.BadBook = ⊥
-HandsOutTo calls ledger ledger_now caller caller_now Outcome.NoAccount = ⊥
-HandsOutTo calls ledger ledger_now caller caller_now Outcome.NoRoom = ⊥
+HandsOutTo calls ledger ledger_now caller caller_now other = ⊥
 
 -- the steps of a caller
 abbrev pub steps_of_held : Held → ℕ

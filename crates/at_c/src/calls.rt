@@ -1,23 +1,51 @@
 //! Calls of a caller, as exports make them.
 
-ghost use Rattle.std.specs.Prelude.{◌≡◌, Some, length};
-ghost use Rattle.at_ledger.specs.Call.{IsCallOn};
-ghost use Rattle.at_ledger.specs.declared.call.Call.{Call};
-ghost use Rattle.at_c.specs.Exports.{HandleAnswers, CallerAnswers};
+ghost use Rattle.std.specs.Prelude.{◌≡◌, false, length, IsTrue, Some};
+ghost use Rattle.at_ledger.specs.Call.{AreTargetsOn, IsCallOn};
+ghost use Rattle.at_c.specs.Exports.{CallerAnswers, HandleAnswers, HandlePays};
 
 use crate::caller::Caller;
 use crate::handle::Handle;
 use crate::held::Held;
 use crate::outcome::{Answer, Outcome};
-use at_ledger::Call;
+use crate::target::{Target, targets_of};
+use at_ledger::{Call, Targets};
 use std::alloc::Global;
 
+/// Whether each target is an account of these.
+fn are_targets_on(targets: &Targets, accounts: u32) -> bool
+    ensures yes { IsTrue result → AreTargetsOn accounts targets.now }
+    ensures no { result ≡ false → ¬ AreTargetsOn accounts targets.now }
+{
+    let count = targets.len();
+    for i in 0..count {
+        if targets.to(i) >= accounts {
+            return false;
+        }
+    }
+    true
+}
+
+/// Whether a call names accounts of these alone.
+fn is_call_on(call: &Call, accounts: u32) -> bool
+    ensures yes { IsTrue result → IsCallOn accounts call.now }
+    ensures no { result ≡ false → ¬ IsCallOn accounts call.now }
+{
+    match call {
+        Call::Transfer { from, to, .. } => *from < accounts && *to < accounts,
+        Call::Read { account } => *account < accounts,
+        Call::Pay { from, targets } => *from < accounts && are_targets_on(targets, accounts),
+    }
+}
+
 impl Caller {
-    /// Makes a call, where there is room for its receipt.
+    /// Makes a call, where its accounts are there and there is room for its receipt.
     fn answer(&mut self, call: Call, answer: &mut Answer) -> Outcome
-        requires { IsCallOn (length self.old.shared.ledger.book.accounts) call }
         ensures { CallerAnswers call self.old self.new answer.old answer.new result }
     {
+        if !is_call_on(&call, self.accounts()) {
+            return Outcome::NoAccount;
+        }
         if self.made() >= self.room() {
             return Outcome::NoRoom;
         }
@@ -25,51 +53,15 @@ impl Caller {
         *answer = Answer::of(called.reply, called.steps, called.exchanges);
         Outcome::Done
     }
-
-    /// Makes a transfer, where there are such accounts.
-    fn transfer(&mut self, from: u32, to: u32, amount: u64, answer: &mut Answer) -> Outcome
-        ensures { CallerAnswers (Call.Transfer from to amount) self.old self.new answer.old answer.new
-            result }
-    {
-        let accounts = self.accounts();
-        if from >= accounts {
-            return Outcome::NoAccount;
-        }
-        if to >= accounts {
-            return Outcome::NoAccount;
-        }
-        self.answer(Call::Transfer { from, to, amount }, answer)
-    }
-
-    /// Makes a read, where there is such an account.
-    fn read(&mut self, account: u32, answer: &mut Answer) -> Outcome
-        ensures { CallerAnswers (Call.Read account) self.old self.new answer.old answer.new result }
-    {
-        if account >= self.accounts() {
-            return Outcome::NoAccount;
-        }
-        self.answer(Call::Read { account }, answer)
-    }
 }
 
 impl Held {
-    fn transfer(&mut self, from: u32, to: u32, amount: u64, answer: &mut Answer) -> Outcome
-        ensures { HandleAnswers (Call.Transfer from to amount) (Some self.old) (Some self.new) answer.old
-            answer.new result }
+    /// Makes a call by the caller that this is.
+    fn call(&mut self, call: Call, answer: &mut Answer) -> Outcome
+        ensures { HandleAnswers call (Some self.old) (Some self.new) answer.old answer.new result }
     {
         match self {
-            Held::Caller(caller) => caller.transfer(from, to, amount, answer),
-            Held::Nothing => Outcome::WrongHandle,
-            Held::Ledger(_) => Outcome::WrongHandle,
-        }
-    }
-
-    fn read(&mut self, account: u32, answer: &mut Answer) -> Outcome
-        ensures { HandleAnswers (Call.Read account) (Some self.old) (Some self.new) answer.old answer.new
-            result }
-    {
-        match self {
-            Held::Caller(caller) => caller.read(account, answer),
+            Held::Caller(caller) => caller.answer(call, answer),
             Held::Nothing => Outcome::WrongHandle,
             Held::Ledger(_) => Outcome::WrongHandle,
         }
@@ -77,36 +69,32 @@ impl Held {
 }
 
 impl Handle {
-    /// Makes a transfer by the caller that the handle holds.
-    pub(crate) fn transfer(
-        &mut self,
-        alloc: Global,
-        from: u32,
-        to: u32,
-        amount: u64,
-        answer: &mut Answer,
-    ) -> Outcome
-        ensures { HandleAnswers (Call.Transfer from to amount) self.old.held self.new.held answer.old
-            answer.new result }
+    /// Makes a call by the caller that the handle holds.
+    pub(crate) fn call(&mut self, alloc: Global, call: Call, answer: &mut Answer) -> Outcome
+        ensures { HandleAnswers call self.old.held self.new.held answer.old answer.new result }
     {
         let Some(mut held) = self.take(alloc) else {
             return Outcome::WrongHandle;
         };
-        let outcome = held.transfer(from, to, amount, answer);
+        let outcome = held.call(call, answer);
         self.put(held);
         outcome
     }
 
-    /// Makes a read by the caller that the handle holds.
-    pub(crate) fn read(&mut self, alloc: Global, account: u32, answer: &mut Answer) -> Outcome
-        ensures { HandleAnswers (Call.Read account) self.old.held self.new.held answer.old answer.new
+    /// Makes a pay-out to these targets, where they are few enough to be one.
+    pub(crate) fn pay(
+        &mut self,
+        alloc: Global,
+        from: u32,
+        targets: &[Target],
+        answer: &mut Answer,
+    ) -> Outcome
+        ensures { HandlePays from targets.now self.old.held self.new.held answer.old answer.new
             result }
     {
-        let Some(mut held) = self.take(alloc) else {
-            return Outcome::WrongHandle;
-        };
-        let outcome = held.read(account, answer);
-        self.put(held);
-        outcome
+        match targets_of(targets) {
+            Some(targets) => self.call(alloc, Call::Pay { from, targets }, answer),
+            None => Outcome::NoPayOut,
+        }
     }
 }

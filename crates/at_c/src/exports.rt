@@ -2,12 +2,25 @@
 
 ghost use Rattle.std.specs.Prelude.{◌≡◌, None};
 ghost use Rattle.at_ledger.specs.declared.call.Call.{Call};
-ghost use Rattle.at_c.specs.Exports.{HandleAnswers, HandsOutTo, Opens, outcome_number, steps_by_handle, exchanges_by_handle};
+ghost use Rattle.at_c.specs.Exports.{HandleAnswers, HandlePays, HandsOutTo, Opens, outcome_number, steps_by_handle, exchanges_by_handle};
 ghost use Rattle.at_c.specs.declared.outcome.Outcome.{Outcome};
 
 use crate::handle::Handle;
 use crate::outcome::Answer;
+use crate::target::Target;
+use at_ledger::Call;
 use std::alloc::Global;
+
+/// The version of the exports, as the header of C numbers it.
+const VERSION: u32 = 2;
+
+/// The version of the exports.
+#[unsafe(no_mangle)]
+pub extern "C" fn bezglami_version() -> u32
+    ensures { result ≡ 2 }
+{
+    VERSION
+}
 
 /// Fills a handle, which holds nothing, with a ledger for the book that the bytes spell. Where they spell none, `line` is that of the
 /// first fault.
@@ -51,7 +64,23 @@ pub extern "C" fn bezglami_transfer(
     ensures { (outcome : Outcome) × (result ≡ outcome_number outcome)
         × HandleAnswers (Call.Transfer from to amount) caller.old.held caller.new.held answer.old answer.new outcome }
 {
-    caller.transfer(alloc, from, to, amount, answer).number()
+    let call = Call::Transfer { from, to, amount };
+    caller.call(alloc, call, answer).number()
+}
+
+/// Moves each amount from one account to its target, or none of them, by this caller. Takes no memory and waits for no thread.
+#[unsafe(no_mangle)]
+pub extern "C" fn bezglami_pay(
+    alloc: Global,
+    caller: &mut Handle,
+    from: u32,
+    targets: &[Target],
+    answer: &mut Answer,
+) -> u32
+    ensures { (outcome : Outcome) × (result ≡ outcome_number outcome)
+        × HandlePays from targets.now caller.old.held caller.new.held answer.old answer.new outcome }
+{
+    caller.pay(alloc, from, targets, answer).number()
 }
 
 /// Tells the balance of an account, by this caller. Takes no memory and waits for no thread.
@@ -65,7 +94,7 @@ pub extern "C" fn bezglami_read(
     ensures { (outcome : Outcome) × (result ≡ outcome_number outcome)
         × HandleAnswers (Call.Read account) caller.old.held caller.new.held answer.old answer.new outcome }
 {
-    caller.read(alloc, account, answer).number()
+    caller.call(alloc, Call::Read { account }, answer).number()
 }
 
 /// How many steps the calls of this caller have made, and 0 where the handle holds none.

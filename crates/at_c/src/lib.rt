@@ -15,3 +15,4 @@ mod loose;
 mod opened;
 mod outcome;
 mod shared;
+mod target;

@@ -24,6 +24,8 @@ pub enum Outcome {
     NoAccount,
     /// There is no room for the receipt of the call.
     NoRoom,
+    /// It is no pay-out that has so many targets.
+    NoPayOut,
 }
 
 impl Outcome {
@@ -40,6 +42,7 @@ impl Outcome {
             Outcome::NoCaller => 5,
             Outcome::NoAccount => 6,
             Outcome::NoRoom => 7,
+            Outcome::NoPayOut => 8,
         }
     }
 }

@@ -3,14 +3,14 @@ use Rattle.std.proofs.Common.{◌≡◌, ℕ, List, [], ◌∷◌, ◌++◌, ref
 use seplogic.Ra.Ura.{Ura}
 use mir.Syntax.{impl, tnil, dnil, ty_ptr}
 use mir.Raw.{raw as bare}
-use mir.Val.{Val, vptr, vstruct, of_list, has_ty, WT}
+use mir.Val.{Val, vstruct, of_list, has_ty, WT}
 use base.Fraction.{full_share}
 use base.Logic.{snd∗, via, guard_i}
 use base.Fml.{Fml}
 use lib.Dec.{T, lit<}
 use contract.Monad.{fact_use}
 use types.Logic.{Logic, sem}
-use types.Kit.{Item, Goal, Seq, Step, step, ‵, ◌$◌, ◌∵◌, !, move, drop, fsplit, fsplit3, fjoin, fpick, fpack, rewrite, feq_i, feq_l, check, use1, learn, given, qed, by}
+use types.Kit.{Item, Goal, Seq, Step, step, ‵, ◌$◌, move, drop, fsplit, fjoin, fpick, fpack, feq_i, feq_l, use1, learn, given}
 use denote.RattleType.{RattleType, Valss}
 use denote.Builtin.{RawPtr}
 use denote.Memory.{lone}

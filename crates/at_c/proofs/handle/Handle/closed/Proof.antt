@@ -1,7 +1,7 @@
 -- `closed` makes a handle of the null pointer.
-use Rattle.at_c.proofs.Walks.Steps.{[], ◌∷◌, ◌++◌, List, refl, sym, subst, Val, vptr, SProp, ent, emp, id⊢, ftrue, WpFn, ‵, raw, ◌⊛◌, ◌$◌, ◌∵◌, !, qed, by, move, keep, drop, split, join, fsplit, fjoin, suffices, use0, stop, fld, of_opd, lit, no_more, and_then, returns, enter, alloc_all, pass_all, free_all, look_at, get, get_in, sets, agg, sub, whole, fact, fact_i, tables, yes, RattleType, owns, types_at, plain, null_ptr, ptr_val, nothing, Stays, stay_dropped, walk_of, Goes-dropped, None, ghosts, proved_at, leaves, ◌≡◌}
+use Rattle.at_c.proofs.Walks.Steps.{[], ◌∷◌, ◌++◌, List, refl, sym, subst, Val, SProp, ent, emp, id⊢, ftrue, WpFn, ‵, raw, ◌⊛◌, ◌$◌, ◌∵◌, !, qed, by, move, keep, split, fsplit, fjoin, suffices, use0, lit, no_more, and_then, returns, enter, alloc_all, pass_all, free_all, look_at, get, sets, agg, fact, fact_i, tables, yes, owns, types_at, plain, null_ptr, ptr_val, nothing, Stays, stay_dropped, walk_of, Goes-dropped, None, proved_at, leaves, ◌≡◌}
 use Rattle.at_c.proofs.Walks.Boxes.{both}
-use Rattle.at_c.proofs.Walks.Handles.{R, Z, LZ, Held, handle_in, heap_out, handle_good}
+use Rattle.at_c.proofs.Walks.Handles.{R, Z, handle_in, heap_out, handle_good}
 use Rattle.at_c.specs.contracts.handle.Handle.closed.{ended, clauses}
 use Rattle.at_c.specs.contracts.handle.Handle.closed.Key.{name as #self}
 use Rattle.at_c.proofs.handle.Handle.closed.Statement.{statement}

@@ -1,5 +1,5 @@
 -- `into_loose` reads the pointer, and has the box back where it isn't null.
-use Rattle.at_c.proofs.Walks.Steps.{[], ◌∷◌, ◌++◌, List, refl, sym, ap, ◌∙◌, subst, lit<, Val, vptr, vcons, vnil, SProp, ent, emp, id⊢, ftrue, WpFn, ‵, raw, ◌⊛◌, at_ret, ◌$◌, ◌∵◌, !, qed, by, move, keep, drop, split, join, fsplit, fjoin, suffices, use0, use1, stop, fld, of_opd, lit, bin, no_more, and_then, first, branches, exec, returns, enter, alloc_all, pass_all, free_all, look_at, get, get_in, sets, sets_last, env, agg, sub, whole, live, fact, fact_i, tables, yes, RattleType, owns, types_at, type_at, plain, Ptr, null_ptr, block_ptr, ptr_val, tests_null, nothing, layout, Stays, stay_dropped, walk_of, Goes-dropped, None, Some, after, Good, Some-of, none_of, ghosts, and_tt, proved_at, leaves, ◌≡◌}
+use Rattle.at_c.proofs.Walks.Steps.{[], ◌∷◌, ◌++◌, List, refl, sym, subst, lit<, Val, vptr, vcons, vnil, SProp, ent, emp, id⊢, ftrue, WpFn, ‵, raw, ◌⊛◌, at_ret, ◌$◌, ◌∵◌, !, qed, by, move, keep, split, fsplit, fjoin, suffices, use0, use1, stop, fld, of_opd, lit, bin, no_more, and_then, first, branches, exec, returns, enter, alloc_all, pass_all, free_all, look_at, get, get_in, sets, sets_last, env, agg, sub, whole, live, fact, fact_i, tables, yes, RattleType, owns, types_at, type_at, plain, Ptr, null_ptr, block_ptr, ptr_val, tests_null, nothing, layout, Stays, stay_dropped, walk_of, Goes-dropped, None, Some, after, Good, Some-of, none_of, ghosts, and_tt, proved_at, leaves, ◌≡◌}
 use Rattle.at_c.proofs.Walks.Boxes.{both, Loose, loose_good, loose_in}
 use Rattle.at_c.proofs.Walks.Handles.{R, Z, LZ, Held, handle_out, handle_good, ptr_good, either}
 use Rattle.at_c.specs.contracts.handle.Handle.into_loose.{ended, clauses}

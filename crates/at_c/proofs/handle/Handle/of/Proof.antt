@@ -1,7 +1,7 @@
 -- `of` makes a handle of the pointer of a box.
-use Rattle.at_c.proofs.Walks.Steps.{[], ◌∷◌, ◌++◌, List, refl, sym, subst, Val, vptr, SProp, ent, emp, id⊢, ftrue, WpFn, ‵, raw, ◌⊛◌, ◌$◌, ◌∵◌, !, qed, by, move, keep, drop, split, join, fsplit, fjoin, suffices, use0, stop, fld, of_opd, no_more, and_then, returns, enter, alloc_all, pass_all, free_all, look_at, get, get_in, sets, agg, sub, whole, fact, fact_i, tables, yes, RattleType, owns, types_at, plain, block_ptr, nothing, Stays, stay_dropped, walk_of, Goes-dropped, Some, ghosts, proved_at, leaves, ◌≡◌}
+use Rattle.at_c.proofs.Walks.Steps.{[], ◌∷◌, ◌++◌, List, refl, sym, subst, Val, vptr, SProp, ent, emp, id⊢, ftrue, WpFn, ‵, raw, ◌⊛◌, ◌$◌, ◌∵◌, !, qed, by, move, keep, split, fsplit, fjoin, suffices, use0, stop, fld, of_opd, no_more, and_then, returns, enter, alloc_all, pass_all, free_all, look_at, get, get_in, sets, agg, sub, whole, fact, fact_i, tables, yes, owns, types_at, plain, block_ptr, nothing, Stays, stay_dropped, walk_of, Goes-dropped, Some, ghosts, proved_at, leaves, ◌≡◌}
 use Rattle.at_c.proofs.Walks.Boxes.{both, Loose, loose_good, loose_out}
-use Rattle.at_c.proofs.Walks.Handles.{R, Z, LZ, Held, handle_in}
+use Rattle.at_c.proofs.Walks.Handles.{R, Z, LZ, handle_in}
 use Rattle.at_c.specs.contracts.handle.Handle.of.{ended, clauses}
 use Rattle.at_c.specs.contracts.handle.Handle.of.Key.{name as #self}
 use Rattle.at_c.proofs.handle.Handle.of.Statement.{statement}
