@@ -37,10 +37,18 @@ static uint32_t source_of(const struct worker *worker, uint32_t i) {
     return i % 64 == 3 ? (worker->process + 1) % THREADS + 1 : worker->process + 1;
 }
 
+/* Makes a transfer, or now and then a pay-out to two accounts. */
+static uint32_t pay(struct worker *worker, uint32_t i, bezglami_answer *answer) {
+    uint32_t from = source_of(worker, i), to = (worker->process + i) % ACCOUNTS;
+    bezglami_target targets[] = { { to, i % 97 }, { i % ACCOUNTS, 1 } };
+    if (i % 4 == 1)
+        return bezglami_pay(&worker->caller, from, targets, 2, answer);
+    return bezglami_transfer(&worker->caller, from, to, i % 97, answer);
+}
+
 static void make_call(struct worker *worker, uint32_t i) {
     bezglami_answer answer = { 9, 9, 9, 9 };
-    uint32_t outcome = i % 2 == 0 ? bezglami_read(&worker->caller, i / 2 % ACCOUNTS, &answer)
-                                  : bezglami_transfer(&worker->caller, source_of(worker, i), (worker->process + i) % ACCOUNTS, i % 97, &answer);
+    uint32_t outcome = i % 2 == 0 ? bezglami_read(&worker->caller, i / 2 % ACCOUNTS, &answer) : pay(worker, i, &answer);
     if (outcome != BEZGLAMI_DONE || answer.reply > BEZGLAMI_REPLY_BALANCE || (answer.reply == BEZGLAMI_REPLY_BALANCE) != (i % 2 == 0))
         fail("a call has another answer", outcome);
     worker->replies[answer.reply]++;

@@ -12,13 +12,22 @@ from __future__ import annotations
 import ctypes
 import os
 import threading
-from collections.abc import Iterator
+from collections.abc import Iterator, Sequence
 from enum import Enum
 from pathlib import Path
 from types import TracebackType
 from typing import NamedTuple, NoReturn
 
-__all__ = ["BadBook", "Caller", "Error", "Ledger", "NoAccount", "NoCaller", "NoMemory", "NoRoom", "Receipt", "Reply"]
+__all__ = [
+    "TARGETS_MOST", "BadBook", "Caller", "Error", "Ledger", "NoAccount", "NoCaller", "NoMemory", "NoPayOut", "NoRoom", "OtherVersion",
+    "Receipt", "Reply",
+]
+
+TARGETS_MOST = 4
+"""The most targets that a pay-out has."""
+
+_VERSION = 2
+"""The version of the header that this module was written by."""
 
 
 class Error(Exception):
@@ -49,6 +58,14 @@ class NoRoom(Error):
     """The caller has no room for the receipt of one more call."""
 
 
+class NoPayOut(Error):
+    """A pay-out has from 1 to TARGETS_MOST targets."""
+
+
+class OtherVersion(Error):
+    """The library is of another version than this module."""
+
+
 class Reply(Enum):
     """The reply of a call."""
 
@@ -76,6 +93,10 @@ class _Answer(ctypes.Structure):
     _fields_ = [("reply", ctypes.c_uint32), ("balance", ctypes.c_uint64), ("steps", ctypes.c_uint64), ("exchanges", ctypes.c_uint64)]
 
 
+class _Target(ctypes.Structure):
+    _fields_ = [("account", ctypes.c_uint32), ("amount", ctypes.c_uint64)]
+
+
 def _library_file() -> Path:
     here = Path(__file__).resolve().parent
     named = os.environ.get("BEZGLAMI_LIB")
@@ -91,9 +112,11 @@ def _load() -> ctypes.CDLL:
     handle, answer = ctypes.POINTER(_Handle), ctypes.POINTER(_Answer)
     u32, u64, size = ctypes.c_uint32, ctypes.c_uint64, ctypes.c_size_t
     exports = {
+        "version": (u32, []),
         "open": (u32, [ctypes.c_char_p, size, handle, ctypes.POINTER(u32)]),
         "caller": (u32, [handle, u32, handle]),
         "transfer": (u32, [handle, u32, u32, u64, answer]),
+        "pay": (u32, [handle, u32, ctypes.POINTER(_Target), size, answer]),
         "read": (u32, [handle, u32, answer]),
         "steps": (u64, [handle]),
         "exchanges": (u64, [handle]),
@@ -107,7 +130,7 @@ def _load() -> ctypes.CDLL:
 
 _library = _load()
 _bad_book = 4
-_errors: dict[int, type[Error]] = {3: NoMemory, 5: NoCaller, 6: NoAccount, 7: NoRoom}
+_errors: dict[int, type[Error]] = {3: NoMemory, 5: NoCaller, 6: NoAccount, 7: NoRoom, 8: NoPayOut}
 
 
 def _refuse(outcome: int) -> NoReturn:
@@ -179,6 +202,14 @@ class Caller(_Holder):
         """Moves the amount from one account to another. Raises NoAccount and NoRoom."""
         return self._call("transfer", _account(source), _account(target), _fitting(amount, 64))
 
+    def pay(self, source: int, targets: Sequence[tuple[int, int]]) -> Receipt:
+        """Moves each amount to its account, or none of them: `targets` has pairs of an account and an amount.
+
+        Raises NoAccount, NoRoom and NoPayOut.
+        """
+        pairs = (_Target * len(targets))(*(_Target(_account(account), _fitting(amount, 64)) for account, amount in targets))
+        return self._call("pay", _account(source), pairs, len(targets))
+
     def read(self, account: int) -> Receipt:
         """Tells the balance of an account. Raises NoAccount and NoRoom."""
         return self._call("read", _account(account))
@@ -200,10 +231,13 @@ def _account(number: int) -> int:
 
 
 class Ledger(_Holder):
-    """A ledger for the book that the bytes spell. Raises BadBook and NoMemory."""
+    """A ledger for the book that the bytes spell. Raises BadBook, NoMemory and OtherVersion."""
 
     def __init__(self, book: bytes) -> None:
         super().__init__()
+        version = _library.bezglami_version()
+        if version != _VERSION:
+            raise OtherVersion(f"the library is of version {version}")
         line = ctypes.c_uint32()
         outcome = _library.bezglami_open(bytes(book), len(book), self._handle, line)
         if outcome == _bad_book:

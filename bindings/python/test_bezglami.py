@@ -4,7 +4,7 @@ import gc
 import unittest
 from concurrent.futures import ThreadPoolExecutor
 
-from bezglami import BadBook, Error, Ledger, NoAccount, NoCaller, NoRoom, Reply
+from bezglami import BadBook, Error, Ledger, NoAccount, NoCaller, NoPayOut, NoRoom, Reply
 
 BOOK = b"book,1\nprocesses,3\nlimits,100,20\naccount,0,500,0\naccount,1,100,1\naccount,2,300,0 1\naccount,3,0,\n"
 
@@ -26,7 +26,10 @@ class Calls(unittest.TestCase):
         self.assertEqual(bob.transfer(2, 3, 100).exchanges, 1)
         short = ann.transfer(2, 3, 2**64 - 1)
         self.assertEqual((short.reply, short.exchanges), (Reply.SHORT, 1))
-        self.assertEqual(carl.read(2).balance, 200)
+        paid = bob.pay(2, [(3, 60), (1, 40)])
+        self.assertEqual((paid.reply, paid.exchanges), (Reply.DONE, 1))
+        self.assertIs(bob.pay(2, [(3, 2**64 - 1)] * 4).reply, Reply.SHORT)
+        self.assertEqual([carl.read(account).balance for account in (2, 3, 1)], [100, 160, 340])
         for _ in range(99):
             ann.transfer(0, 0, 0)
         self.assertEqual(ann.transfer(0, 0, 0), (Reply.FULL, None, 0, 0))
@@ -46,8 +49,11 @@ class Calls(unittest.TestCase):
         for account in [4, 2**32 - 1, 2**32, -1]:
             self.assertRaises(NoAccount, ann.read, account)
             self.assertRaises(NoAccount, ann.transfer, 0, account, 1)
+            self.assertRaises(NoAccount, ann.pay, 0, [(account, 1)])
         for amount in [-1, 2**64]:
             self.assertRaises(ValueError, ann.transfer, 0, 1, amount)
+        self.assertRaises(NoPayOut, ann.pay, 0, [])
+        self.assertRaises(NoPayOut, ann.pay, 0, [(3, 1)] * 5)
         self.assertEqual(ann.read(0).balance, 500)
         self.assertRaises(NoRoom, ann.read, 0)
         self.assertEqual(len(list(ledger.callers(1))), 2)

@@ -4,6 +4,19 @@ use std::cell::Cell;
 use std::fmt;
 use std::marker::PhantomData;
 
+/// The most targets that a pay-out has.
+pub const TARGETS_MOST: usize = 4;
+
+/// An account that a pay-out pays, and the amount for it.
+#[repr(C)]
+#[derive(Clone, Copy, Debug, PartialEq, Eq, Hash)]
+pub struct Target {
+    /// The account's number.
+    pub account: u32,
+    /// What it is paid.
+    pub amount: u64,
+}
+
 /// What makes the calls of one process.
 ///
 /// It may be sent to another thread, and is used by one thread at a time. A call takes no memory and waits for no thread.
@@ -42,6 +55,15 @@ impl Caller {
     /// cover it, is no error but a [`Reply`](crate::Reply).
     pub fn transfer(&mut self, from: u32, to: u32, amount: u64) -> Result<Receipt, Error> {
         self.handle.transfer(from, to, amount)
+    }
+
+    /// Moves each amount from one account to its target, or none of them. An account may stand among the targets twice.
+    ///
+    /// # Errors
+    ///
+    /// As of [`transfer`](Caller::transfer), and [`Error::NoPayOut`].
+    pub fn pay(&mut self, from: u32, targets: &[Target]) -> Result<Receipt, Error> {
+        self.handle.pay(from, targets)
     }
 
     /// Tells the balance of an account, by [`Reply::Balance`](crate::Reply::Balance).

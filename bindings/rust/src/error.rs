@@ -17,6 +17,13 @@ pub enum Error {
     NoAccount,
     /// The caller has no room for the receipt of one more call.
     NoRoom,
+    /// A pay-out has from 1 to [`TARGETS_MOST`](crate::TARGETS_MOST) targets.
+    NoPayOut,
+    /// The library that is linked is of another version than this crate.
+    OtherVersion {
+        /// The version that the library tells.
+        library: u32,
+    },
 }
 
 impl fmt::Display for Error {
@@ -27,6 +34,8 @@ impl fmt::Display for Error {
             Error::NoCaller => f.write_str("the caller of each process was handed out"),
             Error::NoAccount => f.write_str("no such account"),
             Error::NoRoom => f.write_str("no room for one more receipt"),
+            Error::NoPayOut => f.write_str("a pay-out has from 1 to 4 targets"),
+            Error::OtherVersion { library } => write!(f, "the library is of version {library}"),
         }
     }
 }

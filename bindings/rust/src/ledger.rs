@@ -13,7 +13,7 @@ impl Ledger {
     ///
     /// # Errors
     ///
-    /// [`Error::BadBook`] and [`Error::NoMemory`].
+    /// [`Error::BadBook`], [`Error::NoMemory`] and [`Error::OtherVersion`].
     pub fn open(book: &[u8]) -> Result<Ledger, Error> {
         let handle = Handle::open(book)?;
         Ok(Ledger {

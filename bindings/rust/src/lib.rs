@@ -30,7 +30,7 @@ mod receipt;
 #[allow(unsafe_code)]
 mod sys;
 
-pub use caller::Caller;
+pub use caller::{Caller, Target, TARGETS_MOST};
 pub use error::Error;
 pub use ledger::{Callers, Ledger};
 pub use receipt::{Receipt, Reply};

@@ -1,7 +1,10 @@
 //! The library for C, behind functions that are safe to call. All unsafe code of the crate stands here.
 
-use crate::{Error, Receipt, Reply};
+use crate::{Error, Receipt, Reply, Target};
 use std::os::raw::c_void;
+
+/// The version of the header that this module was written by.
+const VERSION: u32 = 2;
 
 const DONE: u32 = 0;
 const WRONG_HANDLE: u32 = 1;
@@ -11,6 +14,7 @@ const BAD_BOOK: u32 = 4;
 const NO_CALLER: u32 = 5;
 const NO_ACCOUNT: u32 = 6;
 const NO_ROOM: u32 = 7;
+const NO_PAY_OUT: u32 = 8;
 
 /// What a call answered, as the library writes it.
 #[repr(C)]
@@ -23,6 +27,7 @@ struct Answer {
 }
 
 extern "C" {
+    fn bezglami_version() -> u32;
     fn bezglami_open(book: *const u8, length: usize, ledger: *mut Handle, line: *mut u32) -> u32;
     fn bezglami_caller(ledger: *mut Handle, calls: u32, caller: *mut Handle) -> u32;
     fn bezglami_transfer(
@@ -30,6 +35,13 @@ extern "C" {
         from: u32,
         to: u32,
         amount: u64,
+        answer: *mut Answer,
+    ) -> u32;
+    fn bezglami_pay(
+        caller: *mut Handle,
+        from: u32,
+        targets: *const Target,
+        count: usize,
         answer: *mut Answer,
     ) -> u32;
     fn bezglami_read(caller: *mut Handle, account: u32, answer: *mut Answer) -> u32;
@@ -67,6 +79,7 @@ fn done(outcome: u32) -> Result<(), Error> {
         NO_CALLER => Err(Error::NoCaller),
         NO_ACCOUNT => Err(Error::NoAccount),
         NO_ROOM => Err(Error::NoRoom),
+        NO_PAY_OUT => Err(Error::NoPayOut),
         WRONG_HANDLE | IN_USE => unreachable!("the library has lost what a handle holds"),
         other => unreachable!("the library answered {other}, which its header doesn't have"),
     }
@@ -101,6 +114,11 @@ impl Handle {
 
     /// A ledger of the book.
     pub(crate) fn open(book: &[u8]) -> Result<Handle, Error> {
+        // SAFETY: it takes nothing.
+        let library = unsafe { bezglami_version() };
+        if library != VERSION {
+            return Err(Error::OtherVersion { library });
+        }
         let mut ledger = Handle::nothing();
         let mut line = 0;
         // SAFETY: the slice's pointer isn't null and has so many bytes, which nobody writes while they are borrowed. The handle and the
@@ -124,6 +142,15 @@ impl Handle {
         let mut answer = Answer::default();
         // SAFETY: the handle is lent to this call alone, and the answer is a place of this function's own.
         done(unsafe { bezglami_transfer(self, from, to, amount, &mut answer) })?;
+        Ok(answer.receipt())
+    }
+
+    /// A pay-out by a caller.
+    pub(crate) fn pay(&mut self, from: u32, targets: &[Target]) -> Result<Receipt, Error> {
+        let mut answer = Answer::default();
+        // SAFETY: as in `transfer`; the slice's pointer isn't null and has so many targets of the layout of C, which nobody writes while
+        // they are borrowed.
+        done(unsafe { bezglami_pay(self, from, targets.as_ptr(), targets.len(), &mut answer) })?;
         Ok(answer.receipt())
     }
 

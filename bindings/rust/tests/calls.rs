@@ -1,6 +1,6 @@
 //! Each kind of call, each error, and threads.
 
-use bezglami::{Caller, Error, Ledger, Reply};
+use bezglami::{Caller, Error, Ledger, Reply, Target};
 use std::thread;
 
 const BOOK: &[u8] = b"book,1\nprocesses,3\nlimits,100,20\naccount,0,500,0\naccount,1,100,1\naccount,2,300,0 1\naccount,3,0,\n";
@@ -35,7 +35,17 @@ fn replies() {
     assert_eq!(callers[1].transfer(2, 3, 100).unwrap().exchanges, 1);
     let short = callers[0].transfer(2, 3, u64::MAX).unwrap();
     assert_eq!((short.reply, short.exchanges), (Reply::Short, 1));
-    assert_eq!(callers[2].read(2).unwrap().reply.balance(), Some(200));
+    let both = [(3, 60), (1, 40)].map(|(account, amount)| Target { account, amount });
+    let paid = callers[1].pay(2, &both).unwrap();
+    assert_eq!((paid.reply, paid.exchanges), (Reply::Done, 1));
+    let most = [Target {
+        account: 3,
+        amount: u64::MAX,
+    }; 4];
+    assert_eq!(callers[1].pay(2, &most).unwrap().reply, Reply::Short);
+    assert_eq!(callers[2].read(2).unwrap().reply.balance(), Some(100));
+    assert_eq!(callers[2].read(3).unwrap().reply.balance(), Some(160));
+    assert_eq!(callers[2].read(1).unwrap().reply.balance(), Some(340));
     for _ in 1..100 {
         assert!(callers[0].transfer(0, 0, 0).unwrap().reply.is_done());
     }
@@ -70,6 +80,17 @@ fn errors() {
         first.transfer(0, u32::MAX, 1).unwrap_err(),
         Error::NoAccount
     );
+    let far = Target {
+        account: 4,
+        amount: 1,
+    };
+    assert_eq!(first.pay(0, &[far]).unwrap_err(), Error::NoAccount);
+    assert_eq!(first.pay(0, &[]).unwrap_err(), Error::NoPayOut);
+    let five = [Target {
+        account: 3,
+        amount: 1,
+    }; 5];
+    assert_eq!(first.pay(0, &five).unwrap_err(), Error::NoPayOut);
     assert_eq!(first.read(0).unwrap().reply, Reply::Balance(500));
     assert_eq!(first.read(0).unwrap_err(), Error::NoRoom);
     assert_eq!(ledger.callers(1).count(), 2);
