@@ -44,6 +44,10 @@ if command -v valgrind >/dev/null; then
         echo 'bindings: helgrind reports nothing where two threads use one caller' >&2
         exit 1
     fi
-    grep -q 'Possible data race' "$work/said" && grep -q ' bezglami_read ' "$work/said"
+    # The access that it reports is one of the library's, in whatever function the compiler has left it.
+    if ! grep -A 2 'Possible data race' "$work/said" | grep -q -e ': at_[a-z]*::' -e ': bezglami_'; then
+        echo 'bindings: helgrind reports no access of the library where two threads use one caller' >&2
+        exit 1
+    fi
 fi
 echo "bindings: sixteen threads under ${tried#, }"
