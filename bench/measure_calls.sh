@@ -49,8 +49,9 @@ build_proved() {
         grep "^$crate:" "$root/crates.txt" >>"$work/crates.txt"
     done
     echo "calls_bench: anyhow at_ledger at_log at_object" >>"$work/crates.txt"
-    mkdir -p -- "$program/src" "$program/proofs"
+    mkdir -p -- "$program/src" "$program/proofs/make_all"
     cp -- "$here/calls/one.rt.txt" "$program/src/main.rt"
+    cp -- "$here/calls/make_all.antt.txt" "$program/proofs/make_all/Invariants.antt"
     touch -- "$program/proofs/Lib.antt"
     (cd -- "$program" && rt run >"$work/log" 2>&1) || { tail -n 20 "$work/log" >&2; exit 1; }
     proved=$program/out/calls_bench
