@@ -72,6 +72,25 @@ compare() {
         }'
 }
 
+# How many instructions the exports take of all that they call, and how many of these the call itself takes with its receipt: the function
+# `Caller::answer` of at_c, which is Rattle alone.
+count_instructions() {
+    local processes
+    command -v valgrind >/dev/null || return 0
+    for processes in 1 4 16; do
+        valgrind --tool=callgrind --callgrind-out-file="$work/counted" "$work/one" 2 "$processes" >/dev/null 2>&1
+        callgrind_annotate --inclusive=yes --threshold=100 "$work/counted" 2>/dev/null | tr -d , | awk -v processes="$processes" '
+            /:bezglami_transfer / { transfer = $1 / 8192 }
+            /:bezglami_read / { read = $1 / 8192 }
+            /:at_c::caller::Caller::answer / { inside = $1 / 8192 }
+            END {
+                printf "%d processes: %.0f instructions of a transfer from C, %.0f of a read", processes, transfer, read
+                if (inside) printf "; of both together %.3f of what the calls and their receipts take in Rattle", (transfer + read) / inside
+                print ""
+            }'
+    done
+}
+
 compile "$here/calls/calls.c" "$here/calls/locked.c" -o "$work/calls"
 compile "$here/calls/one.c" -o "$work/one"
 echo "load before: $(cut -d ' ' -f 1-3 /proc/loadavg), processors: $(nproc)"
@@ -84,3 +103,4 @@ if [ "$part" = all ]; then
 else
     "$work/one" | awk '{ printf "%d processes: %.1f ns a call from C\n", $1, $2 / 8192 }'
 fi
+count_instructions

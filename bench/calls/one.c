@@ -1,12 +1,14 @@
 /* Times the calls of one process from C, as one.rt.txt does from Rattle: the same calls on ledgers of the same books, whose receipts are
- * kept too. Prints the number of processes and the least nanoseconds of a turn. */
+ * kept too. Prints the number of processes and the least nanoseconds of a turn.
+ *
+ *   one [TURNS PROCESSES]   200 turns with 1 and with 16 processes, where nothing is said */
 #include "bezglami.h"
 
 #include <stdio.h>
 #include <stdlib.h>
 #include <time.h>
 
-enum { TURNS = 200, PAIRS = 4096 };
+enum { PAIRS = 4096 };
 
 static void expect(uint32_t outcome) {
     if (outcome != BEZGLAMI_DONE) {
@@ -39,19 +41,23 @@ static uint64_t time_one(const char *book, size_t length) {
     return ended - began;
 }
 
-static void measure(int processes) {
+static void measure(int turns, int processes) {
     char book[128];
     int length = snprintf(book, sizeof book, "book,1\nprocesses,%d\nlimits,4096,4\naccount,0,1000000000,0\naccount,1,0,\n", processes);
     uint64_t least = UINT64_MAX;
-    for (int turn = 0; turn < TURNS; turn++) {
+    for (int turn = 0; turn < turns; turn++) {
         uint64_t taken = time_one(book, (size_t)length);
         least = taken < least ? taken : least;
     }
     printf("%d %llu\n", processes, (unsigned long long)least);
 }
 
-int main(void) {
-    measure(1);
-    measure(16);
+int main(int count, char **words) {
+    if (count == 3) {
+        measure(atoi(words[1]), atoi(words[2]));
+        return 0;
+    }
+    measure(200, 1);
+    measure(200, 16);
     return 0;
 }
