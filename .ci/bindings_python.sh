@@ -15,4 +15,9 @@ said=$(mktemp)
 trap 'rm -f -- "$said"' EXIT
 (cd bindings/python && python3 -W error -m unittest) >"$said" 2>&1 || { cat "$said" >&2; exit 1; }
 sed -n 's/^Ran \([0-9]*\) tests.*/bindings: Python, \1 tests passed/p' "$said"
-[ "$(python3 bindings/python/example.py | grep -c -e ' was answered DONE$' -e ' was answered SHORT$' -e '^the shop has 200$')" -eq 3 ]
+python3 bindings/python/example.py >"$said"
+if [ "$(grep -c -e ' was answered DONE$' -e ' was answered SHORT$' -e '^the shop has 200$' "$said")" -ne 3 ]; then
+    echo 'bindings: the example in Python says something else:' >&2
+    cat "$said" >&2
+    exit 1
+fi

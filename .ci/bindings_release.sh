@@ -10,7 +10,8 @@ if ! [ -f "$archive" ] || [ -n "$(find crates.txt crates/*/src crates/*/specs cr
     exit 0
 fi
 work=$(mktemp -d)
-trap 'rm -rf -- "$work"' EXIT
+tried=nothing
+trap 'status=$?; rm -rf -- "$work"; [ "$status" -eq 0 ] || echo "bindings: the release failed after: $tried" >&2' EXIT
 tar -xzf "$archive" -C "$work"
 release=$work/elsewhere
 mv "$work/bezglami-$version" "$release"

@@ -15,5 +15,10 @@ trap 'rm -rf -- "$work"' EXIT
 export BEZGLAMI_LIB CARGO_TARGET_DIR="$work/target" RUSTFLAGS='-D warnings'
 cp -r bindings/rust "$work/crate"
 cargo test --quiet --offline --manifest-path "$work/crate/Cargo.toml" >"$work/said" 2>&1 || { cat "$work/said" >&2; exit 1; }
-[ "$("$work"/target/debug/examples/short | grep -c -e ' was answered done$' -e ' was answered short$' -e '^the shop has 200$')" -eq 3 ]
+"$work/target/debug/examples/short" >"$work/short"
+if [ "$(grep -c -e ' was answered done$' -e ' was answered short$' -e '^the shop has 200$' "$work/short")" -ne 3 ]; then
+    echo 'bindings: the example in Rust says something else:' >&2
+    cat "$work/short" >&2
+    exit 1
+fi
 echo "bindings: Rust, $(awk '/^test result: ok/ { tests += $4 } END { print tests }' "$work/said") tests passed"

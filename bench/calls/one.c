@@ -23,11 +23,16 @@ static uint64_t now(void) {
     return (uint64_t)time.tv_sec * 1000000000u + (uint64_t)time.tv_nsec;
 }
 
-static uint64_t time_one(const char *book, size_t length) {
+/* The calls are those of the last process, as in Rattle, where its pass is taken from the end of a list. */
+static uint64_t time_one(const char *book, size_t length, int processes) {
     bezglami_handle ledger = BEZGLAMI_NOTHING, caller = BEZGLAMI_NOTHING;
     bezglami_answer answer;
     uint32_t line;
     expect(bezglami_open((const uint8_t *)book, length, &ledger, &line));
+    for (int process = 0; process < processes - 1; process++) {
+        expect(bezglami_caller(&ledger, 0, &caller));
+        bezglami_free(&caller);
+    }
     expect(bezglami_caller(&ledger, 2 * PAIRS, &caller));
     uint64_t began = now();
     for (int i = 0; i < PAIRS; i++) {
@@ -43,10 +48,10 @@ static uint64_t time_one(const char *book, size_t length) {
 
 static void measure(int turns, int processes) {
     char book[128];
-    int length = snprintf(book, sizeof book, "book,1\nprocesses,%d\nlimits,4096,4\naccount,0,1000000000,0\naccount,1,0,\n", processes);
+    int length = snprintf(book, sizeof book, "book,1\nprocesses,%d\nlimits,4096,4\naccount,0,1000000000,%d\naccount,1,0,\n", processes, processes - 1);
     uint64_t least = UINT64_MAX;
     for (int turn = 0; turn < turns; turn++) {
-        uint64_t taken = time_one(book, (size_t)length);
+        uint64_t taken = time_one(book, (size_t)length, processes);
         least = taken < least ? taken : least;
     }
     printf("%d %llu\n", processes, (unsigned long long)least);

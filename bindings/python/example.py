@@ -1,4 +1,4 @@
-from threading import Thread
+from concurrent.futures import ThreadPoolExecutor
 
 import bezglami
 
@@ -6,15 +6,11 @@ book = b"book,2\nprocesses,ann,bob\nlimits,9,9\naccount,joint,300,ann bob\naccou
 
 
 def pay(caller):
-    receipt = caller.transfer(0, 1, 200)
-    print(caller.process, "was answered", receipt.reply.name)
+    return caller.transfer(0, 1, 200)
 
 
-with bezglami.Ledger(book) as ledger:
+with bezglami.Ledger(book) as ledger, ThreadPoolExecutor() as threads:
     callers = list(ledger.callers(calls=9))
-    threads = [Thread(target=pay, args=[caller]) for caller in callers]
-    for thread in threads:
-        thread.start()
-    for thread in threads:
-        thread.join()
+    for caller, receipt in zip(callers, threads.map(pay, callers)):
+        print(caller.process, "was answered", receipt.reply.name)
     print("the shop has", callers[0].read(1).balance)
