@@ -1,7 +1,8 @@
 #!/bin/sh
 # Builds what calls the static library from C, and runs it: each export with each kind of handle, wrong numbers and refused memory, and
-# a thread for each process. It needs a C compiler, and the library that `bezglami build` leaves; where one of them isn't there, or a
-# source is newer than the library, it tries nothing and says so.
+# a thread for each process. Then threads under sanitizers and valgrind, the crate, the module, and the release. It needs a C compiler, and
+# the library that `bezglami build` leaves; where one of them isn't there, or a source is newer than the library, it tries nothing and
+# says so. So does each of the others for the tools that it needs.
 set -eu
 cd "$(dirname "$0")/.."
 cc=${CC:-cc}
@@ -26,3 +27,8 @@ for turn in 1 2 3; do
     "$work/example" examples/realistic/book.csv >"$work/said"
 done
 tail -n 1 "$work/said"
+bindings/libraries.sh "$work/libraries"
+.ci/bindings_threads.sh "$work/libraries"
+.ci/bindings_rust.sh "$work/libraries"
+.ci/bindings_python.sh "$work/libraries"
+.ci/bindings_release.sh

@@ -1,0 +1,53 @@
+#!/bin/sh
+# Tests the release that `bezglami release` has left: unpacked in a new folder, with an empty environment, a path on which rt isn't, and from
+# another folder, both programs and the examples in C, Rust and Python run. Where there is no release, or a source is newer, it tries nothing.
+set -eu
+cd "$(dirname "$0")/.."
+version=$(sed -n 's/^#define BEZGLAMI_VERSION //p' bindings/c/bezglami.h)
+archive=out/bezglami-$version.tar.gz
+if ! [ -f "$archive" ] || [ -n "$(find crates.txt crates/*/src crates/*/specs crates/*/proofs bindings examples -type f -newer "$archive" | head -n 1)" ]; then
+    echo "bindings: no release tried, since $archive isn't made"
+    exit 0
+fi
+work=$(mktemp -d)
+tried=nothing
+trap 'status=$?; rm -rf -- "$work"; [ "$status" -eq 0 ] || echo "bindings: the release failed after: $tried" >&2' EXIT
+tar -xzf "$archive" -C "$work"
+release=$work/elsewhere
+mv "$work/bezglami-$version" "$release"
+mkdir "$work/here"
+cd "$work/here"
+
+path=/usr/bin:/bin
+if PATH=$path command -v rt >/dev/null; then
+    echo "bindings: no release tried, since rt is on $path"
+    exit 0
+fi
+
+# Runs a command with nothing but this path.
+alone() {
+    env -i PATH="$path" "$@"
+}
+
+examples=$release/examples
+alone "$release/bin/at_program" run "$examples/usual/book.csv" "$examples/usual/pay0.csv" | cmp - "$examples/usual/usual.report"
+alone "$release/bin/at_showing" kinds "$examples/usual/book.csv" "$examples/usual/pay0.csv" | cmp - "$examples/usual/usual.kinds"
+tried='both programs'
+
+if PATH=$path command -v cc >/dev/null; then
+    alone cc -std=c11 -D_POSIX_C_SOURCE=200809L -pthread -I"$release/include" "$release/bindings/c/example.c" "$release/lib/libbezglami.a" -o static
+    alone cc -std=c11 -D_POSIX_C_SOURCE=200809L -pthread -I"$release/include" "$release/bindings/c/example.c" -L"$release/lib" -lbezglami -Wl,-rpath,"$release/lib" -o shared
+    alone ./static "$examples/realistic/book.csv" | grep -q '^accounts .* total 995000 before, 995000 after$'
+    alone ./shared "$examples/realistic/book.csv" | grep -q '^accounts .* total 995000 before, 995000 after$'
+    tried="$tried, C"
+fi
+if rust=$(rustc --print sysroot 2>/dev/null) && [ -x "$rust/bin/cargo" ]; then
+    alone PATH="$rust/bin:$path" CARGO_HOME="$work/cargo" CARGO_TARGET_DIR="$work/target" cargo run --quiet --offline \
+        --manifest-path "$release/bindings/rust/Cargo.toml" --example short | grep -q '^the shop has 200$'
+    tried="$tried, Rust"
+fi
+if python=$(python3 -c 'import sys; sys.version_info >= (3, 10) and print(sys.executable)' 2>/dev/null) && [ -n "$python" ]; then
+    alone PYTHONDONTWRITEBYTECODE=1 "$python" "$release/bindings/python/example.py" | grep -q '^the shop has 200$'
+    tried="$tried, Python"
+fi
+echo "bindings: the release runs alone: $tried"

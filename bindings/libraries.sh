@@ -1,0 +1,20 @@
+#!/bin/sh
+# Leaves in a folder the library for C as one archive, with the part of the kit that asks for memory, and as a shared library that shows the
+# exports alone. It needs the library that `bezglami build` leaves, and a C compiler with `ar`.
+#
+#   libraries.sh FOLDER
+set -eu
+root=$(CDPATH='' cd -- "$(dirname -- "$0")/.." && pwd)
+mkdir -p -- "$1"
+folder=$(CDPATH='' cd -- "$1" && pwd)
+heap=$(dirname -- "$(rt doc)")/c/liblibc_c.a
+rm -f -- "$folder/libbezglami.a"
+# ar reads names as words, so it is run where the names have no folder.
+work=$(mktemp -d)
+trap 'rm -rf -- "$work"' EXIT
+cp -- "$root/crates/at_c/out/libat_c.a" "$heap" "$work/"
+(cd -- "$work" && printf 'CREATE libbezglami.a\nADDLIB libat_c.a\nADDLIB liblibc_c.a\nSAVE\nEND\n' | ar -M)
+mv -- "$work/libbezglami.a" "$folder/"
+echo '{ global: bezglami_*; local: *; };' >"$work/exports"
+"${CC:-cc}" -shared -Wl,-soname,libbezglami.so -Wl,--version-script="$work/exports" -Wl,--no-undefined \
+    -Wl,--whole-archive "$folder/libbezglami.a" -Wl,--no-whole-archive -o "$folder/libbezglami.so"

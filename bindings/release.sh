@@ -1,0 +1,97 @@
+#!/bin/sh
+# Leaves a release in out/, from what `bezglami build` has left: one folder with the two programs, the libraries, the header, the bindings,
+# the examples and the licences, and the same as a tar.gz. Who has the folder needs the C library, and no toolchain of Rattle.
+set -eu
+root=$(CDPATH='' cd -- "$(dirname -- "$0")/.." && pwd)
+kit=$(dirname -- "$(rt doc)")
+version=$(sed -n 's/^#define BEZGLAMI_VERSION //p' "$root/bindings/c/bezglami.h")
+name=bezglami-$version
+release=$root/out/$name
+
+# The names that a line of crates.txt or a library of the kit has behind it.
+uses_of() {
+    if [ -d "$kit/rlibs/$1.rlib" ]; then
+        sed -n 's/^dep //p' "$kit/rlibs/$1.rlib/format"
+    else
+        sed -n "s/^$1\( [^:]*\)\{0,1\}://p" "$root/crates.txt" | tr ' ' '\n'
+    fi
+}
+
+# The libraries of the kit that these crates stand on, in order.
+linked_below() {
+    left="$*"
+    seen=' '
+    while [ -n "$left" ]; do
+        first=${left%% *}
+        case $left in *' '*) left=${left#* } ;; *) left= ;; esac
+        case $seen in *" $first "*) continue ;; esac
+        seen="$seen$first "
+        for used in $(uses_of "$first"); do left="$left${left:+ }$used"; done
+    done
+    for used in $seen; do
+        [ ! -d "$kit/rlibs/$used.rlib" ] || echo "$used"
+    done | sort
+}
+
+# The licence files that the kit has of them, and which of them have none.
+copy_licences() {
+    without=
+    {
+        echo '# Licences of what is linked'
+        echo
+        echo 'The programs and the libraries stand on these libraries of the toolchain, each with the licence files that it has there.'
+        echo
+        echo '| library | licence files |'
+        echo '|---|---|'
+        for used in $(linked_below at_c at_program at_showing); do
+            files=
+            for file in "$kit/rattle/$used"/LICEN[CS]E* "$kit/rattle/$used"/COPYING* "$kit/rattle/$used"/NOTICE*; do
+                [ -f "$file" ] || continue
+                mkdir -p -- "$release/licences/$used"
+                cp -- "$file" "$release/licences/$used/"
+                files="$files${files:+, }[$(basename -- "$file")]($used/$(basename -- "$file"))"
+            done
+            if [ -n "$files" ]; then echo "| \`$used\` | $files |"; else without="$without${without:+, }\`$used\`"; fi
+        done
+        echo
+        echo "The toolchain has no licence file for $without, nor for its \`liblibc_c.a\`. Bezglami itself has no licence file."
+    } >"$release/licences/README.md"
+}
+
+write_readme() {
+    cat >"$release/README.md" <<END
+# Bezglami
+
+The asset transfer object: a payment ledger that no thread waits for. This folder has it built for $(uname -s) on $(uname -m), from commit $(git -C "$root" rev-parse --short HEAD 2>/dev/null || echo unknown). It needs the C library, and no toolchain.
+
+| here | what it is |
+|---|---|
+| \`bin/at_program\` | the program: \`run\`, \`check\`, \`make\`, \`replay\`, \`agree\`, \`deliver\`, \`verify\` |
+| \`bin/at_showing\` | the second program: \`kinds\`, \`costs\`, \`orders\`, \`ledger\`, \`trace\`, \`show\` |
+| \`include/bezglami.h\` | the header of the library for C |
+| \`lib/libbezglami.a\`, \`lib/libbezglami.so\` | the library, static and shared |
+| \`bindings/c\`, \`bindings/rust\`, \`bindings/python\` | examples in C, a crate, and a module |
+| \`examples\` | books and payment files, with reports |
+| \`licences\` | the licences of what is linked |
+
+Each of these runs in this folder:
+
+\`\`\`
+bin/at_program run examples/household/book.csv examples/household/ann.csv examples/household/bob.csv
+cc -std=c11 -pthread -Iinclude bindings/c/example.c lib/libbezglami.a -o example && ./example examples/realistic/book.csv
+(cd bindings/rust && cargo run --offline --example short)
+python3 bindings/python/example.py
+\`\`\`
+END
+}
+
+rm -rf -- "$release" "$release.tar.gz"
+mkdir -p -- "$release/bin" "$release/include" "$release/licences"
+"$root/bindings/libraries.sh" "$release/lib"
+cp -- "$root/crates/at_program/out/at_program" "$root/crates/at_showing/out/at_showing" "$release/bin/"
+cp -- "$root/bindings/c/bezglami.h" "$release/include/"
+git -C "$root" ls-files bindings/c bindings/rust bindings/python examples | grep -v -e '\.h$' -e '/test\.c$' | (cd -- "$root" && tar -cf - -T -) | tar -xf - -C "$release"
+copy_licences
+write_readme
+tar -czf "$release.tar.gz" --owner=0 --group=0 -C "$root/out" "$name"
+echo "bezglami: the release is $release, and $release.tar.gz" >&2
