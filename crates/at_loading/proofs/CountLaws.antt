@@ -13,7 +13,7 @@ use Rattle.at_report.specs.Lines.{Word}
 use Rattle.at_report.specs.declared.status.Status.{Status}
 use Rattle.at_report.specs.declared.status.Status.TheVariants.{Done, Usage, BadBook, BadPayments, ReadFault, WriteFault, NoMemory, TooLong, BadSchedule, BadOrder, BadMessages, NotLegal, TooManyOrders}
 use Rattle.at_report.specs.declared.status.UsageFault.TheVariants as usage
-use Rattle.at_loading.specs.Counting.{CountsBytes, CountsRead, IsCount, counted, counted_given}
+use Rattle.at_loading.specs.Counting.{CountsBytes, CountsRead, IsCount, call_count, counted_given}
 use Rattle.at_loading.specs.Faults.{IsBrought, IsUnread, MayRefuse}
 use Rattle.at_loading.specs.Loading.{EachSpells, Files, IsReached, IsSpelled, Loaded, LoadedOf, MayReach, MayReachOf, PaysBytes, SpellsFile, SpelledOf, all_loaded, book_loaded, calls_given, fetched, file_first, file_loaded, files_beside, files_loaded, loaded, named_book, with_book}
 use Rattle.at_loading.specs.Words.{Form}
@@ -30,20 +30,20 @@ Err-and_then (Err other) f refusal is = cc
 
 -- a file's calls, counted once they were fetched
 fetched-counted : (fetch : Result (List ℕ) Status) (given : List ℕ → Result (List Call) Status)
-    → and_then fetch (λ bytes. and_then (given bytes) (λ calls. Ok (counted calls))) ≡ and_then (and_then fetch given) (λ calls. Ok (counted calls))
+    → and_then fetch (λ bytes. and_then (given bytes) (λ calls. Ok (call_count calls))) ≡ and_then (and_then fetch given) (λ calls. Ok (call_count calls))
 fetched-counted (Ok bytes) given = refl
 fetched-counted (Err refusal) given = refl
 
 -- the first file counted, and then the others
 file_first-counted : (first : Result (List Call) Status) (rest : Result (List (List Call)) Status)
-    → and_then (and_then first (λ calls. Ok (counted calls))) (λ items. file_first items (and_then rest (λ all. Ok (map counted all))))
-    ≡ and_then (and_then first (λ calls. file_first calls rest)) (λ all. Ok (map counted all))
+    → and_then (and_then first (λ calls. Ok (call_count calls))) (λ items. file_first items (and_then rest (λ all. Ok (map call_count all))))
+    ≡ and_then (and_then first (λ calls. file_first calls rest)) (λ all. Ok (map call_count all))
 file_first-counted (Ok calls) (Ok all) = refl
 file_first-counted (Ok calls) (Err refusal) = refl
 file_first-counted (Err refusal) rest = refl
 
 files_loaded-counted : (b : NamedBook) (files : Files) (process : ℕ) (words : List Word)
-    → files_loaded (counted_given b) files process words ≡ and_then (files_loaded (calls_given b) files process words) (λ all. Ok (map counted all))
+    → files_loaded (counted_given b) files process words ≡ and_then (files_loaded (calls_given b) files process words) (λ all. Ok (map call_count all))
 unfolding files_loaded
 files_loaded-counted b files process [] = refl
 files_loaded-counted b files process (name ∷ words) =
@@ -52,10 +52,10 @@ files_loaded-counted b files process (name ∷ words) =
 
 -- what was loaded, counted
 abbrev counted_loaded : Loaded → LoadedOf ℕ
-counted_loaded l = record { book = l.book; names = l.names; files = map counted l.files }
+counted_loaded l = record { book = l.book; names = l.names; files = map call_count l.files }
 
 with_book-counted : (enough : Bool) (b : NamedBook) (refusal : Status) (rest : Result (List (List Call)) Status)
-    → (if enough then with_book b (and_then rest (λ all. Ok (map counted all))) else Err refusal)
+    → (if enough then with_book b (and_then rest (λ all. Ok (map call_count all))) else Err refusal)
     ≡ and_then (if enough then with_book b rest else Err refusal) (λ l. Ok (counted_loaded l))
 with_book-counted true b refusal (Ok all) = refl
 with_book-counted true b refusal (Err other) = refl
@@ -108,7 +108,7 @@ MayRefuse-counted tells files form before now refusal may =
 IsReached-counted : (files : Files) (book : Word) (words : List Word) (file : ℕ) → IsReached counted_given files book words file → IsReached calls_given files book words file
 IsReached-counted files book words zero is = tt
 IsReached-counted files book words (suc process) is =
-    let found = Ok-and_then (files_loaded (calls_given is.read) files 0 (take process words)) (map counted) is.before.first
+    let found = Ok-and_then (files_loaded (calls_given is.read) files 0 (take process words)) (map call_count) is.before.first
     (sym (files_loaded-counted is.read files 0 (take process words)) ∙ is.before.good) in
     record {
       read = is.read;
@@ -123,31 +123,31 @@ MayReach-counted tells files form file may =
     record { named = may.named; reached = λ told. IsReached-counted files form.book form.payments file (may.reached told) }
 
 -- the numbers of calls, summed
-sum_by-counted : (all : List (List Call)) → sum_by sum (map counted all) ≡ sum_by length all
+sum_by-counted : (all : List (List Call)) → sum_by sum (map call_count all) ≡ sum_by length all
 sum_by-counted [] = refl
 sum_by-counted (calls ∷ all) =
-    let here : sum (counted calls) ≡ length calls = omega arith in
-    let both : sum (counted calls) + sum_by sum (map counted all) ≡ length calls + sum_by length all = rw (here, sum_by-counted all) refl in
-    sum_by-cons sum (counted calls) (map counted all) ∙ both ∙ sym (sum_by-cons length calls all)
+    let here : sum (call_count calls) ≡ length calls = omega arith in
+    let both : sum (call_count calls) + sum_by sum (map call_count all) ≡ length calls + sum_by length all = rw (here, sum_by-counted all) refl in
+    sum_by-cons sum (call_count calls) (map call_count all) ∙ both ∙ sym (sum_by-cons length calls all)
 
 -- calls of each file, so many as were counted
 record AreCallsOf (counts : List (List ℕ)) : Type 0 where
   all : List (List Call)
-  same : counts ≡ map counted all
+  same : counts ≡ map call_count all
 
 AreCallsOf-known : (b : NamedBook) (counts : List (List ℕ)) → All (IsSpelled (CountsBytes b)) counts → AreCallsOf counts
 AreCallsOf-known b [] known = record { all = []; same = refl }
 AreCallsOf-known b (items ∷ counts) known =
     let first = (known zero [] (omega arith)).1 in
     let others = AreCallsOf-known b counts (λ k d below. known (suc k) d (omega arith)) in
-    let here : items ≡ counted first.0 = first.2 in
-    let rest : counts ≡ map counted others.all = others.same in
+    let here : items ≡ call_count first.0 = first.2 in
+    let rest : counts ≡ map call_count others.all = others.same in
     record { all = first.0 ∷ others.all; same = cc }
 
 -- the same where the files spell them
 record AreCallsIn (b : NamedBook) (files : Files) (words : List Word) (counts : List (List ℕ)) : Type 0 where
   all : List (List Call)
-  same : counts ≡ map counted all
+  same : counts ≡ map call_count all
   each : EachSpells (PaysBytes b) files words all
 
 EachSpells-cons : (b : NamedBook) (files : Files) (word : Word) (words : List Word) (calls : List Call) (all : List (List Call))
@@ -162,8 +162,8 @@ AreCallsIn-each b files [] (items ∷ counts) same each = absurd (omega arith)
 AreCallsIn-each b files (word ∷ words) (items ∷ counts) same each =
     let first = each zero (omega arith) in
     let others = AreCallsIn-each b files words counts (omega arith) (λ p below. each (suc p) (omega arith)) in
-    let here : items ≡ counted first.spelled.0 = first.spelled.2 in
-    let rest : counts ≡ map counted others.all = others.same in
+    let here : items ≡ call_count first.spelled.0 = first.spelled.2 in
+    let rest : counts ≡ map call_count others.all = others.same in
     record {
       all = first.spelled.0 ∷ others.all;
       same = cc;
@@ -197,7 +197,7 @@ counts-known files form l count are = record {
   what = record { book = l.book; names = l.names; files = are.all };
   book_is = refl;
   calls_are = ap (sum_by sum) are.same ∙ sum_by-counted are.all;
-  count = sym (length-map are.all counted) ∙ ap length (sym are.same) ∙ count;
+  count = sym (length-map are.all call_count) ∙ ap length (sym are.same) ∙ count;
   read = λ told. absurd (cc);
   spelled = λ told. absurd (cc);
 }
@@ -206,7 +206,7 @@ counts-spelled : (tells : Bool) (files : Files) (form : Form) (l : LoadedOf ℕ)
     → SpelledOf CountsBytes files form.book form.payments l → CountsRead tells files form l.book (sum_by sum l.files)
 counts-spelled tells files form l count is =
     let are = AreCallsIn-each (named_book l.book l.names) files form.payments l.files (is.files.enough ∙ sym is.files.count) is.files.each in
-    let same : length are.all ≡ length l.files = sym (length-map are.all counted) ∙ ap length (sym are.same) in
+    let same : length are.all ≡ length l.files = sym (length-map are.all call_count) ∙ ap length (sym are.same) in
     let what : Loaded = record { book = l.book; names = l.names; files = are.all } in
     let spelled : SpelledOf PaysBytes files form.book form.payments what =
     record { book = is.book; files = record { enough = is.files.enough; count = same ∙ is.files.count; each = are.each } } in

@@ -9,8 +9,8 @@ use Rattle.at_loading.specs.Words.{Form}
 use Rattle.at_loading.specs.Loading.{Files, Giving, Loaded, PaysBytes, Spelled, Spelling, calls_given, loaded}
 
 -- how many calls there are, as the one thing that a file gives
-abbrev pub counted : List Call → List ℕ
-counted calls = length calls ∷ []
+abbrev pub call_count : List Call → List ℕ
+call_count calls = length calls ∷ []
 
 -- a file gave the number of its calls, which aren't too many
 pub record IsCount (given : List ℕ) : Type 0 where
@@ -20,11 +20,11 @@ pub record IsCount (given : List ℕ) : Type 0 where
 
 -- what a payment file's bytes give, counted
 abbrev pub counted_given : NamedBook → Giving ℕ
-counted_given b process bytes = and_then (calls_given b process bytes) (λ calls. Ok (counted calls))
+counted_given b process bytes = and_then (calls_given b process bytes) (λ calls. Ok (call_count calls))
 
 -- the bytes spell so many calls
 abbrev pub CountsBytes : Spelling ℕ
-CountsBytes b bytes given = (calls : List Call) × PaysBytes b bytes calls × (given ≡ counted calls)
+CountsBytes b bytes given = (calls : List Call) × PaysBytes b bytes calls × (given ≡ call_count calls)
 
 -- the book and so many calls are those of what was read of the words' files: the calls of one file for each of the words. Where the
 -- files are told, their bytes spell it
