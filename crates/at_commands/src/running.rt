@@ -20,7 +20,7 @@ use at_io::{Shelf, Sink};
 use at_ledger::{Book, Call};
 use at_loading::{Command, Form, load};
 use at_object::Closed;
-use at_report::{Status, checked_text, journal_report};
+use at_report::{Pieces, Status, checked_text, journal_report};
 use at_workers::Gate;
 use std::alloc::{AllocError, Global};
 use std::thread::Threads;
@@ -39,14 +39,14 @@ fn run_text<R: Threads + Sync, G: Gate + Sync>(
     requires known { All (IsPlayable (length book.now.accounts)) (contents_of files.items) }
     ensures { IfOk result (λ p. Prints Command.Run
         (record { book = book.now; names = names.now; files = contents_of files.items })
-        p.closed p.text.items) }
+        p.closed p.text) }
 {
     let (closed, calls) = play_in_order(rt, alloc, book, files, gate)?;
     let journal = ClosingJournal {
         closing: closed.closing(),
         calls: calls.as_slice(),
     };
-    let text = journal_report(alloc, book, names, &journal)?;
+    let text = journal_report(rt, alloc, book, names, &journal)?;
     Ok(Printed {
         text,
         closed: Some(closed),
@@ -59,11 +59,14 @@ fn check_text(alloc: Global, book: &Book, files: &[Vec<Call>]) -> Result<Printed
     requires known { All (IsPlayable (length book.now.accounts)) (contents_of files.now) }
     ensures none { IfOk result (λ p. p.closed ≡ None) }
     ensures text { IfOk result
-        (λ p. p.text.items ≡ checked_line book.now (sum_by length (contents_of files.now))) }
+        (λ p. p.text ≡ checked_line book.now (sum_by length (contents_of files.now))) }
 {
     let _known = book.accounts();
     let text = checked_text(alloc, book, count_calls(files))?;
-    Ok(Printed { text, closed: None })
+    Ok(Printed {
+        text: Pieces::one(alloc, text)?,
+        closed: None,
+    })
 }
 
 /// What the command prints of the files.
@@ -81,7 +84,7 @@ fn text_of<R: Threads + Sync, G: Gate + Sync>(
     requires known { All (IsPlayable (length book.now.accounts)) (contents_of files.items) }
     ensures { IfOk result (λ p. Prints command
         (record { book = book.now; names = names.now; files = contents_of files.items })
-        p.closed p.text.items) }
+        p.closed p.text) }
 {
     match command {
         Command::Run => run_text(rt, alloc, book, names, files, gate),
@@ -103,7 +106,7 @@ fn files_text<R: Threads + Sync, F: Shelf, G: Gate + Sync>(
     ensures kept { OnOk result (F.faults shelf.new ≡ F.faults shelf.old) }
     ensures printed { IfOk result
         (λ p. PrintsRead (F.tells shelf.old) (F.file shelf.old) (form_shown form.now)
-        p.closed p.text.items) }
+        p.closed p.text) }
     ensures checks { form.now.command ≡ Command.Check → IfOk result (λ p. p.closed ≡ None) }
     ensures err { IfErr result
         (λ refusal. MayRefuse (F.tells shelf.old) (loaded (F.file shelf.old) (form_shown form.now))
