@@ -12,3 +12,4 @@ pub mod DrawnCalls
 pub mod GeneratedRuns
 pub mod LoadedTexts
 pub mod Endings
+pub mod PieceLaws

@@ -10,19 +10,19 @@ use crate::ending::{Printed, end_keeping};
 use at_agree::agree;
 use at_io::Sink;
 use at_object::{Closed, NoMemory};
-use at_report::{Status, agreed_text};
+use at_report::{Pieces, Status, agreed_text};
 use std::alloc::Global;
 use std::thread::Threads;
 
 /// The line of the value that the processes agree on, each of which proposes one of the values, by threads.
 fn agreement<R: Threads + Sync>(rt: &R, alloc: Global, values: &[u64]) -> Result<Printed, NoMemory>
     requires { MayAgreeOn values.now }
-    ensures { IfOk result (λ p. PrintsAgreed values.now p.closed p.text.items) }
+    ensures { IfOk result (λ p. PrintsAgreed values.now p.closed p.text) }
 {
     let agreed = agree(rt, alloc, values)?;
     let text = agreed_text(alloc, values.len() as u32, agreed.value)?;
     Ok(Printed {
-        text,
+        text: Pieces::one(alloc, text)?,
         closed: Some(agreed.closed),
     })
 }

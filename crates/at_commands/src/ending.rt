@@ -3,15 +3,16 @@
 
 ghost use Rattle.std.specs.Prelude.{◌≡◌, ◌≤◌, None, IfOk, IfErr};
 ghost use Rattle.at_commands.specs.Writing.{Ends, Wrote};
+ghost use Rattle.at_report.specs.Pieces.{joined};
 
 use at_io::{Sink, put_all};
 use at_object::Closed;
-use at_report::Status;
+use at_report::{Pieces, Status};
 
 /// What a command prints, and the closed ledger on which it made calls, if it did.
 #[derive(Drop)]
 pub struct Printed {
-    pub text: Vec<u8>,
+    pub text: Pieces,
     pub closed: Option<Closed>,
 }
 
@@ -26,6 +27,21 @@ fn write_text<O: Sink>(out: &mut O, text: &[u8]) -> Status
         Ok(()) => Status::Done,
         Err(_) => Status::WriteFault,
     }
+}
+
+/// Writes a whole text that was made before, piece after piece.
+fn write_pieces<O: Sink>(out: &mut O, pieces: &[Vec<u8>]) -> Status
+    ensures later { O.faults out.old ≤ O.faults out.new }
+    ensures as_told { O.tells out.new ≡ O.tells out.old }
+    ensures wrote { Wrote (O.tells out.old) (joined pieces.now) (O.taken out.old) (O.taken out.new)
+        (O.faults out.old) (O.faults out.new) result }
+{
+    for piece in pieces {
+        let Ok(()) = put_all(out, piece.as_slice()) else {
+            return Status::WriteFault;
+        };
+    }
+    Status::Done
 }
 
 /// Ends a command that has made this text, or came to this refusal.
@@ -58,7 +74,7 @@ pub fn end_keeping<O: Sink>(
 ) -> Status
     ensures later { O.faults out.old ≤ O.faults out.new }
     ensures as_told { O.tells out.new ≡ O.tells out.old }
-    ensures ends { Ends (λ p. p.text.items) made
+    ensures ends { Ends (λ (p : Printed). p.text) made
         (record {
           tells = O.tells out.old;
           before = O.taken out.old;
@@ -74,7 +90,7 @@ pub fn end_keeping<O: Sink>(
     match made {
         Ok(Printed { text, closed }) => {
             *kept = closed;
-            write_text(out, text.as_slice())
+            write_pieces(out, text.as_slice())
         }
         Err(refusal) => refusal,
     }

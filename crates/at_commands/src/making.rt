@@ -12,7 +12,7 @@ use crate::playing::play;
 use at_io::Sink;
 use at_loading::Making;
 use at_object::Closed;
-use at_report::{Status, summary};
+use at_report::{Pieces, Status, summary};
 use at_workers::Gate;
 use std::alloc::{AllocError, Global};
 use std::thread::Threads;
@@ -26,16 +26,16 @@ fn made_text<R: Threads + Sync, G: Gate + Sync>(
 ) -> Result<Printed, AllocError>
     requires { MayMake making.processes making.calls }
     ensures text { IfOk result
-        (λ p. p.text.items ≡ made making.first making.processes making.calls) }
+        (λ p. p.text ≡ made making.first making.processes making.calls) }
     ensures all { IfOk result
-        (λ p. IsMade making.first making.processes making.calls p.text.items) }
+        (λ p. IsMade making.first making.processes making.calls p.text) }
     ensures ran { IfOk result (λ p. SummarizesRun making p.closed) }
 {
     let Made { book, files } = generate(alloc, making.first, making.processes, making.calls)?;
     let (closed, lines) = play(rt, alloc, &book, files, gate)?;
     let text = summary(alloc, &book, lines.as_slice(), making.first, making.calls)?;
     Ok(Printed {
-        text,
+        text: Pieces::one(alloc, text)?,
         closed: Some(closed),
     })
 }

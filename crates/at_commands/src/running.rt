@@ -20,7 +20,7 @@ use at_io::{Shelf, Sink};
 use at_ledger::{Book, Call};
 use at_loading::{Command, Form, Loaded, count, load};
 use at_object::Closed;
-use at_report::{Status, checked_text, journal_report};
+use at_report::{Pieces, Status, checked_text, journal_report};
 use at_workers::Gate;
 use std::alloc::{AllocError, Global};
 use std::thread::Threads;
@@ -39,14 +39,14 @@ fn run_text<R: Threads + Sync, G: Gate + Sync>(
     requires known { All (IsPlayable (length book.now.accounts)) (contents_of files.items) }
     ensures { IfOk result (λ p. Prints Command.Run
         (record { book = book.now; names = names.now; files = contents_of files.items })
-        p.closed p.text.items) }
+        p.closed p.text) }
 {
     let (closed, calls) = play_in_order(rt, alloc, book, files, gate)?;
     let journal = ClosingJournal {
         closing: closed.closing(),
         calls: calls.as_slice(),
     };
-    let text = journal_report(alloc, book, names, &journal)?;
+    let text = journal_report(rt, alloc, book, names, &journal)?;
     Ok(Printed {
         text,
         closed: Some(closed),
@@ -56,10 +56,13 @@ fn run_text<R: Threads + Sync, G: Gate + Sync>(
 /// The line of how many calls were counted.
 fn check_text(alloc: Global, book: &Book, calls: u32) -> Result<Printed, AllocError>
     ensures none { IfOk result (λ p. p.closed ≡ None) }
-    ensures text { IfOk result (λ p. p.text.items ≡ checked_line book.now calls) }
+    ensures text { IfOk result (λ p. p.text ≡ checked_line book.now calls) }
 {
     let text = checked_text(alloc, book, calls)?;
-    Ok(Printed { text, closed: None })
+    Ok(Printed {
+        text: Pieces::one(alloc, text)?,
+        closed: None,
+    })
 }
 
 /// The text of the form's command for its files, or why there is none.
@@ -76,7 +79,7 @@ fn files_text<R: Threads + Sync, F: Shelf, G: Gate + Sync>(
     ensures kept { OnOk result (F.faults shelf.new ≡ F.faults shelf.old) }
     ensures printed { IfOk result
         (λ p. PrintsRead (F.tells shelf.old) (F.file shelf.old) (form_shown form.now)
-        p.closed p.text.items) }
+        p.closed p.text) }
     ensures checks { form.now.command ≡ Command.Check → IfOk result (λ p. p.closed ≡ None) }
     ensures err { IfErr result
         (λ refusal. MayRefuse (F.tells shelf.old) (loaded (F.file shelf.old) (form_shown form.now))

@@ -1,4 +1,5 @@
 pub mod LineLaws
+pub mod PieceLaws
 pub mod WordLaws
 pub mod ReportLaws
 pub mod NodeTexts

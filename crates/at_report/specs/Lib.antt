@@ -1,6 +1,7 @@
 pub mod Status
 pub mod FaultText
 pub mod Lines
+pub mod Pieces
 pub mod Report
 pub mod Summary
 pub mod Nodes

@@ -8,10 +8,12 @@
 //! Each call answers exactly the bytes that the definitions of the texts give. The text of a refusal takes no memory.
 #![tactic(auto)]
 
+mod by_threads;
 mod first_word;
 mod line_at;
 mod lines;
 mod nodes;
+mod pieces;
 mod records;
 mod refusal;
 mod replaying;
@@ -19,14 +21,16 @@ mod run_report;
 mod run_summary;
 mod status;
 
+pub use crate::by_threads::journal_report;
 pub use crate::first_word::process_of;
 pub use crate::line_at::{Journal, LineAt};
 pub use crate::lines::{push_line, push_number, push_numbered, push_word};
 pub use crate::nodes::nodes_text;
+pub use crate::pieces::Pieces;
 pub use crate::records::{push_field, push_number_field, push_reply_field};
 pub use crate::refusal::{FaultText, fault_text};
 pub use crate::run_report::{
-    agreed_text, checked_text, journal_report, push_audit, push_heading, report, verified_text,
+    agreed_text, checked_text, push_audit, push_heading, report, verified_text,
 };
 pub use crate::run_summary::summary;
 pub use crate::status::{Status, UsageFault};

@@ -135,31 +135,8 @@ fn write_report<J: Journal>(
     Ok(out)
 }
 
-/// The report of lines that stand elsewhere: the journal, and the balances and the total after all its lines. `names` are
-/// the book's. No other list of lines has this report. The text takes some 40 bytes for each line, and the work grows with
-/// lines and accounts alone.
-pub fn journal_report<J: Journal>(
-    alloc: Global,
-    book: &Book,
-    names: &Names,
-    journal: &J,
-) -> Result<Vec<u8>, NoMemory>
-    requires names { AreNamesOf book.now names.now }
-    requires lines { All (IsLineOn book.now.processes (length book.now.accounts))
-        (J.lines journal.now) }
-    ensures text { IfOk result
-        (λ text. text.items ≡ report_text book.now names.now (J.lines journal.now)) }
-    ensures spells { IfOk result (λ text. (others : List Line) → length others < 2 ^ 64
-        → All (IsPrinted book.now) (J.lines journal.now) → All (IsPrinted book.now) others
-        → text.items ≡ report_text book.now names.now others → J.lines journal.now ≡ others) }
-{
-    let _known = book.accounts();
-    let _known = journal.len();
-    let text = write_report(alloc, book, names, journal)?;
-    Ok(text)
-}
-
-/// The report of a list of lines, as `journal_report` makes it.
+/// The report of a list of lines: the journal, and the balances and the total after all its lines. `names` are the book's. No other
+/// list of lines has this report. The text takes some 40 bytes for each line, and the work grows with lines and accounts alone.
 pub fn report(
     alloc: Global,
     book: &Book,
@@ -173,7 +150,10 @@ pub fn report(
         → All (IsPrinted book.now) lines.now → All (IsPrinted book.now) others
         → text.items ≡ report_text book.now names.now others → lines.now ≡ others) }
 {
-    journal_report(alloc, book, names, &lines)
+    let _known = book.accounts();
+    let _known = lines.len();
+    let text = write_report(alloc, book, names, &lines)?;
+    Ok(text)
 }
 
 /// The line of a check: how many processes and accounts the book has, and how many calls its files have together.

@@ -21,14 +21,14 @@ returns-in_default g c = record {
 
 pub returns : goal.returns
 returns g c =
-    let prints : PrintsAgreed c.args.values.now c.end_keeping.new.kept c.in-Ok.printed.text.items = rw c.end_keeping.ensures.kept c.in-Ok.ensures in
+    let prints : PrintsAgreed c.args.values.now c.end_keeping.new.kept c.in-Ok.printed.text = rw c.end_keeping.ensures.kept c.in-Ok.ensures in
     let ends = c.end_keeping.ensures.ends in
     record {
       later = c.end_keeping.ensures.later;
       as_told = c.end_keeping.ensures.as_told;
       answered = record {
-        done = λ is told. record { text = c.in-Ok.printed.text.items; printed = prints; taken = ends.done is told };
-        prefix = λ is told. record { text = c.in-Ok.printed.text.items; printed = prints; taken = ends.prefix is told };
+        done = λ is told. record { text = c.in-Ok.printed.text; printed = prints; taken = ends.done is told };
+        prefix = λ is told. record { text = c.in-Ok.printed.text; printed = prints; taken = ends.prefix is told };
         ran = λ is. (prints.value, prints.agreed);
         answers = elim ends.answers [
           | inl is ↦ inl is

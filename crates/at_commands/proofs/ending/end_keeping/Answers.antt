@@ -4,11 +4,11 @@ use Rattle.at_commands.proofs.ending.end_keeping.Goals as goal
 
 pub returns-in-Ok : goal.returns-in-Ok
 returns-in-Ok g c =
-    let written = c.write_text.ensures in
+    let written = c.write_pieces.ensures in
     record {
       later = written.later;
       as_told = written.as_told;
-      ends = rw c.in-Ok.is (rw c.as_slice.ensures.value at written.wrote);
+      ends = rw c.in-Ok.is (rw c.as_slice.ensures at written.wrote);
       kept = rw c.in-Ok.is refl;
       untouched = rw c.in-Ok.is tt;
     }

@@ -5,7 +5,7 @@ use Rattle.at_commands.specs.Running.{journal_of}
 use Rattle.at_commands.proofs.running.run_text.Goals as goal
 
 pub journal_report-requires-clause-lines : goal.journal_report-requires-clause-lines
-journal_report-requires-clause-lines g c =
+journal_report-requires-clause-lines g c = λ _ _.
     let ordered = c.in_ok-closed.ensures in
     rw (c.closing.ensures.closing, c.as_slice.ensures.value, ordered.lines_are) ordered.played.on
 

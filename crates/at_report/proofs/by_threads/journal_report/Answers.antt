@@ -1,6 +1,6 @@
 use Rattle.std.proofs.Common.{◌∙◌, sym, length, ◌<◌, ◌^◌, arith}
 use Rattle.at_report.proofs.ReportLaws.{report_text-injective}
-use Rattle.at_report.proofs.run_report.journal_report.Goals as goal
+use Rattle.at_report.proofs.by_threads.journal_report.Goals as goal
 
 pub returns-clause-spells : goal.returns-clause-spells
 returns-clause-spells g c others few printed printed_others e =
