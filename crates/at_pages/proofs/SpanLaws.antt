@@ -4,7 +4,7 @@ use Rattle.std.specs.Prelude.{is_some, unwrap_or}
 use Rattle.std.specs.List.{range_with_len}
 use Rattle.std.proofs.lemmas.Bool.{cases_eq, eq-eqb, ne_eqb}
 use Rattle.std.proofs.lemmas.List.{map-append, take-take}
-use Rattle.std.proofs.lemmas.List.Elements.{All-append, All-map, All-nil, filter-append}
+use Rattle.std.proofs.lemmas.List.Elements.{All-append, All-map, All-nil}
 use Rattle.std.proofs.lemmas.List.Sums.{sum_by-take-le, sum_by_push}
 use Rattle.at_stepper.specs.InTurns.{is_turn_of, turn_at}
 use Rattle.at_stepper.specs.Schedules.{answered_by}
@@ -14,7 +14,7 @@ use Rattle.at_pages.specs.Making.{after_turn, ended, ended_by, not_begun, with_t
 use Rattle.at_pages.specs.Spans.{all_spans, answers, makes_exchange, makes_step, span_at, spans_of, turns_before}
 use Rattle.at_pages.specs.declared.spans.Making.{Making}
 use Rattle.at_pages.specs.declared.spans.Span.{Span}
-use Rattle.at_pages.proofs.TextLaws.{flat_map-range_more, range-more}
+use Rattle.at_pages.proofs.TextLaws.{filter-range_more, flat_map-range_more}
 
 -- what is known before a turn of the call that is in the making then
 abbrev pub making_at : List TurnMade → ℕ → ℕ → Making
@@ -28,13 +28,6 @@ making_at turns p m = record {
 -- the calls that the first turns have ended
 abbrev pub spans_by : List TurnMade → ℕ → ℕ → List Span
 spans_by turns p m = map (span_at turns p) (filter (answers turns p) (range_with_len 0 m))
-
-filter-one : (P : ℕ → Bool) (n : ℕ) → filter P (n ∷ []) ≡ cond (P n) (n ∷ []) []
-filter-one P n = elim (P n) as (λ b. cond b (n ∷ []) [] ≡ cond b (n ∷ []) []) [ true ↦ refl | false ↦ refl ]
-
-filter-range_more : (P : ℕ → Bool) (n : ℕ) → filter P (range_with_len 0 (n + 1)) ≡ filter P (range_with_len 0 n) ++ cond (P n) (n ∷ []) []
-filter-range_more P n =
-    ap (filter P) (range-more n) ∙ (filter-append P (range_with_len 0 n) (n ∷ []) ∙ ap (λ (xs : List ℕ). filter P (range_with_len 0 n) ++ xs) (filter-one P n))
 
 filter-none : (P : ℕ → Bool) (n : ℕ) → ((j : ℕ) → j < n → P j ≡ false) → filter P (range_with_len 0 n) ≡ []
 filter-none P zero none = refl
