@@ -1,5 +1,5 @@
 -- The arrows of decisions: from the exchange that decides to the lane of the owner whose request it decides.
-use Rattle.std.specs.Prelude.{ℕ, ◌+◌, ◌==◌, ◌&&◌, Bool, false, not, List, [], ◌∷◌, ◌++◌, Option, None, Some, codes, decimal, flat_map, length, slice_get, take, if◌then◌else◌}
+use Rattle.std.specs.Prelude.{ℕ, ◌+◌, ◌==◌, ◌&&◌, Bool, false, not, List, [], ◌++◌, Option, None, Some, codes, decimal, flat_map, length, slice_get, take, if◌then◌else◌}
 use Rattle.std.specs.List.{list_any, range_with_len}
 use Rattle.at_board.specs.declared.step.BoardStep.{BoardStep}
 use Rattle.at_board.specs.declared.step.BoardStep.TheVariants.{Exchange, Load, Store}

@@ -1,5 +1,5 @@
 -- The curves of publications: from a publication to the first turn of each other process in which its record is loaded.
-use Rattle.std.specs.Prelude.{ℕ, ◌+◌, ◌==◌, ◌&&◌, Bool, false, List, [], ◌∷◌, ◌++◌, Option, None, Some, codes, decimal, filter, flat_map, length, nat_le, slice_get, take, if◌then◌else◌}
+use Rattle.std.specs.Prelude.{ℕ, ◌+◌, ◌==◌, ◌&&◌, Bool, false, List, [], ◌++◌, Option, None, Some, codes, decimal, filter, flat_map, length, nat_le, slice_get, take, if◌then◌else◌}
 use Rattle.std.specs.List.{list_any, range_with_len}
 use Rattle.at_board.specs.declared.step.BoardStep.{BoardStep}
 use Rattle.at_board.specs.declared.step.BoardStep.TheVariants.{Exchange, Load, Store}

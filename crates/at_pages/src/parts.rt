@@ -33,7 +33,7 @@ text{fill:var(--ink);font-size:12px}
 #none{fill:none;stroke:var(--load)}
 #head{fill:var(--swap)}
 #tip{fill:var(--store)}
-.sees{fill:none;stroke:var(--store);opacity:.6;marker-end:url(#tip)}
+.sees{fill:none;stroke:var(--store);opacity:.8;marker-end:url(#tip)}
 .helps{fill:none;stroke:var(--swap);stroke-dasharray:4 3;marker-end:url(#head)}
 .key{display:flex;flex-wrap:wrap;gap:0 1.5rem;margin:0;padding:0;list-style:none}
 .key svg{display:inline-block;vertical-align:middle}
@@ -86,7 +86,7 @@ pub(crate) const CALLS: &[u8] = b"<h2>The calls</h2>
 <div class='wide' tabindex='0'>
 <table>
 <thead>
-<tr><th>process</th><th>line</th><th>call</th><th>account</th><th>kind</th><th>reply</th><th>steps</th><th>exchanges</th></tr>
+<tr><th>process</th><th>line</th><th>call</th><th>account</th><th>kind</th><th>reply</th><th>steps</th><th>exchanges</th><th>new</th><th>most_steps</th><th>most_exchanges</th></tr>
 </thead>
 <tbody>
 ";

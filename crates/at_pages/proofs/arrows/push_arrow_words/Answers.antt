@@ -1,4 +1,4 @@
-use Rattle.std.proofs.Common.{◌≡◌, ◌++◌, List, ℕ, append_assoc, codes}
+use Rattle.std.proofs.Common.{append_assoc, codes}
 use Rattle.at_files.specs.Names.{process_name}
 use Rattle.at_pages.proofs.arrows.push_arrow_words.Goals as goal
 

@@ -1,4 +1,4 @@
-use Rattle.std.proofs.Common.{◌≡◌, ℕ, ◌<◌, ◌∙◌, ◌++◌, List, Option, ap, arith, length, sym}
+use Rattle.std.proofs.Common.{ℕ, ◌<◌, ◌∙◌, ◌++◌, List, Option, ap, arith, length}
 use Rattle.at_stepper.specs.declared.replaying.TurnMade.{TurnMade}
 use Rattle.at_pages.specs.Arrows.{arrow_text, decided_for}
 use Rattle.at_pages.specs.Turns.{own_turn}

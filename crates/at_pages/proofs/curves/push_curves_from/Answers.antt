@@ -1,4 +1,4 @@
-use Rattle.std.proofs.Common.{◌≡◌, ℕ, ◌<◌, ◌∙◌, ◌++◌, List, Option, None, false, ap, arith, length, subst, sym, take}
+use Rattle.std.proofs.Common.{ℕ, ◌<◌, ◌∙◌, ◌++◌, List, Option, None, false, ap, arith, length, subst, sym, take}
 use Rattle.std.proofs.lemmas.List.{take_more}
 use Rattle.at_stepper.specs.InTurns.{turn_at}
 use Rattle.at_stepper.specs.declared.replaying.TurnMade.{TurnMade}

@@ -1,4 +1,4 @@
-use Rattle.std.proofs.Common.{◌≡◌, ◌<◌, None, Option, arith, slice_get, sym}
+use Rattle.std.proofs.Common.{arith, sym}
 use Rattle.std.proofs.lemmas.Option.{slice_get_past}
 use Rattle.at_ledger.specs.Book.{account_of}
 use Rattle.at_pages.proofs.TurnLaws.{owner-none}

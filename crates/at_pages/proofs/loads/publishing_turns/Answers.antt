@@ -1,4 +1,4 @@
-use Rattle.std.proofs.Common.{◌≡◌, ℕ, ◌∙◌, ◌++◌, ◌∷◌, [], Bool, List, ap, cond, sym}
+use Rattle.std.proofs.Common.{ℕ, ◌∙◌, ◌++◌, ◌∷◌, [], Bool, List, ap, cond, sym}
 use Rattle.at_pages.specs.Curves.{publishes_in}
 use Rattle.at_pages.proofs.TextLaws.{filter-range_more}
 use Rattle.at_pages.proofs.loads.publishing_turns.Goals as goal

@@ -1,4 +1,4 @@
-use Rattle.std.proofs.Common.{◌≡◌, ℕ, ◌<◌, ◌==◌, ◌∙◌, ◌++◌, ◌∷◌, [], All, Bool, List, ap, arith, cond, length, subst, sym}
+use Rattle.std.proofs.Common.{ℕ, ◌<◌, ◌==◌, ◌∙◌, ◌++◌, ◌∷◌, [], All, Bool, List, ap, arith, cond, length, subst, sym}
 use Rattle.std.proofs.lemmas.List.Elements.{All-append}
 use Rattle.at_stepper.specs.InTurns.{turn_at}
 use Rattle.at_stepper.specs.declared.replaying.TurnMade.{TurnMade}

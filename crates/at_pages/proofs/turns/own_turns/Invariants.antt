@@ -1,4 +1,4 @@
-use Rattle.std.proofs.Common.{◌≡◌, ℕ, ◌<◌, ◌==◌, All, filter, length}
+use Rattle.std.proofs.Common.{◌≡◌, ◌<◌, ◌==◌, All, filter, length}
 use Rattle.std.specs.List.{range_with_len}
 use Rattle.at_stepper.specs.InTurns.{turn_at}
 use Rattle.at_pages.proofs.turns.own_turns.Given as goal
