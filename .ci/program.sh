@@ -500,7 +500,8 @@ cp out report
 echo 'verified 1024' >verified
 [ "$status" -eq 0 ] && run verify largest.csv report $(each few)
 printed 'a replay at the limits' verified
-# The same turn by turn: the replies of the turns are those of the lines. Its page has a mark for each turn.
+# The same turn by turn: the replies of the turns are those of the lines. Its page has a mark for each turn, and
+# the curves and arrows that they tell.
 shows trace largest.csv turns.csv $(each few)
 [ "$status" -eq 0 ] && [ ! -s err ] && awk -F '[, ]' '
     FNR == NR { if (FNR > 1 && $NF != "") answer[$2, $3] = $NF; next }
@@ -510,8 +511,18 @@ shows trace largest.csv turns.csv $(each few)
 ' out report && good=yes || good=no
 count "$good" 'a trace at the limits'
 made=$(($(wc -l <out) - 1))
+# A curve for each record and each other process that loads it. An arrow for each first exchange of a cell whose process then loads the
+# request of another owner: of account 0, slot S is that of process S.
+awk -F '[, ]' '
+    decided[$2] && $5 == "request" && $7 != $2 { helps++ }
+    { decided[$2] = 0 }
+    $5 == "cell" && !(($6, $7) in cells) { cells[$6, $7]; decided[$2] = 1 }
+    $4 == "load" && $5 == "record" && $6 != $2 && !(($2, $6, $7) in seen) { seen[$2, $6, $7]; sees++ }
+    END { print sees + 0, helps + 0 }
+' out >lines
 shows show largest.csv turns.csv $(each few)
-[ "$status" -eq 0 ] && [ ! -s err ] && [ "$(grep -c "^<use href='#" out)" -eq "$made" ] && good=yes || good=no
+echo "$(grep -c "^<path class='sees'" out) $(grep -c "^<path class='helps'" out)" >drawn
+[ "$status" -eq 0 ] && [ ! -s err ] && [ "$(grep -c "^<use href='#" out)" -eq "$made" ] && cmp -s lines drawn && good=yes || good=no
 count "$good" 'a page at the limits'
 
 echo 'agreed 8 4294967295' >agreed

@@ -1,7 +1,7 @@
 #!/bin/sh
 # Opens pages of `show` in Debian's chromium, which is no part of the gate: at 1,280 and at 400 units, light and dark. It fails where the
-# browser reports an error, where two texts of a picture overlap, and where a mark, a bar or a text stands outside its drawing. The pictures
-# of the screen are left beside the copies that it looks at.
+# browser reports an error, where two texts of a picture overlap, and where a mark, a bar, a line or a text stands outside its drawing. The
+# pictures of the screen are left beside the copies that it looks at.
 #
 #   bench/browser.sh [FOLDER [PAGE...]]   the pages of examples/replay, or these, with copies and pictures in FOLDER or a new one
 set -u
@@ -24,7 +24,7 @@ addEventListener('load', () => {
     const whole = drawing.getBoundingClientRect();
     const outside = (box) => box.left < whole.left - 1 || box.right > whole.right + 1
         || box.top < whole.top - 1 || box.bottom > whole.bottom + 1;
-    for (const part of drawing.querySelectorAll('use, rect, text')) {
+    for (const part of drawing.querySelectorAll('use, rect, text, path.sees, path.helps')) {
         if (outside(part.getBoundingClientRect())) faults.push('outside: ' + part.outerHTML);
     }
     const texts = [...drawing.querySelectorAll('text')].map((text) => [text, text.getBoundingClientRect()]);

@@ -36,11 +36,11 @@ module _ (b : BookTerms) (before after : PassTerms) where
       ap (λ (p : PassTerms). p.exchanges) (made.refused (refusal-cases r.reply refusal))
 
   module _ (r : Receipt) (cost : CostTerms) (takes : TakesCall b before after r cost) where
-    steps-takes : (x : Bool) → is_refusal r.reply ≡ x → after.steps - before.steps ≤ most_steps b r (cost_of before after).new_records
+    steps-takes : (x : Bool) → is_refusal r.reply ≡ x → after.steps - before.steps ≤ most_steps b r.call r.reply (cost_of before after).new_records
     steps-takes true is = rw is (omega (arith, takes.within.refused (refusal-cases r.reply is)))
     steps-takes false is = rw is (omega (arith, takes.within.few))
 
-    exchanges-takes : (x y : Bool) → is_refusal r.reply ≡ x → may_exchange b r.call ≡ y → after.exchanges - before.exchanges ≤ most_exchanges b r
+    exchanges-takes : (x y : Bool) → is_refusal r.reply ≡ x → may_exchange b r.call ≡ y → after.exchanges - before.exchanges ≤ most_exchanges b r.call r.reply
     exchanges-takes true y is may = rw is (omega (arith, exchanges-refused r.call r takes.made is))
     exchanges-takes false false is may = rw (is, may) (omega (arith, takes.within.none may))
     exchanges-takes false true is may = rw (is, may) (omega (arith, takes.within.decided, takes.within.few_decided))

@@ -2,6 +2,7 @@
 use Rattle.std.specs.Prelude.{◌≡◌, ℕ, ◌+◌, ◌*◌, ◌≤◌, Bool, true, false, List, [], ◌∷◌, if◌then◌else◌}
 use Rattle.at_ledger.specs.Account.{slots_of}
 use Rattle.at_ledger.specs.Book.{BookTerms, account_of}
+use Rattle.at_ledger.specs.declared.call.Call.{Call}
 use Rattle.at_ledger.specs.declared.call.Reply.{Reply}
 use Rattle.at_ledger.specs.declared.call.Reply.TheVariants.{Done, Short, NotOwner, Full, Balance}
 use Rattle.at_board.specs.declared.words.TheConstants.{RECORD_WORDS}
@@ -19,19 +20,17 @@ is_refusal Full = true
 is_refusal (Balance amount) = false
 
 -- the most steps: those of the call without other traffic, and the words of each record that it counted anew
-abbrev pub most_steps : BookTerms → Receipt → ℕ → ℕ
-most_steps b r new =
-    if is_refusal r.reply then 0 else call_steps b r.call + RECORD_WORDS * new
+abbrev pub most_steps : BookTerms → Call → Reply → ℕ → ℕ
+most_steps b call reply new = if is_refusal reply then 0 else call_steps b call + RECORD_WORDS * new
 
 -- the most exchanges: one for each owner of an account that several own, and none else
-abbrev pub most_exchanges : BookTerms → Receipt → ℕ
-most_exchanges b r =
-    if is_refusal r.reply then 0 else (if may_exchange b r.call then slots_of (account_of b (first_account r.call)) else 0)
+abbrev pub most_exchanges : BookTerms → Call → Reply → ℕ
+most_exchanges b call reply = if is_refusal reply then 0 else (if may_exchange b call then slots_of (account_of b (first_account call)) else 0)
 
 -- the cost is within both
 pub record IsCostWithin (b : BookTerms) (r : Receipt) (cost : CostTerms) : Type 0 where
-  pub steps : cost.steps ≤ most_steps b r cost.new_records
-  pub exchanges : cost.exchanges ≤ most_exchanges b r
+  pub steps : cost.steps ≤ most_steps b r.call r.reply cost.new_records
+  pub exchanges : cost.exchanges ≤ most_exchanges b r.call r.reply
 
 -- each cost of the list is, of its receipt
 unfoldable pub AreCostsWithin : BookTerms → List Receipt → List CostTerms → Type 0

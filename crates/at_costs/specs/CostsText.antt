@@ -24,7 +24,7 @@ abbrev pub cost_fields : BookTerms → NameList → ℕ → ℕ → Receipt → 
 cost_fields b names process number r cost =
     process_name names process ∷ decimal number
     ∷ (call_fields b names process r.call ++ reply_word r.reply ∷ decimal cost.steps ∷ decimal cost.exchanges ∷ decimal cost.new_records
-    ∷ decimal (most_steps b r cost.new_records) ∷ decimal (most_exchanges b r) ∷ [])
+    ∷ decimal (most_steps b r.call r.reply cost.new_records) ∷ decimal (most_exchanges b r.call r.reply) ∷ [])
 
 -- a cost of the list
 abbrev pub cost_at : List CostTerms → ℕ → CostTerms

@@ -11,7 +11,6 @@ ghost use Rattle.at_costs.specs.Bounds.{is_refusal, most_exchanges, most_steps};
 
 use at_board::{RECORD_WORDS, REQUEST_WORDS};
 use at_ledger::{Book, Call, Reply};
-use at_log::Receipt;
 
 /// Whether the call was answered before it looked at any balance.
 fn is_refusal(reply: &Reply) -> bool
@@ -81,15 +80,14 @@ fn call_steps(book: &Book, call: &Call) -> u64
 }
 
 /// The most steps of the call that was answered so, when it counted so many records anew.
-pub fn most_steps(book: &Book, receipt: &Receipt, new_records: u64) -> u64
-    requires call { IsCallOn (length book.now.accounts) receipt.now.call }
-    requires small { new_records < 2 ^ 37 }
-    ensures { result ≡ most_steps book.now receipt.now new_records }
+pub fn most_steps(book: &Book, call: &Call, reply: Reply, new_records: u64) -> u128
+    requires { IsCallOn (length book.now.accounts) call.now }
+    ensures { result ≡ most_steps book.now call.now reply new_records }
 {
-    if is_refusal(&receipt.reply) {
+    if is_refusal(&reply) {
         return 0;
     }
-    call_steps(book, &receipt.call) + u64::from(RECORD_WORDS) * new_records
+    u128::from(call_steps(book, call)) + u128::from(RECORD_WORDS) * u128::from(new_records)
 }
 
 /// How many exchanges a payment from the account may make: one for each owner where there are several.
@@ -103,13 +101,13 @@ fn payment_exchanges(book: &Book, source: u32) -> u64
 }
 
 /// The most exchanges of the call that was answered so.
-pub fn most_exchanges(book: &Book, receipt: &Receipt) -> u64
-    requires { IsCallOn (length book.now.accounts) receipt.now.call }
-    ensures { result ≡ most_exchanges book.now receipt.now }
+pub fn most_exchanges(book: &Book, call: &Call, reply: Reply) -> u64
+    requires { IsCallOn (length book.now.accounts) call.now }
+    ensures { result ≡ most_exchanges book.now call.now reply }
 {
-    let is_read = matches!(receipt.call, Call::Read { .. });
-    if is_read || is_refusal(&receipt.reply) {
+    let is_read = matches!(call, Call::Read { .. });
+    if is_read || is_refusal(&reply) {
         return 0;
     }
-    payment_exchanges(book, receipt.call.first_account())
+    payment_exchanges(book, call.first_account())
 }

@@ -28,6 +28,14 @@ fn push_head(out: &mut Vec<u8>) -> Result<(), NoMemory>
     )
 }
 
+/// Adds a comma, and a number of any size.
+fn push_large_field(out: &mut Vec<u8>, n: u128) -> Result<(), NoMemory>
+    ensures { OnOk result (out.new.items ≡ out.old.items ++ comma_led (decimal n ∷ [])) }
+{
+    out.push(b',')?;
+    out.extend_from_slice(itoa::Buffer::new().format(n).as_bytes())
+}
+
 /// Adds the reply, what the call cost, and the most that it may cost.
 fn push_cost(
     out: &mut Vec<u8>,
@@ -39,15 +47,19 @@ fn push_cost(
     ensures { OnOk result (out.new.items ≡ out.old.items
         ++ comma_led (reply_word receipt.now.reply ∷ decimal cost.now.steps
         ∷ decimal cost.now.exchanges ∷ decimal cost.now.new_records
-        ∷ decimal (most_steps book.now receipt.now cost.now.new_records)
-        ∷ decimal (most_exchanges book.now receipt.now) ∷ [])) }
+        ∷ decimal (most_steps book.now receipt.now.call receipt.now.reply cost.now.new_records)
+        ∷ decimal (most_exchanges book.now receipt.now.call receipt.now.reply) ∷ [])) }
 {
     push_reply_field(out, receipt.reply)?;
     push_number_field(out, cost.steps())?;
     push_number_field(out, cost.exchanges())?;
-    push_number_field(out, cost.new_records())?;
-    push_number_field(out, most_steps(book, receipt, cost.new_records()))?;
-    push_number_field(out, most_exchanges(book, receipt))
+    let new_records = cost.new_records();
+    push_number_field(out, new_records)?;
+    push_large_field(
+        out,
+        most_steps(book, &receipt.call, receipt.reply, new_records),
+    )?;
+    push_number_field(out, most_exchanges(book, &receipt.call, receipt.reply))
 }
 
 /// Adds the record of a call of the process, with its number.

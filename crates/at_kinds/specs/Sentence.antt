@@ -12,7 +12,7 @@ use Rattle.at_kinds.specs.KindsText.{owner_words}
 abbrev pub counted_text : ℕ → ℕ → ℕ → ℕ → List ℕ
 counted_text payments alone refused agreed =
     decimal payments ++ codes " payments: " ++ decimal alone ++ codes " made without agreement, "
-    ++ decimal refused ++ codes " refused to who owns nothing there, " ++ decimal agreed ++ codes " agreed on"
+    ++ decimal refused ++ codes " refused because the process does not own the source, " ++ decimal agreed ++ codes " agreed on"
 
 -- the same of the files
 abbrev pub payments_text : BookTerms → List (List Call) → List ℕ
@@ -22,7 +22,7 @@ payments_text b files =
 
 -- how many payments a set of owners has to agree on, and who they are
 abbrev pub agreement_text : NameList → GroupTerms → List ℕ
-agreement_text names g = codes ", " ++ decimal g.payments ++ codes " by" ++ spaced (owner_words names g.owners)
+agreement_text names g = codes "; " ++ decimal g.payments ++ codes " by the owners" ++ spaced (owner_words names g.owners)
 
 -- the whole sentence
 abbrev pub sentence_text : BookTerms → NameList → List (List Call) → List ℕ

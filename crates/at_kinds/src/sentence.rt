@@ -32,7 +32,7 @@ fn push_counted(
     at_base::push_number(out, alone)?;
     out.extend_from_slice(b" made without agreement, ")?;
     at_base::push_number(out, refused)?;
-    out.extend_from_slice(b" refused to who owns nothing there, ")?;
+    out.extend_from_slice(b" refused because the process does not own the source, ")?;
     at_base::push_number(out, agreed)?;
     out.extend_from_slice(b" agreed on")?;
     Ok(())
@@ -57,10 +57,11 @@ fn push_agreement(out: &mut Vec<u8>, names: &Names, group: &Group) -> Result<(),
     ensures { OnOk result
         (out.new.items ≡ out.old.items ++ agreement_text names.now (group_terms group.now)) }
 {
-    out.extend_from_slice(b", ")?;
+    out.extend_from_slice(b"; ")?;
     at_base::push_number(out, group.payments.0)?;
-    out.extend_from_slice(b" by")?;
-    push_names(out, names, group.owners.as_slice())
+    out.extend_from_slice(b" by the owners")?;
+    push_names(out, names, group.owners.as_slice())?;
+    Ok(())
 }
 
 /// Adds the same of each set of owners.

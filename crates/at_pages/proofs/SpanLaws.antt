@@ -1,20 +1,20 @@
 -- The calls of a process, turn by turn.
-use Rattle.std.proofs.Common.{◌≡◌, ◌≢◌, ℕ, zero, suc, ◌+◌, ◌<◌, ◌≤◌, ◌==◌, ◌&&◌, ◌∙◌, All, Bool, true, false, cond, List, [], ◌∷◌, ◌++◌, Option, None, Some, count_by, filter, flat_map, length, map, take, slice_get, refl, sym, ap, subst, arith, append_assoc, append-nil, inl, inr, add-one}
+use Rattle.std.proofs.Common.{◌≡◌, ◌≢◌, ℕ, zero, suc, ◌+◌, ◌<◌, ◌≤◌, ◌==◌, ◌&&◌, ◌∙◌, All, Bool, true, false, cond, List, [], ◌∷◌, ◌++◌, Option, Some, count_by, filter, flat_map, length, map, take, slice_get, refl, sym, ap, subst, arith, append-nil, inl, inr, add-one}
 use Rattle.std.specs.Prelude.{is_some, unwrap_or}
 use Rattle.std.specs.List.{range_with_len}
 use Rattle.std.proofs.lemmas.Bool.{cases_eq, eq-eqb, ne_eqb}
 use Rattle.std.proofs.lemmas.List.{map-append, take-take}
-use Rattle.std.proofs.lemmas.List.Elements.{All-append, All-map, All-nil, filter-append}
+use Rattle.std.proofs.lemmas.List.Elements.{All-append, All-map, All-nil}
 use Rattle.std.proofs.lemmas.List.Sums.{sum_by-take-le, sum_by_push}
 use Rattle.at_stepper.specs.InTurns.{is_turn_of, turn_at}
 use Rattle.at_stepper.specs.Schedules.{answered_by}
 use Rattle.at_stepper.specs.declared.replaying.TurnMade.{TurnMade}
 use Rattle.at_traces.proofs.CountLaws.{answered_by-more, other-added}
 use Rattle.at_pages.specs.Making.{after_turn, ended, ended_by, not_begun, with_turn}
-use Rattle.at_pages.specs.Spans.{all_spans, answers, makes_exchange, makes_step, span_at, spans_of, turns_before}
+use Rattle.at_pages.specs.Spans.{all_spans, answers, counts_record, makes_exchange, makes_step, span_at, spans_of, turns_before}
 use Rattle.at_pages.specs.declared.spans.Making.{Making}
 use Rattle.at_pages.specs.declared.spans.Span.{Span}
-use Rattle.at_pages.proofs.TextLaws.{flat_map-range_more, range-more}
+use Rattle.at_pages.proofs.TextLaws.{filter-range_more, flat_map-range_more}
 
 -- what is known before a turn of the call that is in the making then
 abbrev pub making_at : List TurnMade → ℕ → ℕ → Making
@@ -23,18 +23,12 @@ making_at turns p m = record {
   first = slice_get (turns_before turns p m) 0;
   steps = count_by (makes_step turns) (turns_before turns p m);
   exchanges = count_by (makes_exchange turns) (turns_before turns p m);
+  new_records = count_by (counts_record turns) (turns_before turns p m);
 }
 
 -- the calls that the first turns have ended
 abbrev pub spans_by : List TurnMade → ℕ → ℕ → List Span
 spans_by turns p m = map (span_at turns p) (filter (answers turns p) (range_with_len 0 m))
-
-filter-one : (P : ℕ → Bool) (n : ℕ) → filter P (n ∷ []) ≡ cond (P n) (n ∷ []) []
-filter-one P n = elim (P n) as (λ b. cond b (n ∷ []) [] ≡ cond b (n ∷ []) []) [ true ↦ refl | false ↦ refl ]
-
-filter-range_more : (P : ℕ → Bool) (n : ℕ) → filter P (range_with_len 0 (n + 1)) ≡ filter P (range_with_len 0 n) ++ cond (P n) (n ∷ []) []
-filter-range_more P n =
-    ap (filter P) (range-more n) ∙ (filter-append P (range_with_len 0 n) (n ∷ []) ∙ ap (λ (xs : List ℕ). filter P (range_with_len 0 n) ++ xs) (filter-one P n))
 
 filter-none : (P : ℕ → Bool) (n : ℕ) → ((j : ℕ) → j < n → P j ≡ false) → filter P (range_with_len 0 n) ≡ []
 filter-none P zero none = refl
@@ -63,6 +57,7 @@ of_turns turns k before = record {
   first = slice_get before 0;
   steps = count_by (makes_step turns) before;
   exchanges = count_by (makes_exchange turns) before;
+  new_records = count_by (counts_record turns) before;
 }
 
 and-false : (b : Bool) → (b && false) ≡ false
@@ -110,9 +105,10 @@ making_at-goes_on turns p m within own unanswered =
 
       fields : of_turns turns (answered_by p (take m turns)) (turns_before turns p m ++ m ∷ []) ≡ with_turn (making_at turns p m) (turn_at turns m) m
       fields =
-          ap (λ (first : Option ℕ). record { number = answered_by p (take m turns); first = first; steps = count_by (makes_step turns) (turns_before turns p m ++ m ∷ []); exchanges = count_by (makes_exchange turns) (turns_before turns p m ++ m ∷ []) }) (first-push (turns_before turns p m) m)
-          ∙ (ap (λ (steps : ℕ). record { number = answered_by p (take m turns); first = Some (unwrap_or (slice_get (turns_before turns p m) 0) m); steps = steps; exchanges = count_by (makes_exchange turns) (turns_before turns p m ++ m ∷ []) }) (count-push (makes_step turns) (turns_before turns p m) m)
-          ∙ ap (λ (exchanges : ℕ). record { number = answered_by p (take m turns); first = Some (unwrap_or (slice_get (turns_before turns p m) 0) m); steps = count_by (makes_step turns) (turns_before turns p m) + cond (is_some (turn_at turns m).step) 1 0; exchanges = exchanges }) (count-push (makes_exchange turns) (turns_before turns p m) m))
+          ap (λ (first : Option ℕ). record { number = answered_by p (take m turns); first = first; steps = count_by (makes_step turns) (turns_before turns p m ++ m ∷ []); exchanges = count_by (makes_exchange turns) (turns_before turns p m ++ m ∷ []); new_records = count_by (counts_record turns) (turns_before turns p m ++ m ∷ []) }) (first-push (turns_before turns p m) m)
+          ∙ (ap (λ (steps : ℕ). record { number = answered_by p (take m turns); first = Some (unwrap_or (slice_get (turns_before turns p m) 0) m); steps = steps; exchanges = count_by (makes_exchange turns) (turns_before turns p m ++ m ∷ []); new_records = count_by (counts_record turns) (turns_before turns p m ++ m ∷ []) }) (count-push (makes_step turns) (turns_before turns p m) m)
+          ∙ (ap (λ (exchanges : ℕ). record { number = answered_by p (take m turns); first = Some (unwrap_or (slice_get (turns_before turns p m) 0) m); steps = count_by (makes_step turns) (turns_before turns p m) + cond (is_some (turn_at turns m).step) 1 0; exchanges = exchanges; new_records = count_by (counts_record turns) (turns_before turns p m ++ m ∷ []) }) (count-push (makes_exchange turns) (turns_before turns p m) m)
+          ∙ ap (λ (new : ℕ). record { number = answered_by p (take m turns); first = Some (unwrap_or (slice_get (turns_before turns p m) 0) m); steps = count_by (makes_step turns) (turns_before turns p m) + cond (is_some (turn_at turns m).step) 1 0; exchanges = count_by (makes_exchange turns) (turns_before turns p m) + cond (makes_exchange turns m) 1 0; new_records = new }) (count-push (counts_record turns) (turns_before turns p m) m)))
 
 -- after its last turn the next one has none
 making_at-ends : (turns : List TurnMade) (p m : ℕ) → m < length turns → (turn_at turns m).process ≡ p → is_some (turn_at turns m).reply ≡ true
@@ -161,8 +157,9 @@ map-one f false m = refl
 -- the call that a turn ends, by what was known before it
 span_at-ended : (turns : List TurnMade) (p m : ℕ) → span_at turns p m ≡ ended (with_turn (making_at turns p m) (turn_at turns m) m) p m (turn_at turns m).reply
 span_at-ended turns p m =
-    ap (λ (steps : ℕ). record { process = p; number = answered_by p (take m turns); first = unwrap_or (slice_get (turns_before turns p m) 0) m; last = m; steps = steps; exchanges = count_by (makes_exchange turns) (turns_before turns p m ++ m ∷ []); reply = (turn_at turns m).reply }) (count-push (makes_step turns) (turns_before turns p m) m)
-    ∙ ap (λ (exchanges : ℕ). record { process = p; number = answered_by p (take m turns); first = unwrap_or (slice_get (turns_before turns p m) 0) m; last = m; steps = count_by (makes_step turns) (turns_before turns p m) + cond (is_some (turn_at turns m).step) 1 0; exchanges = exchanges; reply = (turn_at turns m).reply }) (count-push (makes_exchange turns) (turns_before turns p m) m)
+    ap (λ (steps : ℕ). record { process = p; number = answered_by p (take m turns); first = unwrap_or (slice_get (turns_before turns p m) 0) m; last = m; steps = steps; exchanges = count_by (makes_exchange turns) (turns_before turns p m ++ m ∷ []); new_records = count_by (counts_record turns) (turns_before turns p m ++ m ∷ []); reply = (turn_at turns m).reply }) (count-push (makes_step turns) (turns_before turns p m) m)
+    ∙ (ap (λ (exchanges : ℕ). record { process = p; number = answered_by p (take m turns); first = unwrap_or (slice_get (turns_before turns p m) 0) m; last = m; steps = count_by (makes_step turns) (turns_before turns p m) + cond (is_some (turn_at turns m).step) 1 0; exchanges = exchanges; new_records = count_by (counts_record turns) (turns_before turns p m ++ m ∷ []); reply = (turn_at turns m).reply }) (count-push (makes_exchange turns) (turns_before turns p m) m)
+    ∙ ap (λ (new : ℕ). record { process = p; number = answered_by p (take m turns); first = unwrap_or (slice_get (turns_before turns p m) 0) m; last = m; steps = count_by (makes_step turns) (turns_before turns p m) + cond (is_some (turn_at turns m).step) 1 0; exchanges = count_by (makes_exchange turns) (turns_before turns p m) + cond (makes_exchange turns m) 1 0; new_records = new; reply = (turn_at turns m).reply }) (count-push (counts_record turns) (turns_before turns p m) m))
 
 pub spans_by-more : (turns : List TurnMade) (p m : ℕ)
     → spans_by turns p m ++ ended_by (making_at turns p m) (turn_at turns m) p m ≡ spans_by turns p (m + 1)

@@ -1,8 +1,9 @@
 -- What a function gives of each element of a list, one after another.
-use Rattle.std.proofs.Common.{◌≡◌, ℕ, ◌+◌, ◌<◌, ◌∙◌, List, [], ◌∷◌, ◌++◌, map, flat_map, length, take, get_or, ap, append_assoc, append-nil, arith, sym}
+use Rattle.std.proofs.Common.{◌≡◌, ℕ, ◌+◌, ◌<◌, ◌∙◌, Bool, true, false, cond, List, [], ◌∷◌, ◌++◌, filter, flat_map, length, take, get_or, ap, append_assoc, append-nil, arith, refl, sym}
 use Rattle.std.specs.List.{range_with_len}
 use Rattle.std.proofs.lemmas.Grind.{flat_map-append}
 use Rattle.std.proofs.lemmas.List.{map-id, take_more}
+use Rattle.std.proofs.lemmas.List.Elements.{filter-append}
 use Rattle.std.proofs.lemmas.List.FromFn.{map-range_with_len_more}
 
 pub flat_map-push : {X Y : Type 0} (f : X → List Y) (xs : List X) (x : X) → flat_map f (xs ++ x ∷ []) ≡ flat_map f xs ++ f x
@@ -13,6 +14,14 @@ pub range-more : (n : ℕ) → range_with_len 0 (n + 1) ≡ range_with_len 0 n +
 range-more n =
     sym (map-id (range_with_len 0 (n + 1))) ∙ (map-range_with_len_more (λ (i : ℕ). i) 0 n n (omega arith)
     ∙ ap (λ (xs : List ℕ). xs ++ n ∷ []) (map-id (range_with_len 0 n)))
+
+-- which of the first numbers are kept, and whether the next one is
+filter-one : (P : ℕ → Bool) (n : ℕ) → filter P (n ∷ []) ≡ cond (P n) (n ∷ []) []
+filter-one P n = elim (P n) as (λ b. cond b (n ∷ []) [] ≡ cond b (n ∷ []) []) [ true ↦ refl | false ↦ refl ]
+
+pub filter-range_more : (P : ℕ → Bool) (n : ℕ) → filter P (range_with_len 0 (n + 1)) ≡ filter P (range_with_len 0 n) ++ cond (P n) (n ∷ []) []
+filter-range_more P n =
+    ap (filter P) (range-more n) ∙ (filter-append P (range_with_len 0 n) (n ∷ []) ∙ ap (λ (xs : List ℕ). filter P (range_with_len 0 n) ++ xs) (filter-one P n))
 
 -- what is given of the first numbers, and of the next one
 pub flat_map-range_more : {Y : Type 0} (f : ℕ → List Y) (out : List Y) (n : ℕ)

@@ -1,5 +1,5 @@
 -- The lanes, and in them the bars of the calls with their words and replies.
-use Rattle.std.specs.Prelude.{ℕ, ◌+◌, ◌-◌, ◌*◌, ◌==◌, ◌&&◌, Bool, List, [], ◌∷◌, ◌++◌, Option, None, Some, codes, decimal, flat_map, length, nat_le, nat_lt, slice_get, slice_index_or, if◌then◌else◌}
+use Rattle.std.specs.Prelude.{ℕ, ◌+◌, ◌-◌, ◌*◌, ◌==◌, ◌&&◌, Bool, List, [], ◌++◌, Option, None, Some, codes, decimal, flat_map, length, nat_le, nat_lt, slice_get, slice_index_or, if◌then◌else◌}
 use Rattle.std.specs.List.{range_with_len}
 use Rattle.at_files.specs.Names.{NameList, account_name, process_name}
 use Rattle.at_ledger.specs.Call.{amount_of}
@@ -79,7 +79,7 @@ bar_text names files after s =
     let label = label_if names (spanned_call files s) in rect_text names label s ++ words_text label after s ++ answer_text (reply_field s.reply) s
 
 abbrev pub span_in : List Span → ℕ → Span
-span_in spans k = slice_index_or spans k (record { process = 0; number = 0; first = 0; last = 0; steps = 0; exchanges = 0; reply = None })
+span_in spans k = slice_index_or spans k (record { process = 0; number = 0; first = 0; last = 0; steps = 0; exchanges = 0; new_records = 0; reply = None })
 
 -- the turn at which the lane's next bar begins, and the end of all turns where there is none
 abbrev pub begins_next : ℕ → List Span → ℕ → ℕ

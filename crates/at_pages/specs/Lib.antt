@@ -2,6 +2,11 @@ pub mod Places
 pub mod Marks
 pub mod Spans
 pub mod Making
+pub mod Turns
+pub mod Arrows
+pub mod Deciding
+pub mod Curves
+pub mod Loading
 pub mod Bars
 pub mod Tables
 pub mod PageText

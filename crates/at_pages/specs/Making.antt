@@ -2,13 +2,13 @@
 use Rattle.std.specs.Prelude.{ℕ, ◌+◌, ◌≤◌, ◌==◌, ◌&&◌, Bool, List, [], ◌∷◌, Option, None, Some, is_some, unwrap_or, if◌then◌else◌}
 use Rattle.at_ledger.specs.declared.call.Reply.{Reply}
 use Rattle.at_stepper.specs.declared.replaying.TurnMade.{TurnMade}
-use Rattle.at_pages.specs.Spans.{is_exchange}
+use Rattle.at_pages.specs.Spans.{begins_record, is_exchange}
 use Rattle.at_pages.specs.declared.spans.Making.{Making}
 use Rattle.at_pages.specs.declared.spans.Span.{Span}
 
 -- a call of this number that has not begun
 abbrev pub not_begun : ℕ → Making
-not_begun number = record { number = number; first = None; steps = 0; exchanges = 0 }
+not_begun number = record { number = number; first = None; steps = 0; exchanges = 0; new_records = 0 }
 
 -- the call with one more turn
 abbrev pub with_turn : Making → TurnMade → ℕ → Making
@@ -17,12 +17,13 @@ with_turn o t m = record {
   first = Some (unwrap_or o.first m);
   steps = o.steps + (if is_some t.step then 1 else 0);
   exchanges = o.exchanges + (if is_exchange t.step then 1 else 0);
+  new_records = o.new_records + (if begins_record t.step then 1 else 0);
 }
 
 -- the call of the process that its last turn ended
 abbrev pub ended : Making → ℕ → ℕ → Option Reply → Span
 ended o p last reply =
-    record { process = p; number = o.number; first = unwrap_or o.first last; last = last; steps = o.steps; exchanges = o.exchanges; reply = reply }
+    record { process = p; number = o.number; first = unwrap_or o.first last; last = last; steps = o.steps; exchanges = o.exchanges; new_records = o.new_records; reply = reply }
 
 -- whether a turn answers a call of the process
 abbrev pub is_answer : ℕ → TurnMade → Bool
@@ -41,3 +42,4 @@ pub record IsFew (o : Making) (turns : ℕ) : Type 0 where
   pub number : o.number ≤ turns
   pub steps : o.steps ≤ turns
   pub exchanges : o.exchanges ≤ turns
+  pub new_records : o.new_records ≤ turns

@@ -6,7 +6,9 @@ use Rattle.at_ledger.specs.Book.{BookTerms}
 use Rattle.at_ledger.specs.declared.call.Call.{Call}
 use Rattle.at_stepper.specs.declared.replaying.Replayed.{Replayed}
 use Rattle.at_stepper.specs.declared.replaying.TurnMade.{TurnMade}
+use Rattle.at_pages.specs.Arrows.{arrows_text}
 use Rattle.at_pages.specs.Bars.{bars_text, lanes_text}
+use Rattle.at_pages.specs.Curves.{curves_text}
 use Rattle.at_pages.specs.Marks.{marks_text}
 use Rattle.at_pages.specs.Places.{picture_height, picture_width}
 use Rattle.at_pages.specs.Spans.{all_spans}
@@ -18,11 +20,12 @@ abbrev pub size_text : ℕ → ℕ → List ℕ
 size_text turns processes =
     codes " width='" ++ decimal (picture_width turns) ++ codes "' height='" ++ decimal (picture_height processes) ++ codes "'"
 
--- the picture: its size, the lanes, the bars of the calls, and the marks of the turns
+-- the picture: its size, the lanes, the bars of the calls, the curves of the publications, the arrows of the decisions, and the marks of the
+-- turns
 abbrev pub picture_text : BookTerms → NameList → List (List Call) → List TurnMade → List ℕ
 picture_text b names files turns =
     codes "<svg" ++ size_text (length turns) b.processes ++ SHAPES.now ++ lanes_text names (length turns) b.processes
-    ++ bars_text names files (length turns) (all_spans turns b.processes) ++ marks_text b names turns
+    ++ bars_text names files (length turns) (all_spans turns b.processes) ++ curves_text b turns ++ arrows_text b names turns ++ marks_text b names turns
 
 -- the page: what the payments need, the picture with its key, the calls, and the journal, each under its heading
 abbrev pub page_text : BookTerms → NameList → List (List Call) → Replayed → List ℕ

@@ -1,5 +1,5 @@
 -- Where the picture has what: time goes from left to right by turns, and each process has a lane.
-use Rattle.std.specs.Prelude.{ℕ, ◌+◌, ◌-◌, ◌*◌, List, ◌++◌, codes, decimal}
+use Rattle.std.specs.Prelude.{ℕ, ◌+◌, ◌-◌, ◌*◌, List, ◌++◌, codes, decimal, nat_lt, if◌then◌else◌}
 
 -- the place of a turn, from 0
 abbrev pub time_place : ℕ → ℕ
@@ -32,6 +32,25 @@ reply_line p = 92 + 132 * p
 -- the line of a process's name
 abbrev pub name_line : ℕ → ℕ
 name_line p = 68 + 132 * p
+
+-- the edge of a lane's bars that faces another lane
+abbrev pub facing_edge : ℕ → ℕ → ℕ
+facing_edge p q = if nat_lt p q then lane_place p + 13 else lane_place p - 13
+
+-- the words beside an arrow from one lane to another: right of it, and nearer to the lane that it comes from
+abbrev pub note_place : ℕ → ℕ
+note_place m = 141 + 6 * m
+
+abbrev pub note_line : ℕ → ℕ → ℕ
+note_line p q = if nat_lt p q then lane_place p + 58 else lane_place p - 54
+
+-- the word beside a curve: near the lane to which it goes
+abbrev pub borrow_line : ℕ → ℕ → ℕ
+borrow_line p q = if nat_lt p q then lane_place p + 44 else lane_place p - 38
+
+-- the middle between two lanes
+abbrev pub middle_of : ℕ → ℕ → ℕ
+middle_of p q = 64 + 66 * (p + q)
 
 -- the size of a picture of so many turns and processes, and how long its lanes are
 abbrev pub picture_width : ℕ → ℕ

@@ -3,6 +3,8 @@ use Rattle.std.specs.Prelude.{ℕ, ◌==◌, ◌&&◌, Bool, false, true, List, 
 use Rattle.std.specs.List.{range_with_len}
 use Rattle.at_board.specs.declared.step.BoardStep.{BoardStep}
 use Rattle.at_board.specs.declared.step.BoardStep.TheVariants.{Exchange, Load, Store}
+use Rattle.at_board.specs.declared.step.BoardWord.{BoardWord}
+use Rattle.at_board.specs.declared.step.BoardWord.TheVariants.{Announced, Cell, Length, Record, Request}
 use Rattle.at_stepper.specs.InTurns.{is_turn_of, turn_at}
 use Rattle.at_stepper.specs.Schedules.{answered_by}
 use Rattle.at_stepper.specs.declared.replaying.TurnMade.{TurnMade}
@@ -21,6 +23,23 @@ is_exchange (Some (Exchange word)) = true
 abbrev pub makes_exchange : List TurnMade → ℕ → Bool
 makes_exchange turns m = is_exchange (turn_at turns m).step
 
+-- and whether it loads the first word of a record, as a call does of each that it counts anew
+abbrev pub is_first_word : BoardWord → Bool
+is_first_word (Length p) = false
+is_first_word (Record p i j) = j == 0
+is_first_word (Announced a slot) = false
+is_first_word (Request a slot i j) = false
+is_first_word (Cell a round) = false
+
+abbrev pub begins_record : Option BoardStep → Bool
+begins_record None = false
+begins_record (Some (Load word)) = is_first_word word
+begins_record (Some (Store word)) = false
+begins_record (Some (Exchange word)) = false
+
+abbrev pub counts_record : List TurnMade → ℕ → Bool
+counts_record turns m = begins_record (turn_at turns m).step
+
 -- whether a turn of the process answers a call
 abbrev pub answers : List TurnMade → ℕ → ℕ → Bool
 answers turns p m = ((turn_at turns m).process == p) && is_some (turn_at turns m).reply
@@ -29,7 +48,8 @@ answers turns p m = ((turn_at turns m).process == p) && is_some (turn_at turns m
 abbrev pub turns_before : List TurnMade → ℕ → ℕ → List ℕ
 turns_before turns p m = filter (is_turn_of turns p (answered_by p (take m turns))) (range_with_len 0 m)
 
--- the call of the process that this turn answers: its number from 0, its first turn and its last, its steps and exchanges, and its reply
+-- the call of the process that this turn answers: its number from 0, its first turn and its last, its steps and exchanges, the records that
+-- it counts anew, and its reply
 abbrev pub span_at : List TurnMade → ℕ → ℕ → Span
 span_at turns p m = record {
   process = p;
@@ -38,6 +58,7 @@ span_at turns p m = record {
   last = m;
   steps = count_by (makes_step turns) (turns_before turns p m ++ m ∷ []);
   exchanges = count_by (makes_exchange turns) (turns_before turns p m ++ m ∷ []);
+  new_records = count_by (counts_record turns) (turns_before turns p m ++ m ∷ []);
   reply = (turn_at turns m).reply;
 }
 

@@ -1,10 +1,12 @@
 -- The table of the calls, and the journal.
 use Rattle.std.specs.Prelude.{ℕ, ◌+◌, List, [], ◌∷◌, ◌++◌, Option, None, Some, codes, decimal, flat_map}
+use Rattle.at_costs.specs.Bounds.{most_exchanges, most_steps}
 use Rattle.at_files.specs.Names.{NameList, process_name}
 use Rattle.at_kinds.specs.CallFields.{call_fields}
 use Rattle.at_ledger.specs.Book.{BookTerms}
 use Rattle.at_ledger.specs.declared.call.Call.{Call}
 use Rattle.at_ledger.specs.declared.call.Line.{Line}
+use Rattle.at_ledger.specs.declared.call.Reply.{Reply}
 use Rattle.at_report.specs.Lines.{Words, journal_words, line_text}
 use Rattle.at_traces.specs.TraceText.{reply_field}
 use Rattle.at_pages.specs.Bars.{spanned_call}
@@ -19,11 +21,28 @@ abbrev pub call_cells : BookTerms → NameList → ℕ → Option Call → Words
 call_cells b names process None = []
 call_cells b names process (Some call) = call_fields b names process call
 
--- whose call it is, and which of its calls; what it is; what it was answered, and its steps and exchanges
+-- the most steps and exchanges of a call that was answered so, when it counted so many records anew
+abbrev pub bound_words : BookTerms → Call → ℕ → Reply → Words
+bound_words b call new reply = decimal (most_steps b call reply new) ∷ decimal (most_exchanges b call reply) ∷ []
+
+abbrev pub bound_cells_of : BookTerms → Call → ℕ → Option Reply → Words
+bound_cells_of b call new None = []
+bound_cells_of b call new (Some reply) = bound_words b call new reply
+
+abbrev pub bound_cells : BookTerms → Option Call → ℕ → Option Reply → Words
+bound_cells b None new reply = []
+bound_cells b (Some call) new reply = bound_cells_of b call new reply
+
+-- what was counted of the call: its steps, its exchanges, and the records of others that it counted anew
+abbrev pub count_cells : Span → Words
+count_cells s = decimal s.steps ∷ decimal s.exchanges ∷ decimal s.new_records ∷ []
+
+-- whose call it is, and which of its calls; what it is; what it was answered; what was counted of it, and the most that may be
 abbrev pub row_words : BookTerms → NameList → List (List Call) → Span → Words
 row_words b names files s =
     process_name names s.process ∷ decimal (s.number + 1)
-    ∷ (call_cells b names s.process (spanned_call files s) ++ reply_field s.reply ∷ decimal s.steps ∷ decimal s.exchanges ∷ [])
+    ∷ (call_cells b names s.process (spanned_call files s) ++ reply_field s.reply
+    ∷ (count_cells s ++ bound_cells b (spanned_call files s) s.new_records s.reply))
 
 abbrev pub row_text : BookTerms → NameList → List (List Call) → Span → List ℕ
 row_text b names files s = codes "<tr>" ++ cells_text (row_words b names files s) ++ codes "</tr>\n"

@@ -5,13 +5,18 @@
 //! digits and hyphens, so it stands in the page as it is.
 #![tactic(auto)]
 
+mod arrows;
 mod bars;
+mod curves;
+mod decisions;
 mod files;
+mod loads;
 mod marks;
 mod page;
 mod parts;
 mod spans;
 mod tables;
+mod turns;
 
 pub use crate::page::page_text;
 pub use at_base::NoMemory;

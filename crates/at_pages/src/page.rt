@@ -8,7 +8,9 @@ ghost use Rattle.at_pages.specs.PageText.{page_text, picture_text, size_text};
 ghost use Rattle.at_pages.specs.Spans.{all_spans};
 
 use crate::NoMemory;
+use crate::arrows::push_arrows;
 use crate::bars::{push_bars, push_lanes};
+use crate::curves::push_curves;
 use crate::marks::push_marks;
 use crate::parts::{
     CALLS, END, HEAD, JOURNAL, KEY, PICTURE, SHAPES, picture_height, picture_width, push_size,
@@ -55,6 +57,8 @@ fn push_picture(
     out.extend_from_slice(SHAPES)?;
     push_lanes(out, names, turns.len(), book.processes())?;
     push_bars(alloc, out, names, files, turns.len(), spans)?;
+    push_curves(alloc, out, book, turns)?;
+    push_arrows(alloc, out, book, names, turns)?;
     push_marks(out, book, names, turns)?;
     Ok(())
 }

@@ -1,7 +1,7 @@
 //! The parts of the page that are the same for all runs, and the places of its elements.
 
 ghost use Rattle.std.specs.Prelude.{◌≡◌, ◌++◌, OnOk, decimal};
-ghost use Rattle.at_pages.specs.Places.{bar_left, bar_right, bar_top, bar_width, lane_place, lane_width, name_line, picture_height, picture_width, place_text, reply_line, time_place, words_line};
+ghost use Rattle.at_pages.specs.Places.{bar_left, bar_right, bar_top, bar_width, borrow_line, facing_edge, lane_place, lane_width, middle_of, name_line, note_line, note_place, picture_height, picture_width, place_text, reply_line, time_place, words_line};
 
 use crate::NoMemory;
 
@@ -23,6 +23,7 @@ svg{display:block}
 text{fill:var(--ink);font-size:12px}
 .name{font-weight:600}
 .reply{fill:var(--soft);text-anchor:end}
+.note{fill:var(--soft);stroke:var(--page);stroke-width:3;paint-order:stroke}
 .lane{fill:var(--lane)}
 .bar{fill:var(--bar);stroke:var(--lane)}
 #load{stroke:var(--load)}
@@ -30,6 +31,10 @@ text{fill:var(--ink);font-size:12px}
 #publication{fill:var(--store)}
 #exchange{fill:var(--swap)}
 #none{fill:none;stroke:var(--load)}
+#head{fill:var(--swap)}
+#tip{fill:var(--store)}
+.sees{fill:none;stroke:var(--store);opacity:.8;marker-end:url(#tip)}
+.helps{fill:none;stroke:var(--swap);stroke-dasharray:4 3;marker-end:url(#head)}
 .key{display:flex;flex-wrap:wrap;gap:0 1.5rem;margin:0;padding:0;list-style:none}
 .key svg{display:inline-block;vertical-align:middle}
 table{border-collapse:collapse}
@@ -50,13 +55,15 @@ pub(crate) const PICTURE: &[u8] = b"</p>
 
 /// The rest of the picture's first element, with the shapes of the marks.
 pub(crate) const SHAPES: &[u8] =
-    b" role='group' aria-label='A lane for each process, and in it a bar for each call with a mark for each turn'>
+    b" role='group' aria-label='A lane for each process, in it a bar for each call with a mark for each turn, and between lanes who loads whose records and who decides for whom'>
 <defs>
 <path id='load' d='M0 -5V5'/>
 <path id='store' d='M0 -9V9'/>
 <circle id='publication' r='6'/>
 <path id='exchange' d='M0 -10L6 0L0 10L-6 0z'/>
 <circle id='none' r='4'/>
+<marker id='head' viewBox='0 0 8 8' refX='8' refY='4' markerWidth='8' markerHeight='8' orient='auto'><path d='M0 0L8 4L0 8z'/></marker>
+<marker id='tip' viewBox='0 0 8 8' refX='8' refY='4' markerWidth='8' markerHeight='8' orient='auto'><path d='M0 0L8 4L0 8z'/></marker>
 </defs>
 ";
 
@@ -69,6 +76,8 @@ pub(crate) const KEY: &[u8] = b"</svg>
 <li><svg width='20' height='24' aria-hidden='true'><use href='#publication' x='10' y='12'/></svg> publishes a record</li>
 <li><svg width='20' height='24' aria-hidden='true'><use href='#exchange' x='10' y='12'/></svg> exchanges a cell</li>
 <li><svg width='20' height='24' aria-hidden='true'><use href='#none' x='10' y='12'/></svg> answers without a step</li>
+<li><svg width='20' height='24' aria-hidden='true'><path class='sees' d='M10 2V22'/></svg> from a publication to its first load by another process</li>
+<li><svg width='20' height='24' aria-hidden='true'><path class='helps' d='M10 2V22'/></svg> decides for another owner</li>
 </ul>
 ";
 
@@ -77,7 +86,7 @@ pub(crate) const CALLS: &[u8] = b"<h2>The calls</h2>
 <div class='wide' tabindex='0'>
 <table>
 <thead>
-<tr><th>process</th><th>line</th><th>call</th><th>account</th><th>kind</th><th>reply</th><th>steps</th><th>exchanges</th></tr>
+<tr><th>process</th><th>line</th><th>call</th><th>account</th><th>kind</th><th>reply</th><th>steps</th><th>exchanges</th><th>new</th><th>most_steps</th><th>most_exchanges</th></tr>
 </thead>
 <tbody>
 ";
@@ -158,6 +167,53 @@ pub(crate) fn name_line(process: u32) -> u128
     ensures { result ≡ name_line process }
 {
     68 + 132 * u128::from(process)
+}
+
+/// The edge of a lane's bars that faces another lane.
+pub(crate) fn facing_edge(process: u32, other: u32) -> u128
+    ensures { result ≡ facing_edge process other }
+{
+    if process < other {
+        lane_place(process) + 13
+    } else {
+        lane_place(process) - 13
+    }
+}
+
+/// The place of the words beside an arrow from this turn.
+pub(crate) fn note_place(turn: usize) -> u128
+    ensures { result ≡ note_place turn }
+{
+    141 + 6 * turn as u128
+}
+
+/// The line of the words beside an arrow from one lane to another.
+pub(crate) fn note_line(process: u32, other: u32) -> u128
+    ensures { result ≡ note_line process other }
+{
+    if process < other {
+        lane_place(process) + 58
+    } else {
+        lane_place(process) - 54
+    }
+}
+
+/// The line of the word beside a curve from another lane.
+pub(crate) fn borrow_line(process: u32, from: u32) -> u128
+    ensures { result ≡ borrow_line process from }
+{
+    if process < from {
+        lane_place(process) + 44
+    } else {
+        lane_place(process) - 38
+    }
+}
+
+/// The middle between two lanes.
+pub(crate) fn middle_of(process: u32, other: u32) -> u128
+    ensures { result ≡ middle_of process other }
+{
+    64 + 66 * (u128::from(process) + u128::from(other))
 }
 
 /// How long the lanes of so many turns are.

@@ -2,15 +2,16 @@
 
 ghost use Rattle.std.specs.Prelude.{◌≡◌, ◌<◌, ◌+◌, ◌^◌, ◌++◌, All, IfOk, OnOk};
 ghost use Rattle.at_pages.specs.Making.{IsFew, after_turn, ended, ended_by, is_answer, not_begun, with_turn};
-ghost use Rattle.at_pages.specs.Spans.{all_spans, is_exchange, spans_of};
+ghost use Rattle.at_pages.specs.Spans.{all_spans, begins_record, is_exchange, spans_of};
 
 use crate::NoMemory;
-use at_board::BoardStep;
+use at_board::{BoardStep, BoardWord};
 use at_ledger::Reply;
 use at_stepper::TurnMade;
 use std::alloc::Global;
 
-/// A call by its process, its number from 0, its first turn and its last, its steps and exchanges, and its reply.
+/// A call by its process, its number from 0, its first turn and its last, its steps and exchanges, the records that it counted anew, and
+/// its reply.
 #[derive(Clone, Copy)]
 pub(crate) struct Span {
     pub(crate) process: u32,
@@ -19,16 +20,18 @@ pub(crate) struct Span {
     pub(crate) last: usize,
     pub(crate) steps: usize,
     pub(crate) exchanges: usize,
+    pub(crate) new_records: usize,
     pub(crate) reply: Option<Reply>,
 }
 
-/// The call of a process that is in the making: its number, its first turn if it has begun, and its steps and exchanges so far.
+/// The call of a process that is in the making: its number, its first turn if it has begun, and its steps, exchanges and records so far.
 #[derive(Clone, Copy)]
 struct Making {
     number: usize,
     first: Option<usize>,
     steps: usize,
     exchanges: usize,
+    new_records: usize,
 }
 
 /// Whether the turn exchanges a word.
@@ -41,6 +44,16 @@ fn is_exchange(step: &Option<BoardStep>) -> bool
     }
 }
 
+/// Whether the turn loads the first word of a record.
+fn begins_record(step: &Option<BoardStep>) -> bool
+    ensures { result ≡ begins_record step.now }
+{
+    match step {
+        Some(BoardStep::Load(BoardWord::Record { word, .. })) => *word == 0,
+        _ => false,
+    }
+}
+
 /// The call with one more turn.
 fn with_turn(making: &Making, made: &TurnMade, turn: usize) -> Making
     requires few { IsFew making.now turn }
@@ -50,11 +63,13 @@ fn with_turn(making: &Making, made: &TurnMade, turn: usize) -> Making
 {
     let steps = usize::from(made.step.is_some());
     let exchanges = usize::from(is_exchange(&made.step));
+    let new_records = usize::from(begins_record(&made.step));
     Making {
         number: making.number,
         first: Some(making.first.unwrap_or(turn)),
         steps: making.steps + steps,
         exchanges: making.exchanges + exchanges,
+        new_records: making.new_records + new_records,
     }
 }
 
@@ -69,6 +84,7 @@ fn ended(making: &Making, process: u32, last: usize, reply: Option<Reply>) -> Sp
         last,
         steps: making.steps,
         exchanges: making.exchanges,
+        new_records: making.new_records,
         reply,
     }
 }
@@ -82,6 +98,7 @@ fn next_call(number: usize) -> Making
         first: None,
         steps: 0,
         exchanges: 0,
+        new_records: 0,
     }
 }
 

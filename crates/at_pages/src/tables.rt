@@ -7,13 +7,14 @@ ghost use Rattle.at_files.specs.Names.{AreNamesOf};
 ghost use Rattle.at_kinds.specs.CallFields.{call_fields};
 ghost use Rattle.at_traces.specs.TraceText.{reply_field};
 ghost use Rattle.at_pages.specs.Bars.{spanned_call};
-ghost use Rattle.at_pages.specs.Tables.{call_cells, cells_text, item_text, items_text, row_text, rows_text};
+ghost use Rattle.at_pages.specs.Tables.{bound_cells, bound_cells_of, bound_words, call_cells, cells_text, count_cells, item_text, items_text, row_text, rows_text};
 
 use crate::NoMemory;
 use crate::bars::push_reply;
 use crate::files::file_of;
 use crate::parts::push_size;
 use crate::spans::Span;
+use at_costs::{most_exchanges, most_steps};
 use at_files::Names;
 use at_kinds::{call_word, kind_of, kind_word};
 use at_ledger::{Book, Call, Line, Reply};
@@ -88,6 +89,72 @@ fn push_call_cells(
     }
 }
 
+/// Adds the cells of what was counted of the call.
+fn push_count_cells(out: &mut Vec<u8>, span: &Span) -> Result<(), NoMemory>
+    ensures { OnOk result (out.new.items ≡ out.old.items ++ cells_text (count_cells span.now)) }
+{
+    push_number_cell(out, span.steps as u128)?;
+    push_number_cell(out, span.exchanges as u128)?;
+    push_number_cell(out, span.new_records as u128)?;
+    Ok(())
+}
+
+/// Adds the cells of the most that a call may cost.
+fn push_bounds(
+    out: &mut Vec<u8>,
+    book: &Book,
+    call: &Call,
+    new_records: usize,
+    reply: Reply,
+) -> Result<(), NoMemory>
+    requires { IsCallOn (length book.now.accounts) call.now }
+    ensures { OnOk result (out.new.items
+        ≡ out.old.items ++ cells_text (bound_words book.now call.now new_records reply)) }
+{
+    push_number_cell(out, most_steps(book, call, reply, new_records as u64))?;
+    push_number_cell(out, u128::from(most_exchanges(book, call, reply)))?;
+    Ok(())
+}
+
+/// The same, if it was answered.
+fn push_bounds_if(
+    out: &mut Vec<u8>,
+    book: &Book,
+    call: &Call,
+    new_records: usize,
+    reply: Option<Reply>,
+) -> Result<(), NoMemory>
+    requires { IsCallOn (length book.now.accounts) call.now }
+    ensures { OnOk result (out.new.items
+        ≡ out.old.items ++ cells_text (bound_cells_of book.now call.now new_records reply)) }
+{
+    match reply {
+        None => Ok(()),
+        Some(reply) => push_bounds(out, book, call, new_records, reply),
+    }
+}
+
+/// The same of the call of these turns, if the files have it.
+fn push_bound_cells(
+    out: &mut Vec<u8>,
+    book: &Book,
+    files: &[Vec<Call>],
+    span: &Span,
+) -> Result<(), NoMemory>
+    requires process { span.now.process < length files.now }
+    requires files { All (IsPlayable (length book.now.accounts)) (contents_of files.now) }
+    ensures { OnOk result (out.new.items ≡ out.old.items ++ cells_text (bound_cells book.now
+        (spanned_call (contents_of files.now) span.now) span.now.new_records span.now.reply)) }
+{
+    let file = file_of(files, span.process);
+    let number = span.number;
+    if number < file.len() {
+        push_bounds_if(out, book, &file[number], span.new_records, span.reply)
+    } else {
+        Ok(())
+    }
+}
+
 /// Adds the row of a call.
 fn push_row(
     out: &mut Vec<u8>,
@@ -108,8 +175,8 @@ fn push_row(
     push_number_cell(out, span.number as u128 + 1)?;
     push_call_cells(out, book, names, files, span)?;
     push_reply_cell(out, span.reply)?;
-    push_number_cell(out, span.steps as u128)?;
-    push_number_cell(out, span.exchanges as u128)?;
+    push_count_cells(out, span)?;
+    push_bound_cells(out, book, files, span)?;
     out.extend_from_slice(b"</tr>\n")?;
     Ok(())
 }

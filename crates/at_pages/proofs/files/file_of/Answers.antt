@@ -1,4 +1,4 @@
-use Rattle.std.proofs.Common.{◌∙◌, arith, sym}
+use Rattle.std.proofs.Common.{◌∙◌, sym}
 use Rattle.at_ledger.proofs.FileLists.{get_or-contents_of}
 use Rattle.at_pages.proofs.files.file_of.Goals as goal
 

@@ -1,21 +1,23 @@
 use Rattle.std.proofs.Common.{◌≡◌, ◌++◌, ℕ, List, append_assoc, codes, length}
 use Rattle.at_ledger.specs.Files.{contents_of}
+use Rattle.at_pages.specs.Arrows.{arrows_text}
 use Rattle.at_pages.specs.Bars.{bars_text, lanes_text}
+use Rattle.at_pages.specs.Curves.{curves_text}
 use Rattle.at_pages.specs.Marks.{marks_text}
 use Rattle.at_pages.specs.PageText.{size_text}
 use Rattle.at_pages.specs.Spans.{all_spans}
 use Rattle.at_pages.specs.declared.parts.TheConstants.{SHAPES}
 use Rattle.at_pages.proofs.page.push_picture.Goals as goal
 
--- six texts after another
-append-six : (out a b c d e f : List ℕ) → (((((out ++ a) ++ b) ++ c) ++ d) ++ e) ++ f ≡ out ++ (a ++ b ++ c ++ d ++ e ++ f)
-append-six out a b c d e f = simp append_assoc
+-- eight texts after another
+append-eight : (out a b c d e f g h : List ℕ) → (((((((out ++ a) ++ b) ++ c) ++ d) ++ e) ++ f) ++ g) ++ h ≡ out ++ (a ++ b ++ c ++ d ++ e ++ f ++ g ++ h)
+append-eight out a b c d e f g h = simp append_assoc
 
 pub returns : goal.returns
 returns c =
     let b = c.args.book.now in
     let names = c.args.names.now in
     let turns = c.args.turns.now in
-    rw (c.in_ok-push_marks.ensures, c.in_ok-push_bars.ensures, c.requires.spans, c.in_ok-push_lanes.ensures, c.processes-2.ensures, c.in_ok-extend_from_slice-2.ensures.items, c.in_ok-push_picture_size.ensures, c.processes.ensures, c.in_ok-extend_from_slice.ensures.items)
-    (append-six c.args.out.now.items (codes "<svg") (size_text (length turns) b.processes) SHAPES.now (lanes_text names (length turns) b.processes)
-    (bars_text names (contents_of c.args.files.now) (length turns) (all_spans turns b.processes)) (marks_text b names turns))
+    rw (c.in_ok-push_marks.ensures, c.in_ok-push_arrows.ensures, c.in_ok-push_curves.ensures, c.in_ok-push_bars.ensures, c.requires.spans, c.in_ok-push_lanes.ensures, c.processes-2.ensures, c.in_ok-extend_from_slice-2.ensures.items, c.in_ok-push_picture_size.ensures, c.processes.ensures, c.in_ok-extend_from_slice.ensures.items)
+    (append-eight c.args.out.now.items (codes "<svg") (size_text (length turns) b.processes) SHAPES.now (lanes_text names (length turns) b.processes)
+    (bars_text names (contents_of c.args.files.now) (length turns) (all_spans turns b.processes)) (curves_text b turns) (arrows_text b names turns) (marks_text b names turns))

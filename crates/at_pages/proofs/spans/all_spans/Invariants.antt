@@ -1,4 +1,4 @@
-use Rattle.std.proofs.Common.{◌≡◌, ◌<◌, All}
+use Rattle.std.proofs.Common.{◌≡◌}
 use Rattle.at_pages.specs.Spans.{all_spans}
 use Rattle.at_pages.proofs.spans.all_spans.Given as goal
 

@@ -4,19 +4,21 @@ use Rattle.at_files.specs.Names.{process_name}
 use Rattle.at_ledger.specs.Files.{contents_of}
 use Rattle.at_traces.specs.TraceText.{reply_field}
 use Rattle.at_pages.specs.Bars.{spanned_call}
-use Rattle.at_pages.specs.Tables.{call_cells}
+use Rattle.at_pages.specs.Tables.{bound_cells, call_cells, count_cells}
 use Rattle.at_pages.specs.declared.spans.Span.{Span}
 use Rattle.at_pages.proofs.tables.push_row.Goals as goal
 
 -- the parts of a row, one after another
-row-parts : (f : List ℕ → List ℕ) (out begin a b : List ℕ) (words : List (List ℕ)) (c d e end : List ℕ)
-    → (((((((out ++ begin) ++ flat_map f (a ∷ [])) ++ flat_map f (b ∷ [])) ++ flat_map f words) ++ flat_map f (c ∷ [])) ++ flat_map f (d ∷ [])) ++ flat_map f (e ∷ [])) ++ end
-    ≡ out ++ (begin ++ flat_map f (a ∷ b ∷ (words ++ c ∷ d ∷ e ∷ [])) ++ end)
-row-parts f out begin a b words c d e end = rw (flat_map-append f words (c ∷ d ∷ e ∷ [])) (simp (append_assoc, append-nil))
+row-parts : (f : List ℕ → List ℕ) (out begin a b : List ℕ) (words : List (List ℕ)) (c : List ℕ) (counts bounds : List (List ℕ)) (end : List ℕ)
+    → (((((((out ++ begin) ++ flat_map f (a ∷ [])) ++ flat_map f (b ∷ [])) ++ flat_map f words) ++ flat_map f (c ∷ [])) ++ flat_map f counts) ++ flat_map f bounds) ++ end
+    ≡ out ++ (begin ++ flat_map f (a ∷ b ∷ (words ++ c ∷ (counts ++ bounds))) ++ end)
+row-parts f out begin a b words c counts bounds end =
+    rw (flat_map-append f words (c ∷ (counts ++ bounds)), flat_map-append f counts bounds) (simp (append_assoc, append-nil))
 
 pub returns : goal.returns
 returns c =
     let s : Span = c.args.span.now in
-    rw (c.in_ok-extend_from_slice-2.ensures.items, c.in_ok-push_number_cell-3.ensures, c.in_ok-push_number_cell-2.ensures, c.in_ok-push_reply_cell.ensures, c.in_ok-push_call_cells.ensures, c.in_ok-push_number_cell.ensures, c.in_ok-push_cell.ensures, c.process.ensures.name, c.in_ok-extend_from_slice.ensures.items)
+    let call = spanned_call (contents_of c.args.files.now) s in
+    rw (c.in_ok-extend_from_slice-2.ensures.items, c.in_ok-push_bound_cells.ensures, c.in_ok-push_count_cells.ensures, c.in_ok-push_reply_cell.ensures, c.in_ok-push_call_cells.ensures, c.in_ok-push_number_cell.ensures, c.in_ok-push_cell.ensures, c.process.ensures.name, c.in_ok-extend_from_slice.ensures.items)
     (row-parts (λ word. codes "<td>" ++ word ++ codes "</td>") c.args.out.now.items (codes "<tr>") (process_name c.args.names.now s.process) (decimal (s.number + 1))
-    (call_cells c.args.book.now c.args.names.now s.process (spanned_call (contents_of c.args.files.now) s)) (reply_field s.reply) (decimal s.steps) (decimal s.exchanges) (codes "</tr>\n"))
+    (call_cells c.args.book.now c.args.names.now s.process call) (reply_field s.reply) (count_cells s) (bound_cells c.args.book.now call s.new_records s.reply) (codes "</tr>\n"))

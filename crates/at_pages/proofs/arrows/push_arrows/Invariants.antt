@@ -1,0 +1,8 @@
+use Rattle.std.proofs.Common.{◌≡◌, ◌++◌, flat_map}
+use Rattle.std.specs.List.{range_with_len}
+use Rattle.at_pages.specs.Arrows.{arrows_from}
+use Rattle.at_pages.proofs.arrows.push_arrows.Given as goal
+
+-- the arrows of the processes so far are there
+abbrev pub invariant-loop-process : goal.invariant-loop-process
+invariant-loop-process l = l.out.items ≡ l.initial.out.items ++ flat_map (arrows_from l.book l.names l.turns) (range_with_len 0 l.process)

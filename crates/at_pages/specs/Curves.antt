@@ -1,0 +1,109 @@
+-- The curves of publications: from a publication to the first turn of each other process in which its record is loaded.
+use Rattle.std.specs.Prelude.{ℕ, ◌+◌, ◌==◌, ◌&&◌, Bool, false, List, [], ◌++◌, Option, None, Some, codes, decimal, filter, flat_map, length, nat_le, slice_get, take, if◌then◌else◌}
+use Rattle.std.specs.List.{list_any, range_with_len}
+use Rattle.at_board.specs.declared.step.BoardStep.{BoardStep}
+use Rattle.at_board.specs.declared.step.BoardStep.TheVariants.{Exchange, Load, Store}
+use Rattle.at_board.specs.declared.step.BoardWord.{BoardWord}
+use Rattle.at_board.specs.declared.step.BoardWord.TheVariants.{Announced, Cell, Length, Record, Request}
+use Rattle.at_board.specs.declared.words.TheConstants.{RECORD_WORDS}
+use Rattle.at_ledger.specs.Book.{BookTerms}
+use Rattle.at_stepper.specs.InTurns.{turn_at}
+use Rattle.at_stepper.specs.declared.replaying.TurnMade.{TurnMade}
+use Rattle.at_pages.specs.Places.{borrow_line, facing_edge, lane_place, middle_of, note_place, place_text, time_place}
+use Rattle.at_pages.specs.declared.loads.LoadName.{LoadName}
+
+-- the turns in which a process publishes, in order: its record of a number is that of the turn at this place
+abbrev pub is_publication_of : List TurnMade → ℕ → ℕ → Bool
+is_publication_of turns q m = ((turn_at turns m).process == q) && (turn_at turns m).published
+
+abbrev pub publishing_turns : List TurnMade → ℕ → List ℕ
+publishing_turns turns q = filter (is_publication_of turns q) (range_with_len 0 (length turns))
+
+-- of which record of process q a step of process p loads a word, if it does
+abbrev pub load_of_word : ℕ → ℕ → BoardWord → Option LoadName
+load_of_word q p (Length r) = None
+load_of_word q p (Record r i j) = if r == q then Some (record { process = p; number = i }) else None
+load_of_word q p (Announced a slot) = None
+load_of_word q p (Request a slot i j) = None
+load_of_word q p (Cell a round) = None
+
+abbrev pub load_of_step : ℕ → ℕ → Option BoardStep → Option LoadName
+load_of_step q p None = None
+load_of_step q p (Some (Load word)) = load_of_word q p word
+load_of_step q p (Some (Store word)) = None
+load_of_step q p (Some (Exchange word)) = None
+
+-- and a turn of another process
+abbrev pub load_from : ℕ → TurnMade → Option LoadName
+load_from q t = if t.process == q then None else load_of_step q t.process t.step
+
+abbrev pub is_same_load : LoadName → LoadName → Bool
+is_same_load x y = (x.process == y.process) && (x.number == y.number)
+
+abbrev pub is_load : LoadName → Option LoadName → Bool
+is_load x None = false
+is_load x (Some y) = is_same_load x y
+
+-- whether one of these turns has loaded a word of the record too
+abbrev pub was_loaded : ℕ → List TurnMade → LoadName → Bool
+was_loaded q turns x = list_any (λ t. is_load x (load_from q t)) turns
+
+abbrev pub unless_loaded : ℕ → List TurnMade → Option LoadName → Option LoadName
+unless_loaded q turns None = None
+unless_loaded q turns (Some x) = if was_loaded q turns x then None else Some x
+
+-- the record of q that is loaded in this turn, if it is the first one of its process to do so
+abbrev pub first_load_at : ℕ → List TurnMade → ℕ → Option LoadName
+first_load_at q turns m = unless_loaded q (take m turns) (load_from q (turn_at turns m))
+
+-- the turn that published it, if there is one
+abbrev pub publishing_turn : List ℕ → Option LoadName → Option ℕ
+publishing_turn published None = None
+publishing_turn published (Some x) = slice_get published x.number
+
+-- whether a step loads a word that stands behind the record's own: one of its view
+abbrev pub is_view_word : BoardWord → Bool
+is_view_word (Length r) = false
+is_view_word (Record r i j) = nat_le RECORD_WORDS j
+is_view_word (Announced a slot) = false
+is_view_word (Request a slot i j) = false
+is_view_word (Cell a round) = false
+
+abbrev pub loads_view : Option BoardStep → Bool
+loads_view None = false
+loads_view (Some (Load word)) = is_view_word word
+loads_view (Some (Store word)) = false
+loads_view (Some (Exchange word)) = false
+
+-- from the mark of one turn to the edge of the other lane's bars at another
+abbrev pub curve_path : ℕ → ℕ → ℕ → ℕ → List ℕ
+curve_path s q m p =
+    codes "M" ++ decimal (time_place s) ++ codes " " ++ decimal (lane_place q) ++ codes "C" ++ decimal (time_place s) ++ codes " " ++ decimal (middle_of q p)
+    ++ codes " " ++ decimal (time_place m) ++ codes " " ++ decimal (middle_of q p) ++ codes " " ++ decimal (time_place m) ++ codes " " ++ decimal (facing_edge p q)
+
+-- the line of a curve, with its title
+abbrev pub curve_line : ℕ → ℕ → ℕ → ℕ → List ℕ
+curve_line s q m p =
+    codes "<path class='sees' d='" ++ curve_path s q m p ++ codes "'><title>turn " ++ decimal (m + 1) ++ codes ": first load of what turn " ++ decimal (s + 1)
+    ++ codes " published</title></path>\n"
+
+-- the word beside it, where a view is borrowed
+abbrev pub borrow_text : ℕ → ℕ → ℕ → List ℕ
+borrow_text q m p = codes "<text class='note'" ++ place_text (note_place m) (borrow_line p q) ++ codes ">borrows</text>\n"
+
+abbrev pub borrow_note : Bool → ℕ → ℕ → ℕ → List ℕ
+borrow_note borrows q m p = if borrows then borrow_text q m p else []
+
+abbrev pub curve_text : ℕ → ℕ → TurnMade → Option ℕ → List ℕ
+curve_text q m t None = []
+curve_text q m t (Some s) = curve_line s q m t.process ++ borrow_note (loads_view t.step) q m t.process
+
+-- the curve to a turn from the lane of a process, if there is one; those from its lane; and all of them
+abbrev pub curve_to : List TurnMade → ℕ → ℕ → List ℕ
+curve_to turns q m = curve_text q m (turn_at turns m) (publishing_turn (publishing_turns turns q) (first_load_at q turns m))
+
+abbrev pub curves_from : List TurnMade → ℕ → List ℕ
+curves_from turns q = flat_map (curve_to turns q) (range_with_len 0 (length turns))
+
+abbrev pub curves_text : BookTerms → List TurnMade → List ℕ
+curves_text b turns = flat_map (curves_from turns) (range_with_len 0 b.processes)
