@@ -1,6 +1,6 @@
 #!/bin/sh
 # Opens pages of `show` in Debian's chromium, which is no part of the gate: at 1,280 and at 400 units, light and dark. It fails where the
-# browser reports an error, where two texts of a picture overlap, and where a mark, a bar, a line or a text stands outside its drawing. The
+# browser reports an error, where two texts of a picture at one height overlap, and where a mark, a bar, a line or a text stands outside its drawing. The
 # pictures of the screen are left beside the copies that it looks at.
 #
 #   bench/browser.sh [FOLDER [PAGE...]]   the pages of examples/replay, or these, with copies and pictures in FOLDER or a new one

@@ -1,6 +1,7 @@
 /* Bezglami in a program of one's own: a payment ledger that no thread waits for.
  *
- * Link out/libat_c.a of crates/at_c and liblibc_c.a of Rattle's kit (its folder c/), and threads of your own.
+ * Link the release's lib/libbezglami.a, or what it is made of: out/libat_c.a of crates/at_c and liblibc_c.a of Rattle's kit (its
+ * folder c/); and threads of your own.
  * A handle is a pointer that the library alone follows. Null stands for a handle that holds nothing, so one is made by
  * `bezglami_handle ledger = BEZGLAMI_NOTHING;`. A handle isn't copied: one place holds it.
  *
