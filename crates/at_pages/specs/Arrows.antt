@@ -9,43 +9,43 @@ use Rattle.at_files.specs.Names.{NameList, process_name}
 use Rattle.at_ledger.specs.Book.{BookTerms, account_of}
 use Rattle.at_stepper.specs.InTurns.{turn_at}
 use Rattle.at_stepper.specs.declared.replaying.TurnMade.{TurnMade}
-use Rattle.at_pages.specs.Places.{facing_edge, lane_place, note_line, note_place, place_text, time_place}
+use Rattle.at_pages.specs.Places.{facing_edge, lane_place, caption_line, caption_place, place_text, time_place}
 use Rattle.at_pages.specs.Turns.{own_step, own_turn, own_turns}
-use Rattle.at_pages.specs.declared.decisions.CellName.{CellName}
+use Rattle.at_pages.specs.declared.decisions.CellNumbers.{CellNumbers}
 
 -- the cell that a step exchanges, if it does
-abbrev pub cell_of_word : BoardWord → Option CellName
+abbrev pub cell_of_word : BoardWord → Option CellNumbers
 cell_of_word (Length p) = None
 cell_of_word (Record p i j) = None
 cell_of_word (Announced a slot) = None
 cell_of_word (Request a slot i j) = None
 cell_of_word (Cell a round) = Some (record { account = a; round = round })
 
-abbrev pub cell_exchanged : Option BoardStep → Option CellName
+abbrev pub cell_exchanged : Option BoardStep → Option CellNumbers
 cell_exchanged None = None
 cell_exchanged (Some (Load word)) = None
 cell_exchanged (Some (Store word)) = None
 cell_exchanged (Some (Exchange word)) = cell_of_word word
 
-abbrev pub is_same_cell : CellName → CellName → Bool
+abbrev pub is_same_cell : CellNumbers → CellNumbers → Bool
 is_same_cell c d = (c.account == d.account) && (c.round == d.round)
 
-abbrev pub is_cell : CellName → Option CellName → Bool
+abbrev pub is_cell : CellNumbers → Option CellNumbers → Bool
 is_cell c None = false
 is_cell c (Some d) = is_same_cell c d
 
 -- whether one of these turns has exchanged the cell
-abbrev pub was_exchanged : List TurnMade → CellName → Bool
+abbrev pub was_exchanged : List TurnMade → CellNumbers → Bool
 was_exchanged turns c = list_any (λ t. is_cell c (cell_exchanged t.step)) turns
 
 -- whether there is a cell that none of them has exchanged
-abbrev pub is_fresh_cell : List TurnMade → Option CellName → Bool
-is_fresh_cell turns None = false
-is_fresh_cell turns (Some c) = not (was_exchanged turns c)
+abbrev pub is_first_exchange : List TurnMade → Option CellNumbers → Bool
+is_first_exchange turns None = false
+is_first_exchange turns (Some c) = not (was_exchanged turns c)
 
--- a turn decides a round if it is the first to exchange the round's cell
+-- a turn decides a round if it is the first to exchange the round's cell: in a run each later exchange finds it decided
 abbrev pub decides_at : List TurnMade → ℕ → Bool
-decides_at turns m = is_fresh_cell (take m turns) (cell_exchanged (turn_at turns m).step)
+decides_at turns m = is_first_exchange (take m turns) (cell_exchanged (turn_at turns m).step)
 
 -- whose request a step loads a word of, if it does
 abbrev pub asker_of_word : BookTerms → BoardWord → Option ℕ
@@ -65,7 +65,7 @@ abbrev pub unless_own : ℕ → Option ℕ → Option ℕ
 unless_own p None = None
 unless_own p (Some q) = if q == p then None else Some q
 
--- for which other owner the process's turn of this place decides, if it does: the process's next turn loads the request that was decided
+-- for which other owner the process's turn of this position decides, if it does: in a run its next turn loads the request that was decided
 abbrev pub decided_for : BookTerms → List TurnMade → ℕ → ℕ → Option ℕ
 decided_for b turns p k = if decides_at turns (own_turn turns p k) then unless_own p (asker_loaded b (own_step turns p (k + 1))) else None
 
@@ -77,20 +77,20 @@ arrow_path m p q =
 abbrev pub arrow_words : NameList → ℕ → List ℕ
 arrow_words names q = codes "decides for " ++ process_name names q
 
--- the line of an arrow, with its title
-abbrev pub arrow_line : NameList → ℕ → ℕ → ℕ → List ℕ
-arrow_line names m p q =
+-- the stroke of an arrow, with its title
+abbrev pub arrow_stroke : NameList → ℕ → ℕ → ℕ → List ℕ
+arrow_stroke names m p q =
     codes "<path class='helps' d='" ++ arrow_path m p q ++ codes "'><title>turn " ++ decimal (m + 1) ++ codes ": " ++ arrow_words names q
     ++ codes "</title></path>\n"
 
--- and the words beside it
-abbrev pub arrow_note : NameList → ℕ → ℕ → ℕ → List ℕ
-arrow_note names m p q =
-    codes "<text class='note'" ++ place_text (note_place m) (note_line p q) ++ codes ">" ++ arrow_words names q ++ codes "</text>\n"
+-- and the caption beside it
+abbrev pub arrow_caption : NameList → ℕ → ℕ → ℕ → List ℕ
+arrow_caption names m p q =
+    codes "<text class='caption'" ++ place_text (caption_place m) (caption_line p q) ++ codes ">" ++ arrow_words names q ++ codes "</text>\n"
 
 abbrev pub arrow_text : NameList → ℕ → ℕ → Option ℕ → List ℕ
 arrow_text names m p None = []
-arrow_text names m p (Some q) = arrow_line names m p q ++ arrow_note names m p q
+arrow_text names m p (Some q) = arrow_stroke names m p q ++ arrow_caption names m p q
 
 -- the arrows from the lane of a process, and all of them
 abbrev pub arrows_from : BookTerms → NameList → List TurnMade → ℕ → List ℕ

@@ -4,8 +4,8 @@ use Rattle.std.specs.List.{list_any}
 use Rattle.std.specs.HashSet.{HashSet}
 use Rattle.at_stepper.specs.declared.replaying.TurnMade.{TurnMade}
 use Rattle.at_pages.specs.Arrows.{is_same_cell, was_exchanged}
-use Rattle.at_pages.specs.declared.decisions.CellName.{CellName}
+use Rattle.at_pages.specs.declared.decisions.CellNumbers.{CellNumbers}
 
 -- the cells are those that the turns have exchanged
-abbrev pub AreExchanged : {S : Type 0} → HashSet CellName S → List TurnMade → Type 0
-AreExchanged cells turns = (c : CellName) → list_any (is_same_cell c) cells.keys ≡ was_exchanged turns c
+abbrev pub AreExchanged : {S : Type 0} → HashSet CellNumbers S → List TurnMade → Type 0
+AreExchanged cells turns = (c : CellNumbers) → list_any (is_same_cell c) cells.keys ≡ was_exchanged turns c

@@ -17,7 +17,7 @@ with_turn o t m = record {
   first = Some (unwrap_or o.first m);
   steps = o.steps + (if is_some t.step then 1 else 0);
   exchanges = o.exchanges + (if is_exchange t.step then 1 else 0);
-  new_records = o.new_records + (if begins_record t.step then 1 else 0);
+  new_records = o.new_records + (if begins_record t.process t.step then 1 else 0);
 }
 
 -- the call of the process that its last turn ended

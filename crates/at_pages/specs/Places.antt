@@ -38,11 +38,11 @@ abbrev pub facing_edge : ℕ → ℕ → ℕ
 facing_edge p q = if nat_lt p q then lane_place p + 13 else lane_place p - 13
 
 -- the words beside an arrow from one lane to another: right of it, and nearer to the lane that it comes from
-abbrev pub note_place : ℕ → ℕ
-note_place m = 141 + 6 * m
+abbrev pub caption_place : ℕ → ℕ
+caption_place m = 141 + 6 * m
 
-abbrev pub note_line : ℕ → ℕ → ℕ
-note_line p q = if nat_lt p q then lane_place p + 58 else lane_place p - 54
+abbrev pub caption_line : ℕ → ℕ → ℕ
+caption_line p q = if nat_lt p q then lane_place p + 58 else lane_place p - 54
 
 -- the word beside a curve: near the lane to which it goes
 abbrev pub borrow_line : ℕ → ℕ → ℕ

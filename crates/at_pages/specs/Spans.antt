@@ -1,5 +1,5 @@
 -- The turns that each call took.
-use Rattle.std.specs.Prelude.{ℕ, ◌==◌, ◌&&◌, Bool, false, true, List, [], ◌∷◌, ◌++◌, Option, None, Some, count_by, filter, flat_map, is_some, length, map, slice_get, take, unwrap_or}
+use Rattle.std.specs.Prelude.{ℕ, ◌==◌, ◌&&◌, Bool, false, true, List, [], ◌∷◌, ◌++◌, Option, None, Some, count_by, filter, flat_map, is_some, length, map, slice_get, take, unwrap_or, if◌then◌else◌}
 use Rattle.std.specs.List.{range_with_len}
 use Rattle.at_board.specs.declared.step.BoardStep.{BoardStep}
 use Rattle.at_board.specs.declared.step.BoardStep.TheVariants.{Exchange, Load, Store}
@@ -23,22 +23,22 @@ is_exchange (Some (Exchange word)) = true
 abbrev pub makes_exchange : List TurnMade → ℕ → Bool
 makes_exchange turns m = is_exchange (turn_at turns m).step
 
--- and whether it loads the first word of a record, as a call does of each that it counts anew
-abbrev pub is_first_word : BoardWord → Bool
-is_first_word (Length p) = false
-is_first_word (Record p i j) = j == 0
-is_first_word (Announced a slot) = false
-is_first_word (Request a slot i j) = false
-is_first_word (Cell a round) = false
+-- and whether process p loads the first word of another's record, as in a run its call does of each that it counts anew
+abbrev pub is_first_word : ℕ → BoardWord → Bool
+is_first_word p (Length q) = false
+is_first_word p (Record q i j) = if q == p then false else j == 0
+is_first_word p (Announced a slot) = false
+is_first_word p (Request a slot i j) = false
+is_first_word p (Cell a round) = false
 
-abbrev pub begins_record : Option BoardStep → Bool
-begins_record None = false
-begins_record (Some (Load word)) = is_first_word word
-begins_record (Some (Store word)) = false
-begins_record (Some (Exchange word)) = false
+abbrev pub begins_record : ℕ → Option BoardStep → Bool
+begins_record p None = false
+begins_record p (Some (Load word)) = is_first_word p word
+begins_record p (Some (Store word)) = false
+begins_record p (Some (Exchange word)) = false
 
 abbrev pub counts_record : List TurnMade → ℕ → Bool
-counts_record turns m = begins_record (turn_at turns m).step
+counts_record turns m = begins_record (turn_at turns m).process (turn_at turns m).step
 
 -- whether a turn of the process answers a call
 abbrev pub answers : List TurnMade → ℕ → ℕ → Bool

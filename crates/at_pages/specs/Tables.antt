@@ -33,7 +33,7 @@ abbrev pub bound_cells : BookTerms → Option Call → ℕ → Option Reply → 
 bound_cells b None new reply = []
 bound_cells b (Some call) new reply = bound_cells_of b call new reply
 
--- what was counted of the call: its steps, its exchanges, and the records of others that it counted anew
+-- what was counted of the call: its steps, its exchanges, and the records of others that it loads from their first word on
 abbrev pub count_cells : Span → Words
 count_cells s = decimal s.steps ∷ decimal s.exchanges ∷ decimal s.new_records ∷ []
 

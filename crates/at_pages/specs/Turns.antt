@@ -9,7 +9,7 @@ use Rattle.at_stepper.specs.declared.replaying.TurnMade.{TurnMade}
 abbrev pub own_turns : List TurnMade → ℕ → List ℕ
 own_turns turns p = filter (λ m. (turn_at turns m).process == p) (range_with_len 0 (length turns))
 
--- the one of this place among them, and the end of all turns past the last
+-- the one of this position among them, and the end of all turns past the last
 abbrev pub own_turn : List TurnMade → ℕ → ℕ → ℕ
 own_turn turns p k = slice_index_or (own_turns turns p) k (length turns)
 

@@ -3,13 +3,13 @@
 ghost use Rattle.std.specs.Prelude.{◌≡◌, ℕ, ◌<◌, ◌++◌, All, IfSome, OnOk, length, map};
 ghost use Rattle.std.specs.List.{range_with_len};
 ghost use Rattle.at_files.specs.Names.{AreNamesOf};
-ghost use Rattle.at_pages.specs.Arrows.{arrow_line, arrow_note, arrow_path, arrow_text, arrow_words, arrows_from, arrows_text, decided_for, decides_at};
+ghost use Rattle.at_pages.specs.Arrows.{arrow_stroke, arrow_caption, arrow_path, arrow_text, arrow_words, arrows_from, arrows_text, decided_for, decides_at};
 ghost use Rattle.at_pages.specs.Turns.{own_turn, own_turns};
 
 use crate::NoMemory;
 use crate::decisions::{all_decisions, other_asker};
 use crate::parts::{
-    facing_edge, lane_place, note_line, note_place, push_place, push_size, time_place,
+    caption_line, caption_place, facing_edge, lane_place, push_place, push_size, time_place,
 };
 use crate::turns::{own_step, own_turns};
 use at_files::Names;
@@ -40,7 +40,7 @@ fn push_arrow_words(out: &mut Vec<u8>, names: &Names, owner: u32) -> Result<(), 
 }
 
 /// Adds the line of an arrow, with its title.
-fn push_arrow_line(
+fn push_arrow_stroke(
     out: &mut Vec<u8>,
     names: &Names,
     turn: usize,
@@ -49,7 +49,7 @@ fn push_arrow_line(
 ) -> Result<(), NoMemory>
     requires { owner < length names.now.processes }
     ensures { OnOk result (out.new.items
-        ≡ out.old.items ++ arrow_line names.now turn process owner) }
+        ≡ out.old.items ++ arrow_stroke names.now turn process owner) }
 {
     out.extend_from_slice(b"<path class='helps' d='")?;
     push_path(out, turn, process, owner)?;
@@ -65,7 +65,7 @@ fn push_arrow_line(
 }
 
 /// Adds the words beside it.
-fn push_note(
+fn push_caption(
     out: &mut Vec<u8>,
     names: &Names,
     turn: usize,
@@ -74,10 +74,10 @@ fn push_note(
 ) -> Result<(), NoMemory>
     requires { owner < length names.now.processes }
     ensures { OnOk result (out.new.items
-        ≡ out.old.items ++ arrow_note names.now turn process owner) }
+        ≡ out.old.items ++ arrow_caption names.now turn process owner) }
 {
-    out.extend_from_slice(b"<text class='note'")?;
-    push_place(out, note_place(turn), note_line(process, owner))?;
+    out.extend_from_slice(b"<text class='caption'")?;
+    push_place(out, caption_place(turn), caption_line(process, owner))?;
     out.extend_from_slice(b">")?;
     push_arrow_words(out, names, owner)?;
     out.extend_from_slice(
@@ -102,8 +102,8 @@ fn push_arrow(
     match owner {
         None => Ok(()),
         Some(owner) => {
-            push_arrow_line(out, names, turn, process, owner)?;
-            push_note(out, names, turn, process, owner)
+            push_arrow_stroke(out, names, turn, process, owner)?;
+            push_caption(out, names, turn, process, owner)
         }
     }
 }

@@ -1,12 +1,13 @@
 //! The curves of publications.
 
 ghost use Rattle.std.specs.Prelude.{◌≡◌, ◌++◌, OnOk, codes, decimal};
-ghost use Rattle.at_pages.specs.Curves.{borrow_note, borrow_text, curve_line, curve_path, curve_text, curves_from, curves_text, publishing_turn};
+ghost use Rattle.at_pages.specs.Curves.{borrow_caption, borrow_text, curve_stroke, curve_path, curve_text, curves_from, curves_text, publishing_turn};
 
 use crate::NoMemory;
-use crate::loads::{LoadName, first_load, loads_view, publishing_turns};
+use crate::loads::{LoadNumbers, first_load, loads_view, publishing_turns};
 use crate::parts::{
-    borrow_line, facing_edge, lane_place, middle_of, note_place, push_place, push_size, time_place,
+    borrow_line, caption_place, facing_edge, lane_place, middle_of, push_place, push_size,
+    time_place,
 };
 use at_ledger::Book;
 use at_stepper::TurnMade;
@@ -47,7 +48,7 @@ fn push_path(
 }
 
 /// Adds the line of a curve, with its title.
-fn push_curve_line(
+fn push_curve_stroke(
     out: &mut Vec<u8>,
     published: usize,
     from: u32,
@@ -55,7 +56,7 @@ fn push_curve_line(
     process: u32,
 ) -> Result<(), NoMemory>
     ensures { OnOk result
-        (out.new.items ≡ out.old.items ++ curve_line published from turn process) }
+        (out.new.items ≡ out.old.items ++ curve_stroke published from turn process) }
 {
     out.extend_from_slice(b"<path class='sees' d='")?;
     push_path(out, published, from, turn, process)?;
@@ -74,8 +75,8 @@ fn push_curve_line(
 fn push_borrow_text(out: &mut Vec<u8>, from: u32, turn: usize, process: u32) -> Result<(), NoMemory>
     ensures { OnOk result (out.new.items ≡ out.old.items ++ borrow_text from turn process) }
 {
-    out.extend_from_slice(b"<text class='note'")?;
-    push_place(out, note_place(turn), borrow_line(process, from))?;
+    out.extend_from_slice(b"<text class='caption'")?;
+    push_place(out, caption_place(turn), borrow_line(process, from))?;
     out.extend_from_slice(
         b">borrows</text>
 ",
@@ -84,7 +85,7 @@ fn push_borrow_text(out: &mut Vec<u8>, from: u32, turn: usize, process: u32) -> 
 }
 
 /// Adds that word where a view is borrowed.
-fn push_borrow_note(
+fn push_borrow_caption(
     out: &mut Vec<u8>,
     borrows: bool,
     from: u32,
@@ -92,7 +93,7 @@ fn push_borrow_note(
     process: u32,
 ) -> Result<(), NoMemory>
     ensures { OnOk result
-        (out.new.items ≡ out.old.items ++ borrow_note borrows from turn process) }
+        (out.new.items ≡ out.old.items ++ borrow_caption borrows from turn process) }
 {
     if borrows {
         push_borrow_text(out, from, turn, process)
@@ -102,7 +103,7 @@ fn push_borrow_note(
 }
 
 /// The turn that published what is loaded, if there is one.
-fn publishing_turn(published: &[usize], first: Option<LoadName>) -> Option<usize>
+fn publishing_turn(published: &[usize], first: Option<LoadNumbers>) -> Option<usize>
     ensures { result ≡ publishing_turn published.now first }
 {
     let load = first?;
@@ -123,8 +124,8 @@ fn push_curve(
     let Some(published) = published else {
         return Ok(());
     };
-    push_curve_line(out, published, from, turn, made.process)?;
-    push_borrow_note(out, loads_view(&made.step), from, turn, made.process)?;
+    push_curve_stroke(out, published, from, turn, made.process)?;
+    push_borrow_caption(out, loads_view(&made.step), from, turn, made.process)?;
     Ok(())
 }
 

@@ -4,7 +4,7 @@ ghost use Rattle.std.specs.Prelude.{◌≡◌, ◌<◌, ◌++◌, ◌∷◌, [],
 ghost use Rattle.std.specs.List.{range_with_len};
 ghost use Rattle.at_ledger.specs.Book.{account_of};
 ghost use Rattle.at_stepper.specs.declared.replaying.TurnMade.{TurnMade};
-ghost use Rattle.at_pages.specs.Arrows.{asker_loaded, cell_exchanged, decides_at, is_fresh_cell, unless_own};
+ghost use Rattle.at_pages.specs.Arrows.{asker_loaded, cell_exchanged, decides_at, is_first_exchange, unless_own};
 ghost use Rattle.at_pages.specs.Deciding.{AreExchanged};
 
 use crate::NoMemory;
@@ -16,17 +16,17 @@ use std::collections::HashSet;
 
 /// The cell of a round of an account.
 #[derive(Clone, Copy, PartialEq, Eq, Hash)]
-pub(crate) struct CellName {
+pub(crate) struct CellNumbers {
     pub(crate) account: u32,
     pub(crate) round: u32,
 }
 
 /// The cell that the step exchanges, if it does.
-fn cell_exchanged(step: &Option<BoardStep>) -> Option<CellName>
+fn cell_exchanged(step: &Option<BoardStep>) -> Option<CellNumbers>
     ensures { result ≡ cell_exchanged step.now }
 {
     match step {
-        Some(BoardStep::Exchange(BoardWord::Cell { account, round })) => Some(CellName {
+        Some(BoardStep::Exchange(BoardWord::Cell { account, round })) => Some(CellNumbers {
             account: *account,
             round: *round,
         }),
@@ -35,9 +35,9 @@ fn cell_exchanged(step: &Option<BoardStep>) -> Option<CellName>
 }
 
 /// Whether the turn decides, after the turns whose cells these are. Its own is added.
-fn decides(cells: &mut HashSet<CellName>, made: &TurnMade) -> Result<bool, NoMemory>
+fn decides(cells: &mut HashSet<CellNumbers>, made: &TurnMade) -> Result<bool, NoMemory>
     ensures decides { IfOk result (λ decides. (turns : List TurnMade) → AreExchanged cells.old turns
-        → decides ≡ is_fresh_cell turns (cell_exchanged made.now.step)) }
+        → decides ≡ is_first_exchange turns (cell_exchanged made.now.step)) }
     ensures cells { OnOk result ((turns : List TurnMade) → AreExchanged cells.old turns
         → AreExchanged cells.new (turns ++ made.now ∷ [])) }
 {

@@ -13,13 +13,13 @@ use std::collections::HashSet;
 
 /// Who loads a record of a process, and the record's number.
 #[derive(Clone, Copy, PartialEq, Eq, Hash)]
-pub(crate) struct LoadName {
+pub(crate) struct LoadNumbers {
     pub(crate) process: u32,
     pub(crate) number: u32,
 }
 
 /// Of which record of process `from` the step of a process loads a word, if it does.
-fn load_of_step(from: u32, process: u32, step: &Option<BoardStep>) -> Option<LoadName>
+fn load_of_step(from: u32, process: u32, step: &Option<BoardStep>) -> Option<LoadNumbers>
     ensures { result ≡ load_of_step from process step.now }
 {
     match step {
@@ -31,7 +31,7 @@ fn load_of_step(from: u32, process: u32, step: &Option<BoardStep>) -> Option<Loa
                     ..
                 },
             ),
-        ) if *owner == from => Some(LoadName {
+        ) if *owner == from => Some(LoadNumbers {
             process,
             number: *number,
         }),
@@ -40,7 +40,7 @@ fn load_of_step(from: u32, process: u32, step: &Option<BoardStep>) -> Option<Loa
 }
 
 /// The same of a turn of another process.
-fn load_from(from: u32, made: &TurnMade) -> Option<LoadName>
+fn load_from(from: u32, made: &TurnMade) -> Option<LoadNumbers>
     ensures { result ≡ load_from from made.now }
 {
     if made.process == from {
@@ -53,10 +53,10 @@ fn load_from(from: u32, made: &TurnMade) -> Option<LoadName>
 /// The record of process `from` that the turn loads, if it is the first one of its process to do so, after the turns whose loads these
 /// are. Its own is added.
 pub(crate) fn first_load(
-    loads: &mut HashSet<LoadName>,
+    loads: &mut HashSet<LoadNumbers>,
     from: u32,
     made: &TurnMade,
-) -> Result<Option<LoadName>, NoMemory>
+) -> Result<Option<LoadNumbers>, NoMemory>
     ensures first { IfOk result (λ first. (turns : List TurnMade) → AreLoads from loads.old turns
         → first ≡ unless_loaded from turns (load_from from made.now)) }
     ensures loads { OnOk result ((turns : List TurnMade) → AreLoads from loads.old turns

@@ -1,7 +1,7 @@
 //! The parts of the page that are the same for all runs, and the places of its elements.
 
 ghost use Rattle.std.specs.Prelude.{◌≡◌, ◌++◌, OnOk, decimal};
-ghost use Rattle.at_pages.specs.Places.{bar_left, bar_right, bar_top, bar_width, borrow_line, facing_edge, lane_place, lane_width, middle_of, name_line, note_line, note_place, picture_height, picture_width, place_text, reply_line, time_place, words_line};
+ghost use Rattle.at_pages.specs.Places.{bar_left, bar_right, bar_top, bar_width, borrow_line, facing_edge, lane_place, lane_width, middle_of, name_line, caption_line, caption_place, picture_height, picture_width, place_text, reply_line, time_place, words_line};
 
 use crate::NoMemory;
 
@@ -23,7 +23,7 @@ svg{display:block}
 text{fill:var(--ink);font-size:12px}
 .name{font-weight:600}
 .reply{fill:var(--soft);text-anchor:end}
-.note{fill:var(--soft);stroke:var(--page);stroke-width:3;paint-order:stroke}
+.caption{fill:var(--soft);stroke:var(--page);stroke-width:3;paint-order:stroke}
 .lane{fill:var(--lane)}
 .bar{fill:var(--bar);stroke:var(--lane)}
 #load{stroke:var(--load)}
@@ -76,8 +76,9 @@ pub(crate) const KEY: &[u8] = b"</svg>
 <li><svg width='20' height='24' aria-hidden='true'><use href='#publication' x='10' y='12'/></svg> publishes a record</li>
 <li><svg width='20' height='24' aria-hidden='true'><use href='#exchange' x='10' y='12'/></svg> exchanges a cell</li>
 <li><svg width='20' height='24' aria-hidden='true'><use href='#none' x='10' y='12'/></svg> answers without a step</li>
-<li><svg width='20' height='24' aria-hidden='true'><path class='sees' d='M10 2V22'/></svg> from a publication to its first load by another process</li>
+<li><svg width='20' height='24' aria-hidden='true'><path class='sees' d='M10 2V22'/></svg> from a publication to its first load by each other process; <em>borrows</em>: what is loaded is the record's view</li>
 <li><svg width='20' height='24' aria-hidden='true'><path class='helps' d='M10 2V22'/></svg> decides for another owner</li>
+<li>no mark: a turn of another process</li>
 </ul>
 ";
 
@@ -181,15 +182,15 @@ pub(crate) fn facing_edge(process: u32, other: u32) -> u128
 }
 
 /// The place of the words beside an arrow from this turn.
-pub(crate) fn note_place(turn: usize) -> u128
-    ensures { result ≡ note_place turn }
+pub(crate) fn caption_place(turn: usize) -> u128
+    ensures { result ≡ caption_place turn }
 {
     141 + 6 * turn as u128
 }
 
 /// The line of the words beside an arrow from one lane to another.
-pub(crate) fn note_line(process: u32, other: u32) -> u128
-    ensures { result ≡ note_line process other }
+pub(crate) fn caption_line(process: u32, other: u32) -> u128
+    ensures { result ≡ caption_line process other }
 {
     if process < other {
         lane_place(process) + 58

@@ -10,7 +10,7 @@ use at_ledger::Reply;
 use at_stepper::TurnMade;
 use std::alloc::Global;
 
-/// A call by its process, its number from 0, its first turn and its last, its steps and exchanges, the records that it counted anew, and
+/// A call by its process, its number from 0, its first turn and its last, its steps and exchanges, the records of others that it counted anew, and
 /// its reply.
 #[derive(Clone, Copy)]
 pub(crate) struct Span {
@@ -44,11 +44,14 @@ fn is_exchange(step: &Option<BoardStep>) -> bool
     }
 }
 
-/// Whether the turn loads the first word of a record.
-fn begins_record(step: &Option<BoardStep>) -> bool
-    ensures { result ≡ begins_record step.now }
+/// Whether the step of a process loads the first word of another's record.
+fn begins_record(process: u32, step: &Option<BoardStep>) -> bool
+    ensures { result ≡ begins_record process step.now }
 {
     match step {
+        Some(BoardStep::Load(BoardWord::Record { process: owner, .. })) if *owner == process => {
+            false
+        }
         Some(BoardStep::Load(BoardWord::Record { word, .. })) => *word == 0,
         _ => false,
     }
@@ -63,7 +66,7 @@ fn with_turn(making: &Making, made: &TurnMade, turn: usize) -> Making
 {
     let steps = usize::from(made.step.is_some());
     let exchanges = usize::from(is_exchange(&made.step));
-    let new_records = usize::from(begins_record(&made.step));
+    let new_records = usize::from(begins_record(made.process, &made.step));
     Making {
         number: making.number,
         first: Some(making.first.unwrap_or(turn)),

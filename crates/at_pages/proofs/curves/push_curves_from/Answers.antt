@@ -4,7 +4,7 @@ use Rattle.at_stepper.specs.InTurns.{turn_at}
 use Rattle.at_stepper.specs.declared.replaying.TurnMade.{TurnMade}
 use Rattle.at_pages.specs.Curves.{curve_text, curve_to, publishing_turn, publishing_turns}
 use Rattle.at_pages.specs.Loading.{AreLoads}
-use Rattle.at_pages.specs.declared.loads.LoadName.{LoadName}
+use Rattle.at_pages.specs.declared.loads.LoadNumbers.{LoadNumbers}
 use Rattle.at_pages.proofs.TextLaws.{flat_map-range_more}
 use Rattle.at_pages.proofs.curves.push_curves_from.Goals as goal
 
@@ -18,7 +18,7 @@ loop-i-preserved c =
     let published =
     c.publishing_turn-published.ensures
     ∙ (ap (λ (xs : List ℕ). publishing_turn xs c.in_ok-first.first) (c.as_slice.ensures.value ∙ c.in_ok-published.ensures)
-    ∙ ap (λ (x : Option LoadName). publishing_turn (publishing_turns turns q) x) (c.in_ok-first.ensures.first (take i turns) c.loop-i.invariant.loads)) in
+    ∙ ap (λ (x : Option LoadNumbers). publishing_turn (publishing_turns turns q) x) (c.in_ok-first.ensures.first (take i turns) c.loop-i.invariant.loads)) in
     record {
       out =
           c.in_ok-push_curve.ensures

@@ -1,6 +1,6 @@
 use Rattle.std.proofs.Common.{◌≡◌, ◌+◌, ◌++◌, ℕ, List, append_assoc, codes, decimal}
 use Rattle.at_pages.specs.Curves.{curve_path}
-use Rattle.at_pages.proofs.curves.push_curve_line.Goals as goal
+use Rattle.at_pages.proofs.curves.push_curve_stroke.Goals as goal
 
 -- seven texts after another
 append-seven : (out a b c d e f g : List ℕ) → ((((((out ++ a) ++ b) ++ c) ++ d) ++ e) ++ f) ++ g ≡ out ++ (a ++ b ++ c ++ d ++ e ++ f ++ g)
