@@ -40,7 +40,7 @@ fn view_printed<R: Threads + Sync, F: Shelf, G: Gate + Sync>(
     ensures kept { OnOk result (F.faults shelf.new ≡ F.faults shelf.old) }
     ensures printed { IfOk result
         (λ p. ShowsRead view (F.tells shelf.old) (F.file shelf.old) (form_shown form.now)
-        p.closed p.text.items) }
+        p.closed p.text) }
     ensures unrun { is_run view ≡ false → IfOk result (λ p. p.closed ≡ None) }
     ensures err { IfErr result
         (λ refusal. MayRefuseView view (F.tells shelf.old) (loaded (F.file shelf.old) (form_shown form.now))

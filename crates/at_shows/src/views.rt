@@ -15,6 +15,7 @@ use at_kinds::kinds;
 use at_ledger::{Book, Call};
 use at_orders::{OrdersError, orders};
 use at_replies::orders_text;
+use at_report::Pieces;
 use at_workers::Gate;
 use std::alloc::{AllocError, Global};
 use std::thread::Threads;
@@ -31,10 +32,14 @@ fn kinds_shown(
     requires known { All (IsPlayable (length book.now.accounts)) (contents_of files.now) }
     ensures { IfOk result (λ p. Shows View.Kinds
         (record { book = book.now; names = names.now; files = contents_of files.now })
-        p.closed p.text.items) }
+        p.closed p.text) }
 {
     let text = kinds(alloc, book, names, files)?;
-    Ok(Printed { text, closed: None })
+    let pieces = Pieces::one(alloc, text)?;
+    Ok(Printed {
+        text: pieces,
+        closed: None,
+    })
 }
 
 /// What each call of a run of the files cost, all of them at once.
@@ -51,12 +56,13 @@ fn costs_shown<R: Threads + Sync, G: Gate + Sync>(
     requires known { All (IsPlayable (length book.now.accounts)) (contents_of files.items) }
     ensures { IfOk result (λ p. Shows View.Costs
         (record { book = book.now; names = names.now; files = contents_of files.items })
-        p.closed p.text.items) }
+        p.closed p.text) }
 {
     let (kept, costs) = play_noting(rt, alloc, book, files, gate)?;
     let text = costs_text(alloc, book, names, kept.closing(), costs.as_slice())?;
+    let pieces = Pieces::one(alloc, text)?;
     Ok(Printed {
-        text,
+        text: pieces,
         closed: Some(kept),
     })
 }
@@ -73,13 +79,17 @@ fn orders_shown(
     requires known { All (IsPlayable (length book.now.accounts)) (contents_of files.now) }
     ensures shown { IfOk result (λ p. Shows View.Orders
         (record { book = book.now; names = names.now; files = contents_of files.now })
-        p.closed p.text.items) }
+        p.closed p.text) }
     ensures many { result ≡ Err OrdersError.TooManyOrders → HasTooMany View.Orders
         (record { book = book.now; names = names.now; files = contents_of files.now }) }
 {
     let answers = orders(alloc, book, files)?;
     let text = orders_text(alloc, book, names, files, answers.as_slice())?;
-    Ok(Printed { text, closed: None })
+    let pieces = Pieces::one(alloc, text)?;
+    Ok(Printed {
+        text: pieces,
+        closed: None,
+    })
 }
 
 /// The journal of a run of the files, all of them at once.
@@ -96,12 +106,13 @@ fn ledger_shown<R: Threads + Sync, G: Gate + Sync>(
     requires known { All (IsPlayable (length book.now.accounts)) (contents_of files.items) }
     ensures { IfOk result (λ p. Shows View.Ledger
         (record { book = book.now; names = names.now; files = contents_of files.items })
-        p.closed p.text.items) }
+        p.closed p.text) }
 {
     let (closed, lines) = play(rt, alloc, book, files, gate)?;
     let text = ledger(alloc, book, names, lines.as_slice())?;
+    let pieces = Pieces::one(alloc, text)?;
     Ok(Printed {
-        text,
+        text: pieces,
         closed: Some(closed),
     })
 }
@@ -121,7 +132,7 @@ pub(crate) fn view_shown<R: Threads + Sync, G: Gate + Sync>(
     requires known { All (IsPlayable (length book.now.accounts)) (contents_of files.items) }
     ensures shown { IfOk result (λ p. Shows view
         (record { book = book.now; names = names.now; files = contents_of files.items })
-        p.closed p.text.items) }
+        p.closed p.text) }
     ensures many { result ≡ Err OrdersError.TooManyOrders → HasTooMany view
         (record { book = book.now; names = names.now; files = contents_of files.items }) }
 {

@@ -14,7 +14,7 @@ use Rattle.at_shows.proofs.Refusing.{AnswersView-exact, MayRefuseView-loaded, Re
 use Rattle.at_shows.proofs.answering.answer_view.Goals as goal
 
 abbrev text_of : Printed → List ℕ
-text_of p = p.text.items
+text_of p = p.text
 
 pub returns-clause-answered : goal.returns-clause-answered
 returns-clause-answered g c =
@@ -29,8 +29,8 @@ returns-clause-answered g c =
     let ends = c.end_keeping.ensures.ends in
     let never = Refuses-view view tells (loaded files asked) before now in
     let kept = c.end_keeping.new.kept in
-    let printed : IfOk made (λ p. ShowsRead view tells files asked kept p.text.items) =
-    IfOk-kept (λ (k : Option ClosedTerms) (p : Printed). ShowsRead view tells files asked k p.text.items) (λ p. p.closed) made kept c.end_keeping.ensures.kept does.printed in
+    let printed : IfOk made (λ p. ShowsRead view tells files asked kept p.text) =
+    IfOk-kept (λ (k : Option ClosedTerms) (p : Printed). ShowsRead view tells files asked k p.text) (λ p. p.closed) made kept c.end_keeping.ensures.kept does.printed in
     let left = LeavesOf-Ends text_of (λ text. ShowsRead view tells files asked kept text) (λ refusal. MayRefuseView view tells (loaded files asked) before now refusal) (λ file. MayReach tells files asked file) (HasFileNumbers (length asked.payments)) true made _ ends never tt tt (λ _. printed) does.err does.reached
     (rw (length-map c.args.form.now.payments.now string_bytes) does.numbered) in
     let loads : tells ≡ true → IsWritten c.end_keeping.result → (l : Loaded) × (loaded files asked ≡ Ok l) = λ told written. let ran = (left.printed refl written).printed in (ran.what, ran.read told) in

@@ -19,6 +19,6 @@ returns g c = (
     costs = lists_in c.in_ok-kept.costs.items;
     played = c.in_ok-kept.ensures;
     within = rw (c.closing.ensures.closing, c.as_slice.ensures.value) at c.in_ok-text.ensures.within;
-    printed = rw (c.closing.ensures.closing, c.as_slice.ensures.value) at c.in_ok-text.ensures.text;
+    printed = c.in_ok-pieces.ensures ∙ (rw (c.closing.ensures.closing, c.as_slice.ensures.value) at c.in_ok-text.ensures.text);
   },
 )

@@ -1,4 +1,4 @@
-use Rattle.std.proofs.Common.{refl}
+use Rattle.std.proofs.Common.{◌∙◌, refl}
 use Rattle.at_shows.proofs.views.ledger_shown.Goals as goal
 
 pub ledger-requires-clause-lines : goal.ledger-requires-clause-lines
@@ -11,6 +11,6 @@ returns g c = (
   record {
     lines = c.in_ok-closed.lines.items;
     played = c.in_ok-closed.ensures;
-    printed = rw c.as_slice.ensures.value at c.in_ok-text.ensures;
+    printed = c.in_ok-pieces.ensures ∙ (rw c.as_slice.ensures.value at c.in_ok-text.ensures);
   },
 )

@@ -1,4 +1,4 @@
-use Rattle.std.proofs.Common.{refl}
+use Rattle.std.proofs.Common.{◌∙◌, refl}
 use Rattle.at_ledger.specs.Files.{contents_of}
 use Rattle.at_shows.proofs.views.orders_shown.Goals as goal
 
@@ -11,6 +11,6 @@ returns-clause-shown c = (
   record {
     answers = contents_of c.in_ok-answers.answers.items;
     are = c.in_ok-answers.ensures.answers;
-    printed = rw c.as_slice.ensures.value at c.in_ok-text.ensures;
+    printed = c.in_ok-pieces.ensures ∙ (rw c.as_slice.ensures.value at c.in_ok-text.ensures);
   },
 )
