@@ -10,14 +10,16 @@
  *   - one call at a time is given a handle; from one call to the next a handle may go to another thread, where a lock, a
  *     thread's start or join, or a sequentially consistent atomic orders the two. Different handles may be used at once,
  *     in any threads;
- *   - `answer` and `line` point to their types, `book` to `length` bytes and `targets` to `count` targets that no other
- *     thread writes meanwhile; none of these is null, also where their number is 0, and what one call is given doesn't overlap;
+ *   - `answer`, `line` and `why` point to their types, `book` to `length` bytes, `targets` to `count` targets and `bytes` to
+ *     `room` bytes that no other thread writes meanwhile; none of these is null, also where their number is 0, and what one
+ *     call is given doesn't overlap;
  *   - malloc, realloc and free are one allocator's, which aligns a block to each power of two up to 16 that divides its
  *     size; no export is called from a signal handler or in the child of a fork of a process with threads.
  *
  * Costs: `bezglami_read`, `bezglami_transfer` and `bezglami_pay` take no memory, and take no more steps than the bound of the
- * call (README, "What needs agreement"). `bezglami_open` and `bezglami_caller` take memory. All others are constant but
- * `bezglami_free`. */
+ * call (README, "What needs agreement"). `bezglami_open`, `bezglami_caller` and `bezglami_close` take memory, in proportion to
+ * the book, the calls that a caller has room for, and the calls that were made; `bezglami_report` copies. All others are constant
+ * but `bezglami_free`. */
 #ifndef BEZGLAMI_H
 #define BEZGLAMI_H
 
@@ -29,7 +31,7 @@ extern "C" {
 #endif
 
 /* The version of this header. `bezglami_version` answers that of the library. */
-#define BEZGLAMI_VERSION 2
+#define BEZGLAMI_VERSION 3
 
 uint32_t bezglami_version(void);
 
@@ -39,18 +41,22 @@ typedef struct bezglami_handle {
 
 #define BEZGLAMI_NOTHING { NULL }
 
-/* What came of an export. Where it isn't BEZGLAMI_DONE, no handle and no answer has changed. `line` is that of the first
- * fault of a bad book, and is to be read after BEZGLAMI_BAD_BOOK alone. */
+/* What came of an export. Where it isn't BEZGLAMI_DONE, no handle and no answer has changed, but for what `bezglami_close` says.
+ * `line` and `why` are those of the first fault of a bad book, and are to be read after BEZGLAMI_BAD_BOOK alone. */
 enum bezglami_outcome {
     BEZGLAMI_DONE = 0,
     BEZGLAMI_WRONG_HANDLE = 1, /* the handle holds no ledger, or no caller, as the export wants one */
     BEZGLAMI_IN_USE = 2,       /* the handle that is to be filled holds something */
     BEZGLAMI_NO_MEMORY = 3,
-    BEZGLAMI_BAD_BOOK = 4,     /* the bytes spell no book: `line` is that of the first fault, from 1 */
+    BEZGLAMI_BAD_BOOK = 4,     /* the bytes spell no book: `line` is that of the first fault, from 1, and `why` its cause */
     BEZGLAMI_NO_CALLER = 5,    /* all callers of the ledger were handed out */
     BEZGLAMI_NO_ACCOUNT = 6,   /* the call names an account that isn't there */
     BEZGLAMI_NO_ROOM = 7,      /* there is no room for the receipt of the call */
-    BEZGLAMI_NO_PAY_OUT = 8    /* a pay-out has 1 to BEZGLAMI_TARGETS_MOST targets */
+    BEZGLAMI_NO_PAY_OUT = 8,   /* a pay-out has 1 to BEZGLAMI_TARGETS_MOST targets */
+    BEZGLAMI_CALLERS_OUT = 9,  /* a caller of the ledger wasn't given back */
+    BEZGLAMI_NO_PROCESS = 10,  /* the book has no process of this number */
+    BEZGLAMI_NO_NOTE = 11,     /* the process has left no note */
+    BEZGLAMI_BUSY = 12         /* another thread is just reaching for the same note: ask again */
 };
 
 /* A few words on an outcome, in English. */
@@ -65,7 +71,56 @@ static inline const char *bezglami_outcome_text(uint32_t outcome) {
     case BEZGLAMI_NO_ACCOUNT: return "no such account";
     case BEZGLAMI_NO_ROOM: return "no room";
     case BEZGLAMI_NO_PAY_OUT: return "no pay-out";
+    case BEZGLAMI_CALLERS_OUT: return "a caller is out";
+    case BEZGLAMI_NO_PROCESS: return "no such process";
+    case BEZGLAMI_NO_NOTE: return "no note";
+    case BEZGLAMI_BUSY: return "busy";
     default: return "unknown outcome";
+    }
+}
+
+/* Why bytes spell no book: the cause of their first fault. */
+enum bezglami_why {
+    BEZGLAMI_WHY_VERSION = 1,             /* the second field of the first record is neither 1 nor 2 */
+    BEZGLAMI_WHY_SHAPE = 2,               /* a record isn't there, has another number of fields, or begins with another word */
+    BEZGLAMI_WHY_NUMBER = 3,              /* a field that has to be a number is none */
+    BEZGLAMI_WHY_ACCOUNT_ORDER = 4,       /* the account's number isn't the next one */
+    BEZGLAMI_WHY_NAME = 5,                /* the bytes are no name */
+    BEZGLAMI_WHY_NAME_TWICE = 6,          /* a process or an account before it has this name */
+    BEZGLAMI_WHY_UNKNOWN_OWNER = 7,       /* no process has this name */
+    BEZGLAMI_WHY_NO_PROCESS = 8,
+    BEZGLAMI_WHY_TOO_MANY_PROCESSES = 9,
+    BEZGLAMI_WHY_NO_ACCOUNT = 10,
+    BEZGLAMI_WHY_TOO_MANY_ACCOUNTS = 11,
+    BEZGLAMI_WHY_OWNER_OUT_OF_RANGE = 12,
+    BEZGLAMI_WHY_OWNERS_NOT_RISING = 13,
+    BEZGLAMI_WHY_TOO_MANY_OWNERS = 14,
+    BEZGLAMI_WHY_ROOM_OUT_OF_RANGE = 15,
+    BEZGLAMI_WHY_ROUNDS_OVER_LIMIT = 16,
+    BEZGLAMI_WHY_TOTAL_OVER_LIMIT = 17
+};
+
+/* A few words on the cause, in English. */
+static inline const char *bezglami_why_text(uint32_t why) {
+    switch (why) {
+    case BEZGLAMI_WHY_VERSION: return "version";
+    case BEZGLAMI_WHY_SHAPE: return "shape";
+    case BEZGLAMI_WHY_NUMBER: return "number";
+    case BEZGLAMI_WHY_ACCOUNT_ORDER: return "account order";
+    case BEZGLAMI_WHY_NAME: return "name";
+    case BEZGLAMI_WHY_NAME_TWICE: return "name twice";
+    case BEZGLAMI_WHY_UNKNOWN_OWNER: return "unknown owner";
+    case BEZGLAMI_WHY_NO_PROCESS: return "no process";
+    case BEZGLAMI_WHY_TOO_MANY_PROCESSES: return "too many processes";
+    case BEZGLAMI_WHY_NO_ACCOUNT: return "no account";
+    case BEZGLAMI_WHY_TOO_MANY_ACCOUNTS: return "too many accounts";
+    case BEZGLAMI_WHY_OWNER_OUT_OF_RANGE: return "owner out of range";
+    case BEZGLAMI_WHY_OWNERS_NOT_RISING: return "owners not rising";
+    case BEZGLAMI_WHY_TOO_MANY_OWNERS: return "too many owners";
+    case BEZGLAMI_WHY_ROOM_OUT_OF_RANGE: return "room out of range";
+    case BEZGLAMI_WHY_ROUNDS_OVER_LIMIT: return "rounds over limit";
+    case BEZGLAMI_WHY_TOTAL_OVER_LIMIT: return "total over limit";
+    default: return "unknown cause";
     }
 }
 
@@ -95,7 +150,7 @@ typedef struct bezglami_target {
 #define BEZGLAMI_TARGETS_MOST 4
 
 /* Fills `ledger`, which holds nothing, with a ledger for the book that the bytes spell. */
-uint32_t bezglami_open(const uint8_t *book, size_t length, bezglami_handle *ledger, uint32_t *line);
+uint32_t bezglami_open(const uint8_t *book, size_t length, bezglami_handle *ledger, uint32_t *line, uint32_t *why);
 
 /* Fills `caller`, which holds nothing, with the caller of the next process of the ledger: the first is that of process 0.
  * It has memory for so many receipts, one for each call. It is used in any thread, also after `ledger` was freed. */
@@ -115,6 +170,28 @@ uint32_t bezglami_read(bezglami_handle *caller, uint32_t account, bezglami_answe
 /* How many steps all calls of the caller have made, and how many of them were exchanges. 0 of a handle that holds no caller. */
 uint64_t bezglami_steps(bezglami_handle *caller);
 uint64_t bezglami_exchanges(bezglami_handle *caller);
+
+/* Leaves a note of all that the caller has seen, for the caller of another process, in place of one that it left there before.
+ * It counts as one step and one exchange of the caller. Other outcomes: BEZGLAMI_NO_PROCESS, BEZGLAMI_BUSY. */
+uint32_t bezglami_note(bezglami_handle *caller, uint32_t process);
+
+/* Takes in the note that the caller of another process has left for this one, so that its later calls come after all that the
+ * note has seen. A note is taken in once. It counts as one step and one exchange. Other outcomes: BEZGLAMI_NO_PROCESS,
+ * BEZGLAMI_NO_NOTE, BEZGLAMI_BUSY. */
+uint32_t bezglami_learn(bezglami_handle *caller, uint32_t process);
+
+/* Gives the caller back to its ledger, with the receipts of its calls. Its handle is left with nothing. */
+uint32_t bezglami_return(bezglami_handle *caller);
+
+/* Closes the ledger, whose callers were all given back, and makes its report: all calls in one legal order, the last balances and
+ * the total, as the program's `run` prints it. From then on the handle holds the report. BEZGLAMI_CALLERS_OUT where a caller
+ * wasn't given back, or was freed: a ledger of which a caller is lost can't be closed. BEZGLAMI_NO_MEMORY loses nothing: the
+ * handle keeps the ledger with all receipts, hands out no caller any more, and may be closed again. */
+uint32_t bezglami_close(bezglami_handle *ledger);
+
+/* How many bytes the report has that the handle holds, and 0 where it holds none. Where `bytes` has room for so many, they are
+ * written there; where it hasn't, nothing is. */
+size_t bezglami_report(bezglami_handle *ledger, uint8_t *bytes, size_t room);
 
 /* Frees what the handle holds, whatever it is, and leaves it with nothing. The board of a ledger goes with the last of its
  * ledger and callers. */
