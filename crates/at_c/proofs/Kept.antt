@@ -183,8 +183,11 @@ pub IsOpened-new : (shared : SharedTerms) (ledger : BoardTerms) (waiting passes 
     → shared.ledger ≡ ledger → AreNewPasses ledger waiting → passes ≡ [] → receipts ≡ [] → ledger.book.processes ≤ m → ledger.book.processes ≤ n
     → IsOpened (opened_of shared 0 waiting passes receipts m n)
 IsOpened-new shared ledger waiting passes receipts m n same new none empty ms ns = record {
-  count = new.count ∙ ap (λ (l : BoardTerms). l.book.processes) (sym same);
-  each = λ i d below. subst (λ (l : BoardTerms). IsNewPass l i (slice_index_or waiting i d)) (sym same) (new.each i d (omega (arith, new.count, below)));
+  count = omega (arith, new.count, ap (λ (l : BoardTerms). l.book.processes) same);
+  each = λ i d below.
+      let first : i ≡ 0 + i = omega arith in
+      subst (λ k. IsNewPass shared.ledger k (slice_index_or waiting i d)) first
+      (subst (λ (l : BoardTerms). IsNewPass l i (slice_index_or waiting i d)) (sym same) (new.each i d (omega (arith, new.count, below))));
   within = omega (arith, ap length none);
   even = ap length empty ∙ sym (ap length none);
   back = λ p d below. absurd (omega (arith, below, ap length none));
@@ -223,9 +226,9 @@ module _ (shared : SharedTerms) (given : ℕ) (waiting passes : List PassTerms) 
       ]
 
   pub AreAccountedFor-gathered : AreAccountedFor shared.ledger (passes ++ waiting) (receipts ++ unused)
-  AreAccountedFor-gathered = record {
+  AreAccountedFor-gathered = let none : List Receipt = [] in record {
     passes_count = omega (arith, length-append passes waiting, kept.count, all);
-    receipts_count = omega (arith, length-append receipts unused, length-replicate (length waiting) ([] {A = Receipt}), kept.even, kept.count, all);
+    receipts_count = omega (arith, length-append receipts unused, length-replicate (length waiting) none, kept.even, kept.count, all);
     each = each-gathered;
   }
 

@@ -12,5 +12,5 @@ invariant-loop-pass l = record {
   receipts : lists_in l.receipts.items ≡ lists_in l.fn.receipts.items ++ replicate (length l.yielded) [];
   passes_room : vec_capacity l.passes ≡ vec_capacity l.fn.passes;
   receipts_room : vec_capacity l.receipts ≡ vec_capacity l.fn.receipts;
-  few : length l.yielded ≤ length l.fn.unused.items;
+  rest : l.fn.unused.items ≡ l.yielded ++ l.pass-iterator.rest.items;
 }

@@ -2,6 +2,7 @@ use Rattle.std.proofs.Common.{◌≡◌, ◌<◌, ◌++◌, ◌∷◌, [], lengt
 use Rattle.std.proofs.lemmas.List.{map-append}
 use Rattle.std.specs.Arc.{arc_value}
 use Rattle.at_log.specs.Receipts.{lists_in}
+use Rattle.at_object.specs.Closings.{IsAccountedFor}
 use Rattle.at_c.specs.Given.{IsGivenBack}
 use Rattle.at_c.specs.Ledgers.{OpenedTerms}
 use Rattle.at_c.specs.Shared.{SharedTerms}
@@ -13,7 +14,7 @@ invariant_of-self c =
     let inside = c.self.inside in
     let more = subst (λ (t : OpenedTerms). length t.passes < t.given) (sym c.self.view_is) c.requires in
     let given = subst (λ (s : SharedTerms). IsGivenBack s.ledger c.in-Some.field-0.pass c.in-Some.field-0.receipts.items) c.deref.ensures c.in-Some.ensures.given in
-    let back = record { of_ledger = given.of_ledger; process_is = c.in-Some.ensures.process ∙ ?; stands = given.stands; counted = given.counted } in
+    let back : IsAccountedFor (arc_value inside.shared).ledger (length inside.passes.items) c.in-Some.field-0.pass c.in-Some.field-0.receipts.items = record { of_ledger = given.of_ledger; process_is = c.in-Some.ensures.process ∙ c.len-process.ensures ∙ c.self.inside.passes.ok.0; stands = given.stands; counted = given.counted } in
     IsOpened-back (arc_value inside.shared) inside.given inside.waiting.items inside.passes.items c.push_reserved.new.self.items
     (lists_in inside.receipts.items) (lists_in c.push_reserved-2.new.self.items) (vec_capacity inside.passes) (vec_capacity inside.receipts)
     (vec_capacity c.push_reserved.new.self) (vec_capacity c.push_reserved-2.new.self) c.in-Some.field-0.pass c.in-Some.field-0.receipts.items
