@@ -1,5 +1,5 @@
 -- What the types of callers and of ledgers keep.
-use Rattle.std.proofs.Common.{◌≡◌, ℕ, ◌+◌, ◌<◌, ◌≤◌, suc, List, [], ◌∷◌, ◌++◌, length, sym, ap, subst, ◌∙◌, arith, length-append, map, replicate, All, inl, inr, ◌-◌}
+use Rattle.std.proofs.Common.{◌≡◌, ℕ, ◌+◌, ◌<◌, ◌≤◌, suc, List, [], ◌∷◌, ◌++◌, length, sym, ap, subst, ◌∙◌, arith, length-append, replicate, All, inl, inr, ◌-◌}
 use Rattle.std.proofs.Math.ListN.{get_or-append}
 use Rattle.std.proofs.Math.Seq.{get_or-append_right, get_or-append_seam}
 use Rattle.std.proofs.lemmas.Bool.{cases_lt}
@@ -16,7 +16,7 @@ use Rattle.at_object.specs.Calls.{CallMade}
 use Rattle.at_object.specs.Closings.{AreAccountedFor, IsAccountedFor}
 use Rattle.at_object.specs.Passes.{AreNewPasses, IsNewPass, IsPassOf, PassTerms, Stands, one_more_call}
 use Rattle.at_c.specs.Callers.{OwnCallerTerms, IsCaller}
-use Rattle.at_c.specs.Given.{AreReceipts, IsGivenBack}
+use Rattle.at_c.specs.Given.{AreReceipts}
 use Rattle.at_c.specs.Ledgers.{IsOpened, OpenedTerms}
 use Rattle.at_c.specs.Notes.{Learns}
 use Rattle.at_c.specs.Shared.{SharedTerms}

@@ -1,4 +1,4 @@
-use Rattle.std.proofs.Common.{◌≡◌, ◌<◌, ◌+◌, [], List, length, replicate, subst, sym, ap, ◌∙◌, arith, vec_capacity, length-append}
+use Rattle.std.proofs.Common.{◌≡◌, ◌<◌, ◌+◌, [], List, length, replicate, ap, ◌∙◌, arith, length-append}
 use Rattle.std.proofs.lemmas.List.{length-map, length-replicate}
 use Rattle.at_log.specs.Receipts.{lists_in}
 use Rattle.at_log.specs.declared.receipt.Receipt.{Receipt}

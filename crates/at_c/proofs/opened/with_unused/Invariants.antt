@@ -1,4 +1,4 @@
-use Rattle.std.proofs.Common.{◌≡◌, ◌+◌, ◌++◌, ◌≤◌, [], length, replicate}
+use Rattle.std.proofs.Common.{◌≡◌, ◌++◌, [], length, replicate}
 use Rattle.std.specs.Vec.{vec_capacity}
 use Rattle.at_log.specs.Receipts.{lists_in}
 use Rattle.at_c.proofs.opened.with_unused.Given as goal

@@ -1,4 +1,4 @@
-use Rattle.std.proofs.Common.{◌≡◌, length, subst, sym, ap, ◌∙◌, List, All}
+use Rattle.std.proofs.Common.{length, subst, sym, List, All}
 use Rattle.at_ledger.specs.Book.{BookTerms}
 use Rattle.at_ledger.specs.Call.{IsLineOn}
 use Rattle.at_ledger.specs.Run.{Whole}

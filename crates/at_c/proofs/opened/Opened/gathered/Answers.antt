@@ -1,4 +1,4 @@
-use Rattle.std.proofs.Common.{refl, ◌≡◌, ◌++◌, [], List, All, length, replicate, subst, sym, ap, ◌∙◌, arith, vec_capacity}
+use Rattle.std.proofs.Common.{refl, ◌≡◌, ◌++◌, List, All, length, subst, sym, ap, ◌∙◌, vec_capacity}
 use Rattle.std.specs.Arc.{arc_value}
 use Rattle.at_board.specs.Knowledge.Seats.{BoardTerms}
 use Rattle.at_log.specs.Receipts.{lists_in}

@@ -1,4 +1,4 @@
-use Rattle.std.proofs.Common.{◌≡◌, List, subst, sym, ap, ◌∙◌, arith, vec_capacity}
+use Rattle.std.proofs.Common.{List, subst, sym, ap, ◌∙◌, arith, vec_capacity}
 use Rattle.std.specs.Arc.{arc_value}
 use Rattle.at_ledger.specs.Book.{BookTerms}
 use Rattle.at_log.specs.Receipts.{lists_in}

@@ -1,4 +1,4 @@
-use Rattle.std.proofs.Common.{◌≡◌, ◌<◌, ◌++◌, ◌∷◌, [], length, subst, sym, ap, ◌∙◌, arith, vec_capacity, map}
+use Rattle.std.proofs.Common.{◌<◌, ◌∷◌, [], length, subst, sym, ap, ◌∙◌, vec_capacity}
 use Rattle.std.proofs.lemmas.List.{map-append}
 use Rattle.std.specs.Arc.{arc_value}
 use Rattle.at_log.specs.Receipts.{lists_in}
