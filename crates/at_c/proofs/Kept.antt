@@ -18,7 +18,7 @@ use Rattle.at_object.specs.Passes.{AreNewPasses, IsNewPass, IsPassOf, PassTerms,
 use Rattle.at_c.specs.Callers.{OwnCallerTerms, IsCaller}
 use Rattle.at_c.specs.Given.{AreReceipts}
 use Rattle.at_c.specs.Ledgers.{IsOpened, OpenedTerms}
-use Rattle.at_c.specs.Notes.{Learns}
+use Rattle.at_c.specs.Notes.{TakesIn}
 use Rattle.at_c.specs.Shared.{SharedTerms}
 use Rattle.at_c.specs.declared.outcome.Outcome.{Outcome}
 
@@ -127,10 +127,10 @@ back-push shared passes receipts pass list even back next p d inside =
     ]
 
 -- what a caller has taken in keeps it
-pub IsCaller-learned : (shared held : SharedTerms) (from : ℕ) (before after : PassTerms) (receipts : List Receipt) (room : ℕ) (outcome : Outcome)
-    → IsCaller (caller_of shared before receipts room) → held ≡ shared → Learns held.ledger from before after outcome
+pub IsCaller-took_in : (shared held : SharedTerms) (from : ℕ) (before after : PassTerms) (receipts : List Receipt) (room : ℕ) (outcome : Outcome)
+    → IsCaller (caller_of shared before receipts room) → held ≡ shared → TakesIn held.ledger from before after outcome
     → IsCaller (caller_of shared after receipts room)
-IsCaller-learned shared held from before after receipts room Outcome.Done kept same learns = record {
+IsCaller-took_in shared held from before after receipts room Outcome.Done kept same learns = record {
   account = record {
     of_ledger = subst (λ (s : SharedTerms). IsPassOf after s.ledger) same learns.pass_is;
     stands = learns.stands receipts kept.account.stands;
@@ -141,18 +141,18 @@ IsCaller-learned shared held from before after receipts room Outcome.Done kept s
   within = kept.within;
   few = kept.few;
 }
-IsCaller-learned shared held from before after receipts room Outcome.NoProcess kept same learns = unchanged shared before after receipts room kept learns.1
-IsCaller-learned shared held from before after receipts room Outcome.NoNote kept same learns = unchanged shared before after receipts room kept learns
-IsCaller-learned shared held from before after receipts room Outcome.Busy kept same learns = unchanged shared before after receipts room kept learns
-IsCaller-learned shared held from before after receipts room Outcome.WrongHandle kept same learns = absurd learns
-IsCaller-learned shared held from before after receipts room Outcome.InUse kept same learns = absurd learns
-IsCaller-learned shared held from before after receipts room Outcome.NoMemory kept same learns = absurd learns
-IsCaller-learned shared held from before after receipts room Outcome.BadBook kept same learns = absurd learns
-IsCaller-learned shared held from before after receipts room Outcome.NoCaller kept same learns = absurd learns
-IsCaller-learned shared held from before after receipts room Outcome.NoAccount kept same learns = absurd learns
-IsCaller-learned shared held from before after receipts room Outcome.NoRoom kept same learns = absurd learns
-IsCaller-learned shared held from before after receipts room Outcome.NoPayOut kept same learns = absurd learns
-IsCaller-learned shared held from before after receipts room Outcome.CallersOut kept same learns = absurd learns
+IsCaller-took_in shared held from before after receipts room Outcome.NoProcess kept same learns = unchanged shared before after receipts room kept learns.1
+IsCaller-took_in shared held from before after receipts room Outcome.NoNote kept same learns = unchanged shared before after receipts room kept learns
+IsCaller-took_in shared held from before after receipts room Outcome.Busy kept same learns = unchanged shared before after receipts room kept learns
+IsCaller-took_in shared held from before after receipts room Outcome.WrongHandle kept same learns = absurd learns
+IsCaller-took_in shared held from before after receipts room Outcome.InUse kept same learns = absurd learns
+IsCaller-took_in shared held from before after receipts room Outcome.NoMemory kept same learns = absurd learns
+IsCaller-took_in shared held from before after receipts room Outcome.BadBook kept same learns = absurd learns
+IsCaller-took_in shared held from before after receipts room Outcome.NoCaller kept same learns = absurd learns
+IsCaller-took_in shared held from before after receipts room Outcome.NoAccount kept same learns = absurd learns
+IsCaller-took_in shared held from before after receipts room Outcome.NoRoom kept same learns = absurd learns
+IsCaller-took_in shared held from before after receipts room Outcome.NoPayOut kept same learns = absurd learns
+IsCaller-took_in shared held from before after receipts room Outcome.CallersOut kept same learns = absurd learns
 
 -- the next pass that comes back keeps a ledger
 pub IsOpened-back : (shared : SharedTerms) (given : ℕ) (waiting passes passes_now : List PassTerms) (receipts receipts_now : List (List Receipt))

@@ -49,7 +49,7 @@ pub record ReportedTerms : Type 0 where
 
 -- the text is the report of the closed ledger: of all its calls, in one order in which the ledger answers each as it was answered, and
 -- in which each call that had ended before another began stands before it
-pub record IsReport (closed : ClosedTerms) (names : NameList) (text : List ℕ) : Type 0 where
+pub record IsReportOfClosed (closed : ClosedTerms) (names : NameList) (text : List ℕ) : Type 0 where
   pub text_is : text ≡ report_text closed.book names (journal_lines closed.closing)
   pub whole : Whole (calls_in closed.closing) (journal_lines closed.closing)
   pub legal : Legal closed.book (journal_lines closed.closing)

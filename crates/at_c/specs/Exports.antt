@@ -10,7 +10,7 @@ use Rattle.at_ledger.specs.declared.call.Reply.{Reply}
 use Rattle.at_ledger.specs.declared.call.Reply.TheVariants as reply
 use Rattle.at_c.specs.Callers.{CallerLearns, CallerNotes, OwnCallerTerms, MakesCall}
 use Rattle.at_c.specs.Endings.{EndsAs, GatheredTerms}
-use Rattle.at_c.specs.Ledgers.{Gathers, HandsOut, IsNewLedger, IsStillOpen, OpenedTerms}
+use Rattle.at_c.specs.Ledgers.{GathersPasses, HandsOut, IsNewLedger, IsStillOpen, OpenedTerms}
 use Rattle.at_c.specs.Why.{why_number}
 use Rattle.at_c.specs.declared.ending.Ending.{Ending}
 use Rattle.at_c.specs.declared.handing.Handed.{Handed}
@@ -242,7 +242,7 @@ EndsHeld before after outcome =
 -- what was to be closed was left so. A ledger of which a caller is out stays as it is, but that more may have come back
 abbrev pub ClosesHeld : Held → Held → Outcome → Type 0
 ClosesHeld (Held.Ledger l) after Outcome.CallersOut = (l' : OpenedTerms) × (after ≡ Held.Ledger l') × IsStillOpen l l'
-ClosesHeld (Held.Ledger l) after outcome = (g : GatheredTerms) × Gathers l g × EndsHeld (Ending.Gathered g) after outcome
+ClosesHeld (Held.Ledger l) after outcome = (g : GatheredTerms) × GathersPasses l g × EndsHeld (Ending.Gathered g) after outcome
 ClosesHeld (Held.Ending e) after outcome = EndsHeld e after outcome
 ClosesHeld before after outcome = (outcome ≡ Outcome.WrongHandle) × (after ≡ before)
 

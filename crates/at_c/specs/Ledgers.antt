@@ -54,6 +54,6 @@ pub record IsStillOpen (before after : OpenedTerms) : Type 0 where
   pub more : length before.passes ≤ length after.passes
 
 -- all callers that were handed out are back, and with those that weren't they are all passes of the ledger
-pub record Gathers (o : OpenedTerms) (g : GatheredTerms) : Type 0 where
+pub record GathersPasses (o : OpenedTerms) (g : GatheredTerms) : Type 0 where
   pub ledger_is : g.ledger ≡ o.shared.ledger
   pub names_are : g.names ≡ o.shared.names

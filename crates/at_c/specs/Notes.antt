@@ -8,20 +8,20 @@ use Rattle.at_object.specs.Passes.{IsPassOf, PassTerms, Stands, asked_by, sent_b
 use Rattle.at_c.specs.declared.outcome.Outcome.{Outcome}
 
 -- the pass has made a note: that is one exchange
-abbrev pub noted : PassTerms → PassTerms
-noted pass = record pass { steps = raised pass.steps 1; exchanges = raised pass.exchanges 1 }
+abbrev pub one_note_more : PassTerms → PassTerms
+one_note_more pass = record pass { steps = raised pass.steps 1; exchanges = raised pass.exchanges 1 }
 
 -- a pass was to leave a note for a process. Where it is done, one was made. Where it isn't, nothing has changed: there is no such
 -- process, or the other one is just there
 abbrev pub Notes : BoardTerms → ℕ → PassTerms → PassTerms → Outcome → Type 0
-Notes ledger to before after Outcome.Done = after ≡ noted before
+Notes ledger to before after Outcome.Done = after ≡ one_note_more before
 Notes ledger to before after Outcome.NoProcess = (ledger.book.processes ≤ to) × (after ≡ before)
 Notes ledger to before after Outcome.Busy = after ≡ before
 Notes ledger to before after other = ⊥
 
 -- the pass has taken in a note of its ledger: it has seen what it had seen and what the note has seen, and nothing else of what it has
 -- done has changed. That is one exchange
-pub record HasLearned (ledger : BoardTerms) (before after : PassTerms) : Type 0 where
+pub record HasTakenIn (ledger : BoardTerms) (before after : PassTerms) : Type 0 where
   pub note : SeatTerms
   pub of_ledger : IsOf note ledger
   pub learned : after.knows.seen ≡ longer before.knows.seen note.knows.seen
@@ -39,9 +39,9 @@ pub record HasLearned (ledger : BoardTerms) (before after : PassTerms) : Type 0 
 
 -- a pass was to take in what a process has left for it. Where it isn't done, nothing has changed: there is no such process, it has left
 -- nothing, or it is just there
-abbrev pub Learns : BoardTerms → ℕ → PassTerms → PassTerms → Outcome → Type 0
-Learns ledger from before after Outcome.Done = HasLearned ledger before after
-Learns ledger from before after Outcome.NoProcess = (ledger.book.processes ≤ from) × (after ≡ before)
-Learns ledger from before after Outcome.NoNote = after ≡ before
-Learns ledger from before after Outcome.Busy = after ≡ before
-Learns ledger from before after other = ⊥
+abbrev pub TakesIn : BoardTerms → ℕ → PassTerms → PassTerms → Outcome → Type 0
+TakesIn ledger from before after Outcome.Done = HasTakenIn ledger before after
+TakesIn ledger from before after Outcome.NoProcess = (ledger.book.processes ≤ from) × (after ≡ before)
+TakesIn ledger from before after Outcome.NoNote = after ≡ before
+TakesIn ledger from before after Outcome.Busy = after ≡ before
+TakesIn ledger from before after other = ⊥

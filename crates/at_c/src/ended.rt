@@ -1,7 +1,7 @@
 //! Closed ledgers, and their reports.
 
 ghost use Rattle.std.specs.Prelude.{◌≡◌, IfErr, IfOk};
-ghost use Rattle.at_c.specs.Endings.{IsReport};
+ghost use Rattle.at_c.specs.Endings.{IsReportOfClosed};
 
 use at_files::Names;
 use at_journal::journal;
@@ -35,19 +35,19 @@ pub struct Reported {
 }
 
 impl Model for Reported {
-    ghost use Rattle.at_c.specs.Endings.{IsReport, ReportedTerms};
+    ghost use Rattle.at_c.specs.Endings.{IsReportOfClosed, ReportedTerms};
 
     ghost Value = { ReportedTerms };
 
     ghost view = { λ r. record { ended = r.ended; text = r.text.items } };
 
-    ghost invariant = { λ r. IsReport r.ended.closed r.ended.names r.text.items };
+    ghost invariant = { λ r. IsReportOfClosed r.ended.closed r.ended.names r.text.items };
 }
 
 impl Ended {
     /// The bytes of the report. The work grows with the calls.
     fn text(&self, alloc: Global) -> Result<Vec<u8>, NoMemory>
-        ensures { IfOk result (λ text. IsReport self.now.closed self.now.names text.items) }
+        ensures { IfOk result (λ text. IsReportOfClosed self.now.closed self.now.names text.items) }
     {
         let book = self.closed.book();
         let lines = journal(alloc, book, self.closed.closing())?;

@@ -7,7 +7,7 @@ ghost use Rattle.at_files.specs.Names.{AreNamesOf};
 ghost use Rattle.at_files.specs.Records.{file_records};
 ghost use Rattle.at_log.specs.Receipts.{lists_in};
 ghost use Rattle.at_object.specs.Passes.{AreNewPasses};
-ghost use Rattle.at_c.specs.Ledgers.{Gathers, HandsOut, IsNewLedger, IsStillOpen};
+ghost use Rattle.at_c.specs.Ledgers.{GathersPasses, HandsOut, IsNewLedger, IsStillOpen};
 
 use crate::caller::Caller;
 use crate::gathered::Gathered;
@@ -159,7 +159,7 @@ impl Opened {
 
     /// The ledger alone with all its passes, where all callers were given back.
     pub(crate) fn gathered(mut self, alloc: Global) -> Result<Gathered, Opened>
-        ensures ok { IfOk result (Gathers self) }
+        ensures ok { IfOk result (GathersPasses self) }
         ensures err { IfErr result (IsStillOpen self) }
     {
         if !self.take_back() {
