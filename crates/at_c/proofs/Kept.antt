@@ -18,7 +18,7 @@ use Rattle.at_object.specs.Passes.{AreNewPasses, IsNewPass, IsPassOf, PassTerms,
 use Rattle.at_c.specs.Callers.{OwnCallerTerms, IsCaller}
 use Rattle.at_c.specs.Given.{AreReceipts}
 use Rattle.at_c.specs.Ledgers.{IsOpened, OpenedTerms}
-use Rattle.at_c.specs.Notes.{TakesIn}
+use Rattle.at_c.specs.Notes.{TakesInNote}
 use Rattle.at_c.specs.Shared.{SharedTerms}
 use Rattle.at_c.specs.declared.outcome.Outcome.{Outcome}
 
@@ -128,7 +128,7 @@ back-push shared passes receipts pass list even back next p d inside =
 
 -- what a caller has taken in keeps it
 pub IsCaller-took_in : (shared held : SharedTerms) (from : ℕ) (before after : PassTerms) (receipts : List Receipt) (room : ℕ) (outcome : Outcome)
-    → IsCaller (caller_of shared before receipts room) → held ≡ shared → TakesIn held.ledger from before after outcome
+    → IsCaller (caller_of shared before receipts room) → held ≡ shared → TakesInNote held.ledger from before after outcome
     → IsCaller (caller_of shared after receipts room)
 IsCaller-took_in shared held from before after receipts room Outcome.Done kept same learns = record {
   account = record {

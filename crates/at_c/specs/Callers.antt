@@ -6,7 +6,7 @@ use Rattle.at_log.specs.declared.receipt.Receipt.{Receipt}
 use Rattle.at_object.specs.Calls.{CallMade, StaysWithin}
 use Rattle.at_object.specs.Passes.{PassTerms}
 use Rattle.at_c.specs.Given.{IsGivenBack}
-use Rattle.at_c.specs.Notes.{TakesIn, Notes}
+use Rattle.at_c.specs.Notes.{TakesInNote, Notes}
 use Rattle.at_c.specs.declared.outcome.Outcome.{Outcome}
 use Rattle.at_c.specs.Shared.{SharedTerms}
 
@@ -43,4 +43,4 @@ CallerNotes process before after outcome =
 
 abbrev pub CallerLearns : ℕ → OwnCallerTerms → OwnCallerTerms → Outcome → Type 0
 CallerLearns process before after outcome =
-    TakesIn before.shared.ledger process before.pass after.pass outcome × (after ≡ record before { pass = after.pass })
+    TakesInNote before.shared.ledger process before.pass after.pass outcome × (after ≡ record before { pass = after.pass })

@@ -39,9 +39,9 @@ pub record HasTakenIn (ledger : BoardTerms) (before after : PassTerms) : Type 0 
 
 -- a pass was to take in what a process has left for it. Where it isn't done, nothing has changed: there is no such process, it has left
 -- nothing, or it is just there
-abbrev pub TakesIn : BoardTerms → ℕ → PassTerms → PassTerms → Outcome → Type 0
-TakesIn ledger from before after Outcome.Done = HasTakenIn ledger before after
-TakesIn ledger from before after Outcome.NoProcess = (ledger.book.processes ≤ from) × (after ≡ before)
-TakesIn ledger from before after Outcome.NoNote = after ≡ before
-TakesIn ledger from before after Outcome.Busy = after ≡ before
-TakesIn ledger from before after other = ⊥
+abbrev pub TakesInNote : BoardTerms → ℕ → PassTerms → PassTerms → Outcome → Type 0
+TakesInNote ledger from before after Outcome.Done = HasTakenIn ledger before after
+TakesInNote ledger from before after Outcome.NoProcess = (ledger.book.processes ≤ from) × (after ≡ before)
+TakesInNote ledger from before after Outcome.NoNote = after ≡ before
+TakesInNote ledger from before after Outcome.Busy = after ≡ before
+TakesInNote ledger from before after other = ⊥

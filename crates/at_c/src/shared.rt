@@ -5,7 +5,7 @@ ghost use Rattle.at_board.specs.Knowledge.Seats.{BoardTerms};
 ghost use Rattle.at_files.specs.Names.{AreNamesOf};
 ghost use Rattle.at_object.specs.Passes.{IsPassOf};
 ghost use Rattle.at_c.specs.Given.{IsGivenBack};
-ghost use Rattle.at_c.specs.Notes.{TakesIn, Notes};
+ghost use Rattle.at_c.specs.Notes.{TakesInNote, Notes};
 
 use crate::given::{Given, Left};
 use crate::outcome::Outcome;
@@ -158,7 +158,7 @@ impl Shared {
     pub(crate) fn learn(&self, pass: &mut Pass, from: u32) -> Outcome
         requires pass { IsPassOf pass.old self.now.ledger }
         requires process { pass.old.knows.first < self.now.ledger.book.processes }
-        ensures { TakesIn self.now.ledger from pass.old pass.new result }
+        ensures { TakesInNote self.now.ledger from pass.old pass.new result }
     {
         if from >= self.ledger.book().processes() {
             return Outcome::NoProcess;
