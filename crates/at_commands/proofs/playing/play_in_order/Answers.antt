@@ -1,4 +1,4 @@
-use Rattle.std.proofs.Common.{◌≡◌, ◌∙◌, length, refl}
+use Rattle.std.proofs.Common.{◌∙◌, length}
 use Rattle.std.proofs.lemmas.List.{length-map}
 use Rattle.at_ledger.specs.Files.{contents_of}
 use Rattle.at_commands.proofs.JobsNoting.{IsPlayed-closed}
