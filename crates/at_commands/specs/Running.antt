@@ -18,7 +18,7 @@ use Rattle.at_workers.specs.Costs.{CostTerms, TakeCalls}
 use Rattle.at_workers.specs.Jobs.{IsReady, JobTerms}
 
 -- this is a ledger of the book, and there is a new pass on it for each process
-pub record IsOpened (b : BookTerms) (ledger : BoardTerms) (passes : List PassTerms) : Type 0 where
+pub record HasNewPasses (b : BookTerms) (ledger : BoardTerms) (passes : List PassTerms) : Type 0 where
   pub book_is : ledger.book ≡ b
   pub passes_are : AreNewPasses ledger passes
 

@@ -1,7 +1,7 @@
 //! Opening a ledger while the calls for it are read.
 
 ghost use Rattle.std.specs.Prelude.{◌≡◌, ◌≤◌, ℕ, length, true, All, Ok, Err, IfOk, IfErr, OnOk};
-ghost use Rattle.at_commands.specs.Running.{IsOpened};
+ghost use Rattle.at_commands.specs.Running.{HasNewPasses};
 ghost use Rattle.at_io.specs.Shelf.{SameFiles};
 ghost use Rattle.at_ledger.specs.Files.{IsPlayable, contents_of};
 ghost use Rattle.at_loading.specs.Faults.{HasFileNumbers, MayRefuse};
@@ -32,7 +32,7 @@ pub(crate) fn open_and_load<R: Threads, F: Shelf>(
 )
     requires { IsBookRead (F.tells shelf.old) (F.file shelf.old) form.now.book.now
         (words_of form.now.payments.now) (named_book book.now names.now) }
-    ensures opened { IfOk result.0 (λ r. IsOpened book.now r.0 r.1.items) }
+    ensures opened { IfOk result.0 (λ r. HasNewPasses book.now r.0 r.1.items) }
     ensures files { SameFiles (F.tells shelf.old) (F.tells shelf.new) (F.file shelf.old)
         (F.file shelf.new) }
     ensures later { F.faults shelf.old ≤ F.faults shelf.new }

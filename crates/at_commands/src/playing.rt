@@ -7,7 +7,7 @@ ghost use Rattle.at_ledger.specs.Call.{IsCallOn};
 ghost use Rattle.at_log.specs.Receipts.{calls_of, lists_in};
 ghost use Rattle.at_object.specs.Closings.{AreAccountedFor};
 ghost use Rattle.at_object.specs.Passes.{AreNewPasses, Stands};
-ghost use Rattle.at_commands.specs.Running.{AreCosts, AreJobsFor, IsClosedAfter, IsOpened, IsPlayed, IsPlayedInOrder, IsPlayedNoting, costs_in};
+ghost use Rattle.at_commands.specs.Running.{AreCosts, AreJobsFor, HasNewPasses, IsClosedAfter, IsPlayed, IsPlayedInOrder, IsPlayedNoting, costs_in};
 ghost use Rattle.at_workers.specs.Jobs.{JobTerms};
 
 use at_journal::{CallAt, journal, journal_calls};
@@ -216,7 +216,7 @@ pub(crate) fn play_in_order<R: Threads + Sync, G: Gate + Sync>(
     files: Vec<Vec<Call>>,
     gate: &G,
 ) -> Result<(Closed, Vec<CallAt>), NoMemory>
-    requires opened { IsOpened book.now opened.0 opened.1.items }
+    requires opened { HasNewPasses book.now opened.0 opened.1.items }
     requires count { length files.items ≡ book.now.processes }
     requires known { All (IsPlayable (length book.now.accounts)) (contents_of files.items) }
     ensures { IfOk result (λ r. IsPlayedInOrder book.now (contents_of files.items) r.0 r.1.items) }

@@ -3,7 +3,7 @@
 ghost use Rattle.std.specs.Prelude.{◌≡◌, ◌≢◌, ◌≤◌, ℕ, All, length, sum_by, None, Err, IfOk, IfErr, OnOk};
 ghost use Rattle.at_commands.specs.Answer.{Prints, PrintsRead};
 ghost use Rattle.at_commands.specs.Answered.{AnsweredFiles};
-ghost use Rattle.at_commands.specs.Running.{IsOpened};
+ghost use Rattle.at_commands.specs.Running.{HasNewPasses};
 ghost use Rattle.at_ledger.specs.Files.{IsPlayable, contents_of};
 ghost use Rattle.at_files.specs.Names.{AreNamesOf};
 ghost use Rattle.at_io.specs.Faults.{Rose};
@@ -38,7 +38,7 @@ fn run_text<R: Threads + Sync, G: Gate + Sync>(
     gate: &G,
 ) -> Result<Printed, AllocError>
     requires names { AreNamesOf book.now names.now }
-    requires opened { IsOpened book.now opened.0 opened.1.items }
+    requires opened { HasNewPasses book.now opened.0 opened.1.items }
     requires count { length files.items ≡ book.now.processes }
     requires known { All (IsPlayable (length book.now.accounts)) (contents_of files.items) }
     ensures { IfOk result (λ p. Prints Command.Run
