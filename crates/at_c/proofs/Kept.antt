@@ -1,5 +1,5 @@
 -- What the types of callers and of ledgers keep.
-use Rattle.std.proofs.Common.{◌≡◌, ℕ, ◌+◌, ◌<◌, ◌≤◌, suc, List, [], ◌∷◌, ◌++◌, length, sym, ap, subst, ◌∙◌, arith, length-append, replicate, All, inl, inr, ◌-◌}
+use Rattle.std.proofs.Common.{◌≡◌, append_assoc, append-nil, ℕ, ◌+◌, ◌<◌, ◌≤◌, suc, List, [], ◌∷◌, ◌++◌, length, sym, ap, subst, ◌∙◌, arith, length-append, replicate, All, inl, inr, ◌-◌}
 use Rattle.std.proofs.Math.ListN.{get_or-append}
 use Rattle.std.proofs.Math.Seq.{get_or-append_right, get_or-append_seam}
 use Rattle.std.proofs.lemmas.Bool.{cases_lt}
@@ -17,8 +17,8 @@ use Rattle.at_object.specs.Closings.{AreAccountedFor, IsAccountedFor}
 use Rattle.at_object.specs.Passes.{AreNewPasses, IsNewPass, IsPassOf, PassTerms, Stands, one_more_call}
 use Rattle.at_c.specs.Callers.{OwnCallerTerms, IsCaller}
 use Rattle.at_c.specs.Given.{AreReceipts}
-use Rattle.at_c.specs.Ledgers.{IsOpened, OpenedTerms}
-use Rattle.at_c.specs.Notes.{TakesInNote}
+use Rattle.at_c.specs.Ledgers.{IsOpened, IsStillOpen, OpenedTerms}
+use Rattle.at_c.specs.Notes.{LearnsNote}
 use Rattle.at_c.specs.Shared.{SharedTerms}
 use Rattle.at_c.specs.declared.outcome.Outcome.{Outcome}
 
@@ -73,7 +73,7 @@ IsCaller-called shared held before after earlier receipts call r room capacity k
 abbrev pub opened_of : SharedTerms → ℕ → List PassTerms → List PassTerms → List (List Receipt) → ℕ → ℕ → OpenedTerms
 opened_of shared given waiting passes receipts passes_room receipts_room = record {
   shared = shared;
-  given = given;
+  handed = given;
   waiting = waiting;
   passes = passes;
   receipts = receipts;
@@ -127,32 +127,34 @@ back-push shared passes receipts pass list even back next p d inside =
     ]
 
 -- what a caller has taken in keeps it
-pub IsCaller-took_in : (shared held : SharedTerms) (from : ℕ) (before after : PassTerms) (receipts : List Receipt) (room : ℕ) (outcome : Outcome)
-    → IsCaller (caller_of shared before receipts room) → held ≡ shared → TakesInNote held.ledger from before after outcome
+pub IsCaller-learned : (shared held : SharedTerms) (from : ℕ) (before after : PassTerms) (receipts : List Receipt) (room : ℕ) (outcome : Outcome)
+    → IsCaller (caller_of shared before receipts room) → held ≡ shared → LearnsNote held.ledger from before after outcome
     → IsCaller (caller_of shared after receipts room)
-IsCaller-took_in shared held from before after receipts room Outcome.Done kept same learns = record {
-  account = record {
-    of_ledger = subst (λ (s : SharedTerms). IsPassOf after s.ledger) same learns.pass_is;
-    stands = learns.stands receipts kept.account.stands;
-    counted = learns.calls_are ∙ kept.account.counted;
-    are = kept.account.are;
-  };
-  process = subst (λ n. n < shared.ledger.book.processes) (sym learns.process_is) kept.process;
-  within = kept.within;
-  few = kept.few;
-}
-IsCaller-took_in shared held from before after receipts room Outcome.NoProcess kept same learns = unchanged shared before after receipts room kept learns.1
-IsCaller-took_in shared held from before after receipts room Outcome.NoNote kept same learns = unchanged shared before after receipts room kept learns
-IsCaller-took_in shared held from before after receipts room Outcome.Busy kept same learns = unchanged shared before after receipts room kept learns
-IsCaller-took_in shared held from before after receipts room Outcome.WrongHandle kept same learns = absurd learns
-IsCaller-took_in shared held from before after receipts room Outcome.InUse kept same learns = absurd learns
-IsCaller-took_in shared held from before after receipts room Outcome.NoMemory kept same learns = absurd learns
-IsCaller-took_in shared held from before after receipts room Outcome.BadBook kept same learns = absurd learns
-IsCaller-took_in shared held from before after receipts room Outcome.NoCaller kept same learns = absurd learns
-IsCaller-took_in shared held from before after receipts room Outcome.NoAccount kept same learns = absurd learns
-IsCaller-took_in shared held from before after receipts room Outcome.NoRoom kept same learns = absurd learns
-IsCaller-took_in shared held from before after receipts room Outcome.NoPayOut kept same learns = absurd learns
-IsCaller-took_in shared held from before after receipts room Outcome.CallersOut kept same learns = absurd learns
+IsCaller-learned shared held from before after receipts room Outcome.Done kept same learns =
+    let learned = learns.1.learned in
+    record {
+      account = record {
+        of_ledger = subst (λ (s : SharedTerms). IsPassOf after s.ledger) same learned.of_ledger;
+        stands = learned.stands receipts kept.account.stands;
+        counted = learned.calls_are ∙ kept.account.counted;
+        are = kept.account.are;
+      };
+      process = subst (λ n. n < shared.ledger.book.processes) (sym learned.process_is) kept.process;
+      within = kept.within;
+      few = kept.few;
+    }
+IsCaller-learned shared held from before after receipts room Outcome.NoProcess kept same learns = unchanged shared before after receipts room kept learns.1
+IsCaller-learned shared held from before after receipts room Outcome.NoNote kept same learns = unchanged shared before after receipts room kept learns.1
+IsCaller-learned shared held from before after receipts room Outcome.Busy kept same learns = unchanged shared before after receipts room kept learns.1
+IsCaller-learned shared held from before after receipts room Outcome.WrongHandle kept same learns = absurd learns
+IsCaller-learned shared held from before after receipts room Outcome.InUse kept same learns = absurd learns
+IsCaller-learned shared held from before after receipts room Outcome.NoMemory kept same learns = absurd learns
+IsCaller-learned shared held from before after receipts room Outcome.BadBook kept same learns = absurd learns
+IsCaller-learned shared held from before after receipts room Outcome.NoCaller kept same learns = absurd learns
+IsCaller-learned shared held from before after receipts room Outcome.NoAccount kept same learns = absurd learns
+IsCaller-learned shared held from before after receipts room Outcome.NoRoom kept same learns = absurd learns
+IsCaller-learned shared held from before after receipts room Outcome.NoPayOut kept same learns = absurd learns
+IsCaller-learned shared held from before after receipts room Outcome.CallersOut kept same learns = absurd learns
 
 -- the next pass that comes back keeps a ledger
 pub IsOpened-back : (shared : SharedTerms) (given : ℕ) (waiting passes passes_now : List PassTerms) (receipts receipts_now : List (List Receipt))
@@ -237,3 +239,35 @@ module _ (shared : SharedTerms) (given : ℕ) (waiting passes : List PassTerms) 
       All-append (AreReceipts (length shared.ledger.book.accounts)) receipts unused kept.are
       (All-replicate (AreReceipts (length shared.ledger.book.accounts)) (length waiting) []
       (record { few = omega arith; known = All-nil (IsCallOn (length shared.ledger.book.accounts)) }))
+
+-- a ledger is still as it was
+pub IsStillOpen-none : (o : OpenedTerms) → IsStillOpen o o
+IsStillOpen-none o = record {
+  passes = [];
+  receipts = [];
+  same = λ i. record o { passes = sym (append-nil o.passes) i; receipts = sym (append-nil o.receipts) i };
+}
+
+-- one more pass came back
+pub IsStillOpen-back : (shared : SharedTerms) (handed : ℕ) (waiting passes passes_now : List PassTerms) (receipts receipts_now : List (List Receipt))
+    (m n m_now n_now : ℕ) (pass : PassTerms) (list : List Receipt) → passes_now ≡ passes ++ pass ∷ [] → receipts_now ≡ receipts ++ list ∷ []
+    → m_now ≡ m → n_now ≡ n
+    → IsStillOpen (opened_of shared handed waiting passes receipts m n) (opened_of shared handed waiting passes_now receipts_now m_now n_now)
+IsStillOpen-back shared handed waiting passes passes_now receipts receipts_now m n m_now n_now pass list ps rs ms ns = record {
+  passes = pass ∷ [];
+  receipts = list ∷ [];
+  same = λ i. opened_of shared handed waiting (ps i) (rs i) (ms i) (ns i);
+}
+
+-- and then others
+pub IsStillOpen-more : (a b c : OpenedTerms) → IsStillOpen a b → IsStillOpen b c → IsStillOpen a c
+IsStillOpen-more a b c one two = record {
+  passes = one.passes ++ two.passes;
+  receipts = one.receipts ++ two.receipts;
+  same =
+      two.same ∙ ap (λ (o : OpenedTerms). record o { passes = o.passes ++ two.passes; receipts = o.receipts ++ two.receipts }) one.same
+      ∙ (λ i. record a {
+        passes = append_assoc a.passes one.passes two.passes i;
+        receipts = append_assoc a.receipts one.receipts two.receipts i;
+      });
+}

@@ -1,4 +1,5 @@
 pub mod Kept
 mod Lines
+mod Places
 pub mod Sharing
 mod Walks

@@ -54,7 +54,7 @@ use Rattle.at_c.specs.contracts.ended.Reported as reported
 use Rattle.at_c.specs.contracts.ending.Ending as ending
 use Rattle.at_c.specs.contracts.gathered.Gathered as gathered
 use Rattle.at_c.specs.contracts.given.Given as given
-use Rattle.at_c.specs.contracts.given.Left as left
+use Rattle.at_c.specs.contracts.given.LeftNote as left
 use Rattle.at_c.specs.contracts.shared.Shared as shared
 
 heap_send : IsSend heap.the_row

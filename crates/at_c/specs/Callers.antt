@@ -6,7 +6,7 @@ use Rattle.at_log.specs.declared.receipt.Receipt.{Receipt}
 use Rattle.at_object.specs.Calls.{CallMade, StaysWithin}
 use Rattle.at_object.specs.Passes.{PassTerms}
 use Rattle.at_c.specs.Given.{IsGivenBack}
-use Rattle.at_c.specs.Notes.{TakesInNote, Notes}
+use Rattle.at_c.specs.Notes.{LearnsNote, LeavesNote}
 use Rattle.at_c.specs.declared.outcome.Outcome.{Outcome}
 use Rattle.at_c.specs.Shared.{SharedTerms}
 
@@ -39,8 +39,8 @@ pub record MakesCall (call : Call) (before after : OwnCallerTerms) (reply : Repl
 -- the caller was to leave a note, or to take one in, and nothing of it has changed but what its pass has seen and counted
 abbrev pub CallerNotes : ℕ → OwnCallerTerms → OwnCallerTerms → Outcome → Type 0
 CallerNotes process before after outcome =
-    Notes before.shared.ledger process before.pass after.pass outcome × (after ≡ record before { pass = after.pass })
+    LeavesNote before.shared.ledger process before.pass after.pass outcome × (after ≡ record before { pass = after.pass })
 
 abbrev pub CallerLearns : ℕ → OwnCallerTerms → OwnCallerTerms → Outcome → Type 0
 CallerLearns process before after outcome =
-    TakesInNote before.shared.ledger process before.pass after.pass outcome × (after ≡ record before { pass = after.pass })
+    LearnsNote before.shared.ledger process before.pass after.pass outcome × (after ≡ record before { pass = after.pass })

@@ -1,15 +1,19 @@
 -- How a ledger ends: all callers have given their passes back, the ledger is closed, and its report is made.
-use Rattle.std.specs.Prelude.{◌≡◌, ℕ, List, length, All}
-use Rattle.at_ledger.specs.Run.{Legal, Whole}
+use Rattle.std.specs.Prelude.{◌≡◌, ◌^◌, ◌<◌, ℕ, List, length, All}
+use Rattle.at_ledger.specs.Run.{Legal, Whole, last_state}
+use Rattle.at_ledger.specs.State.{balance_of}
+use Rattle.at_ledger.specs.declared.call.Line.{Line}
+use Rattle.at_history.specs.Balances.{balance_after}
 use Rattle.at_board.specs.Knowledge.Seats.{BoardTerms}
 use Rattle.at_files.specs.Names.{AreNamesOf, NameList}
 use Rattle.at_journal.specs.Calls.{calls_in}
 use Rattle.at_journal.specs.Linearizable.{AreTimed, CallTimes, IsLinearizable}
-use Rattle.at_log.specs.JournalOrder.{journal_lines}
+use Rattle.at_log.specs.Coherent.{Coherent}
+use Rattle.at_log.specs.JournalOrder.{journal_lines, journal_order}
 use Rattle.at_log.specs.declared.receipt.Receipt.{Receipt}
 use Rattle.at_object.specs.Closings.{AreAccountedFor, ClosedTerms, HasAllLogs}
 use Rattle.at_object.specs.Passes.{PassTerms}
-use Rattle.at_report.specs.Report.{report_text}
+use Rattle.at_report.specs.Report.{IsPrinted, report_text}
 use Rattle.at_c.specs.Given.{AreReceipts}
 
 -- a ledger with the names of its book, all its passes and the receipts of all calls
@@ -35,23 +39,29 @@ pub record IsEnded (e : EndedTerms) : Type 0 where
   pub named : AreNamesOf e.closed.book e.names
   pub are : All (AreReceipts (length e.closed.book.accounts)) e.closed.closing.receipts
 
--- the ledger was closed with these passes and receipts
+-- this very ledger was closed, with these passes and receipts
 pub record EndsAs (g : GatheredTerms) (e : EndedTerms) : Type 0 where
+  pub board_is : e.closed.id ≡ g.ledger.id
   pub book_is : e.closed.book ≡ g.ledger.book
   pub names_are : e.names ≡ g.names
   pub receipts_are : e.closed.closing.receipts ≡ g.receipts
   pub logs : HasAllLogs g.passes e.closed
+  pub coherent : Coherent e.closed.book e.closed.closing
 
 -- the same with its report
 pub record ReportedTerms : Type 0 where
   pub ended : EndedTerms
   pub text : List ℕ
 
--- the text is the report of the closed ledger: of all its calls, in one order in which the ledger answers each as it was answered, and
--- in which each call that had ended before another began stands before it
+-- the text is the report of the closed ledger, and of no other lines: of all its calls, in one order in which the ledger answers each as
+-- it was answered. Some order of these lines is legal and has each call that had ended before another began before it
 pub record IsReportOfClosed (closed : ClosedTerms) (names : NameList) (text : List ℕ) : Type 0 where
   pub text_is : text ≡ report_text closed.book names (journal_lines closed.closing)
+  pub spells : (others : List Line) → length others < 2 ^ 64 → All (IsPrinted closed.book) (journal_lines closed.closing)
+      → All (IsPrinted closed.book) others → text ≡ report_text closed.book names others → journal_lines closed.closing ≡ others
   pub whole : Whole (calls_in closed.closing) (journal_lines closed.closing)
   pub legal : Legal closed.book (journal_lines closed.closing)
+  pub balances : (a : ℕ) → a < length closed.book.accounts →
+      balance_of (last_state closed.book (journal_lines closed.closing)) a ≡ balance_after closed.book (journal_order closed.closing) a
   pub linearizable : (times : CallTimes) → AreTimed closed.closing times
       → IsLinearizable closed.book (calls_in closed.closing) times (journal_lines closed.closing)

@@ -9,7 +9,7 @@ use Rattle.at_ledger.specs.declared.call.Call.{Call}
 use Rattle.at_ledger.specs.declared.call.Reply.{Reply}
 use Rattle.at_ledger.specs.declared.call.Reply.TheVariants as reply
 use Rattle.at_c.specs.Callers.{CallerLearns, CallerNotes, OwnCallerTerms, MakesCall}
-use Rattle.at_c.specs.Endings.{EndsAs, GatheredTerms}
+use Rattle.at_c.specs.Endings.{EndsAs, GatheredTerms, IsReportOfClosed}
 use Rattle.at_c.specs.Ledgers.{GathersPasses, HandsOut, IsNewLedger, IsStillOpen, OpenedTerms}
 use Rattle.at_c.specs.Why.{why_number}
 use Rattle.at_c.specs.declared.ending.Ending.{Ending}
@@ -175,7 +175,7 @@ abbrev pub exchanges_by_handle : Option Held → ℕ
 exchanges_by_handle None = 0
 exchanges_by_handle (Some held) = exchanges_of_held held
 
--- a handle was given to leave a note for a process, or to take in what one has left: the caller that it holds does. Where it holds none,
+-- a handle was given to leave a note for a process, or to learn what one has left: the caller that it holds does. Where it holds none,
 -- nothing has changed
 abbrev pub HandleNotes : ℕ → Option Held → Option Held → Outcome → Type 0
 HandleNotes process (Some (Held.Caller c)) after outcome =
@@ -194,9 +194,9 @@ IsNoCaller (Held.Ledger l) = ⊤
 IsNoCaller (Held.Caller c) = ⊥
 IsNoCaller (Held.Ending e) = ⊤
 
--- what was to be given back was left so
+-- what giving back leaves of what is held
 abbrev pub GivesBackHeld : Held → Held → Outcome → Type 0
-GivesBackHeld before after Outcome.Done = (c : OwnCallerTerms) × (before ≡ Held.Caller c)
+GivesBackHeld before after Outcome.Done = (c : OwnCallerTerms) × (before ≡ Held.Caller c) × (after ≡ Held.Nothing)
 GivesBackHeld before after Outcome.Busy = (c : OwnCallerTerms) × (before ≡ Held.Caller c) × (after ≡ before)
 GivesBackHeld before after Outcome.WrongHandle = IsNoCaller before × (after ≡ before)
 GivesBackHeld before after other = ⊥
@@ -216,17 +216,17 @@ GivesBack before after Outcome.Busy = HoldsCaller before × (after ≡ before)
 GivesBack before after Outcome.WrongHandle = HoldsNoCaller before × (after ≡ before)
 GivesBack before after other = ⊥
 
--- how far an end has come from another: not at all, or on to its closed ledger or to its report
-abbrev pub ComesOf : Ending → Ending → Type 0
-ComesOf (Ending.Gathered g) (Ending.Gathered g') = g' ≡ g
-ComesOf (Ending.Gathered g) (Ending.Closed e) = EndsAs g e
-ComesOf (Ending.Gathered g) (Ending.Reported r) = EndsAs g r.ended
-ComesOf (Ending.Closed e) (Ending.Gathered g) = ⊥
-ComesOf (Ending.Closed e) (Ending.Closed e') = e' ≡ e
-ComesOf (Ending.Closed e) (Ending.Reported r) = r.ended ≡ e
-ComesOf (Ending.Reported r) (Ending.Gathered g) = ⊥
-ComesOf (Ending.Reported r) (Ending.Closed e) = ⊥
-ComesOf (Ending.Reported r) (Ending.Reported r') = r' ≡ r
+-- how far an end goes on to another: not at all, or to its closed ledger, or to the report of that
+abbrev pub GoesOnTo : Ending → Ending → Type 0
+GoesOnTo (Ending.Gathered g) (Ending.Gathered g') = g' ≡ g
+GoesOnTo (Ending.Gathered g) (Ending.Closed e) = EndsAs g e
+GoesOnTo (Ending.Gathered g) (Ending.Reported r) = EndsAs g r.ended × IsReportOfClosed r.ended.closed r.ended.names r.text
+GoesOnTo (Ending.Closed e) (Ending.Gathered g) = ⊥
+GoesOnTo (Ending.Closed e) (Ending.Closed e') = e' ≡ e
+GoesOnTo (Ending.Closed e) (Ending.Reported r) = (r.ended ≡ e) × IsReportOfClosed r.ended.closed r.ended.names r.text
+GoesOnTo (Ending.Reported r) (Ending.Gathered g) = ⊥
+GoesOnTo (Ending.Reported r) (Ending.Closed e) = ⊥
+GoesOnTo (Ending.Reported r) (Ending.Reported r') = r' ≡ r
 
 -- it is done where the report is made, and else memory was wanting
 abbrev pub ending_outcome : Ending → Outcome
@@ -237,9 +237,9 @@ ending_outcome (Ending.Reported r) = Outcome.Done
 -- an end went on, and this is held now
 abbrev pub EndsHeld : Ending → Held → Outcome → Type 0
 EndsHeld before after outcome =
-    (e : Ending) × (after ≡ Held.Ending e) × ComesOf before e × (outcome ≡ ending_outcome e)
+    (e : Ending) × (after ≡ Held.Ending e) × GoesOnTo before e × (outcome ≡ ending_outcome e)
 
--- what was to be closed was left so. A ledger of which a caller is out stays as it is, but that more may have come back
+-- what closing leaves of what is held. A ledger of which a caller is out stays as it is, but that more may have come back
 abbrev pub ClosesHeld : Held → Held → Outcome → Type 0
 ClosesHeld (Held.Ledger l) after Outcome.CallersOut = (l' : OpenedTerms) × (after ≡ Held.Ledger l') × IsStillOpen l l'
 ClosesHeld (Held.Ledger l) after outcome = (g : GatheredTerms) × GathersPasses l g × EndsHeld (Ending.Gathered g) after outcome
@@ -267,7 +267,7 @@ abbrev pub report_by_handle : Option Held → List ℕ
 report_by_handle None = []
 report_by_handle (Some held) = report_of_held held
 
--- the text was written over the first bytes, if they are as many. Else all are as they were
-pub record IsWrittenOver (text before after : List ℕ) : Type 0 where
+-- the text stands over the first bytes, if they are as many. Else all are as they were
+pub record WritesOver (text before after : List ℕ) : Type 0 where
   pub written : length text ≤ length before → after ≡ text ++ drop (length text) before
   pub same : length before < length text → after ≡ before

@@ -56,7 +56,8 @@ impl Ended {
 
     /// The closed ledger with its report. Where there is no memory for that, all is as it was.
     pub(crate) fn reported(self, alloc: Global) -> Result<Reported, Ended>
-        ensures ok { IfOk result (λ r. r.ended ≡ self) }
+        ensures ended { IfOk result (λ r. r.ended ≡ self) }
+        ensures report { IfOk result (λ r. IsReportOfClosed r.ended.closed r.ended.names r.text) }
         ensures err { IfErr result (λ e. e ≡ self) }
     {
         match self.text(alloc) {

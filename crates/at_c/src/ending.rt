@@ -1,6 +1,6 @@
 //! The end of a ledger, as far as memory was found for it.
 
-ghost use Rattle.at_c.specs.Exports.{ComesOf};
+ghost use Rattle.at_c.specs.Exports.{GoesOnTo};
 
 use crate::ended::{Ended, Reported};
 use crate::gathered::Gathered;
@@ -20,7 +20,7 @@ pub enum Ending {
 impl Ending {
     /// Closes the ledger, if it isn't closed and there is memory for it.
     fn close(self, alloc: Global) -> Ending
-        ensures { ComesOf self result }
+        ensures { GoesOnTo self result }
     {
         match self {
             Ending::Gathered(gathered) => match gathered.closed(alloc) {
@@ -34,7 +34,7 @@ impl Ending {
 
     /// Makes the report of a closed ledger, if it isn't made and there is memory for it.
     fn report(self, alloc: Global) -> Ending
-        ensures { ComesOf self result }
+        ensures { GoesOnTo self result }
     {
         match self {
             Ending::Closed(ended) => match ended.reported(alloc) {
@@ -48,7 +48,7 @@ impl Ending {
 
     /// Comes to the report, as far as there is memory for it.
     pub(crate) fn go_on(self, alloc: Global) -> Ending
-        ensures { ComesOf self result }
+        ensures { GoesOnTo self result }
     {
         self.close(alloc).report(alloc)
     }

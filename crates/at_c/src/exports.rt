@@ -2,7 +2,7 @@
 
 ghost use Rattle.std.specs.Prelude.{◌≡◌, length, None};
 ghost use Rattle.at_ledger.specs.declared.call.Call.{Call};
-ghost use Rattle.at_c.specs.Exports.{Closes, GivesBack, HandleAnswers, HandleLearns, HandleNotes, HandlePays, HandsOutTo, IsWrittenOver, Opens, exchanges_by_handle, outcome_number, report_by_handle, steps_by_handle};
+ghost use Rattle.at_c.specs.Exports.{Closes, GivesBack, HandleAnswers, HandleLearns, HandleNotes, HandlePays, HandsOutTo, WritesOver, Opens, exchanges_by_handle, outcome_number, report_by_handle, steps_by_handle};
 ghost use Rattle.at_c.specs.declared.outcome.Outcome.{Outcome};
 
 use crate::handle::Handle;
@@ -157,7 +157,7 @@ pub extern "C" fn bezglami_close(alloc: Global, ledger: &mut Handle) -> u32
 #[unsafe(no_mangle)]
 pub extern "C" fn bezglami_report(alloc: Global, ledger: &mut Handle, bytes: &mut [u8]) -> usize
     ensures length { result ≡ length (report_by_handle ledger.old.held) }
-    ensures written { IsWrittenOver (report_by_handle ledger.old.held) bytes.old bytes.new }
+    ensures written { WritesOver (report_by_handle ledger.old.held) bytes.old bytes.new }
     ensures same { ledger.new.held ≡ ledger.old.held }
 {
     ledger.report(alloc, bytes)

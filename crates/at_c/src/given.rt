@@ -1,11 +1,20 @@
 //! What callers give back to their ledger, and what they leave for one another.
 
+ghost use Rattle.std.specs.Prelude.{◌≡◌};
 ghost use Rattle.at_board.specs.Knowledge.Seats.{IsOf};
 ghost use Rattle.at_c.specs.Given.{IsGivenBack};
 
 use at_log::Receipt;
 use at_object::{Ledger, Note, Pass};
 use counted_slot::Fits;
+use std::snapshot::Snapshot;
+
+/// Whose a place is: that of a process of a ledger. The ledger stands in clauses alone.
+#[derive(Drop)]
+pub struct Owner {
+    pub ledger: Snapshot<Ledger>,
+    pub process: u32,
+}
 
 /// A pass that its caller has given back, with the receipts of all its calls.
 #[derive(Drop)]
@@ -15,19 +24,20 @@ pub struct Given {
 }
 
 impl Fits for Given {
-    type Tag = Ledger;
+    type Tag = Owner;
 
-    ghost fits = { λ ledger g. IsGivenBack ledger g.pass g.receipts.items };
+    ghost fits = { λ o g. IsGivenBack o.ledger.value g.pass g.receipts.items
+        × (g.pass.knows.first ≡ o.process) };
 }
 
-/// A note that one caller has left for another.
+/// A note that one caller has left for another. It is the first one's place.
 #[derive(Drop)]
-pub struct Left {
+pub struct LeftNote {
     pub(crate) note: Note,
 }
 
-impl Fits for Left {
-    type Tag = Ledger;
+impl Fits for LeftNote {
+    type Tag = Owner;
 
-    ghost fits = { λ ledger l. IsOf l.note ledger };
+    ghost fits = { λ o l. IsOf l.note o.ledger.value × (l.note.knows.first ≡ o.process) };
 }

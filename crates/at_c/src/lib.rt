@@ -8,17 +8,18 @@
 
 mod caller;
 mod calls;
+mod closing;
 mod crossing;
 mod ended;
 mod ending;
 mod exports;
 mod gathered;
 mod given;
-mod giving;
 mod handing;
 mod handle;
 mod held;
 mod loose;
+mod notes;
 mod opened;
 mod outcome;
 mod shared;

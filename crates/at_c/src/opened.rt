@@ -26,7 +26,7 @@ use std::sync::Arc;
 #[derive(Drop)]
 pub struct Opened {
     shared: Arc<Shared>,
-    given: u32,
+    handed: u32,
     waiting: VecDeque<Pass>,
     passes: Vec<Pass>,
     receipts: Vec<Vec<Receipt>>,
@@ -42,7 +42,7 @@ impl Model for Opened {
 
     ghost view = { λ o. record {
       shared = arc_value o.shared;
-      given = o.given;
+      handed = o.handed;
       waiting = o.waiting.items;
       passes = o.passes.items;
       receipts = lists_in o.receipts.items;
@@ -52,7 +52,7 @@ impl Model for Opened {
 
     ghost invariant = { λ o. IsOpened (record {
       shared = arc_value o.shared;
-      given = o.given;
+      handed = o.handed;
       waiting = o.waiting.items;
       passes = o.passes.items;
       receipts = lists_in o.receipts.items;
@@ -91,7 +91,7 @@ impl Opened {
         requires names { AreNamesOf ledger.book names }
         requires passes { AreNewPasses ledger waiting.items }
         ensures shared { IfOk result (λ o. (o.shared.ledger ≡ ledger) × (o.shared.names ≡ names)) }
-        ensures given { IfOk result (λ o. o.given ≡ 0) }
+        ensures handed { IfOk result (λ o. o.handed ≡ 0) }
     {
         let processes = ledger.book().processes() as usize;
         let passes = Vec::with_capacity(alloc, processes)?;
@@ -99,7 +99,7 @@ impl Opened {
         let shared = Arc::new(alloc, Shared::new(alloc, ledger, names)?)?;
         Ok(Opened {
             shared,
-            given: 0,
+            handed: 0,
             waiting: VecDeque::from(waiting),
             passes,
             receipts,
@@ -116,7 +116,7 @@ impl Opened {
         match self.waiting.pop_front() {
             None => Ok(None),
             Some(pass) => {
-                self.given += 1;
+                self.handed += 1;
                 Ok(Some(Caller::new(shared, pass, receipts)))
             }
         }
@@ -131,7 +131,7 @@ impl Opened {
 
     /// Takes in what the next caller that isn't back has given back, if it has.
     fn take_next(&mut self) -> bool
-        requires { length self.old.passes < self.old.given }
+        requires { length self.old.passes < self.old.handed }
         ensures same { IsStillOpen self.old self.new }
         ensures taken { IsTrue result → length self.new.passes ≡ length self.old.passes + 1 }
     {
@@ -147,9 +147,9 @@ impl Opened {
     /// Takes in what callers have given back, in the order of their processes, and tells whether all did.
     fn take_back(&mut self) -> bool
         ensures same { IsStillOpen self.old self.new }
-        ensures all { IsTrue result → length self.new.passes ≡ self.new.given }
+        ensures all { IsTrue result → length self.new.passes ≡ self.new.handed }
     {
-        for _process in self.passes.len()..self.given as usize {
+        for _process in self.passes.len()..self.handed as usize {
             if !self.take_next() {
                 return false;
             }
@@ -167,7 +167,7 @@ impl Opened {
         }
         let Opened {
             shared,
-            given,
+            handed,
             waiting,
             passes,
             receipts,
@@ -181,7 +181,7 @@ impl Opened {
             // A thread has just given its caller back, and hasn't let go of the ledger.
             Err(shared) => Err(Opened {
                 shared,
-                given,
+                handed,
                 waiting,
                 passes,
                 receipts,

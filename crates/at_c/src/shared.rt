@@ -1,13 +1,15 @@
 //! What the callers of one ledger share.
 
-ghost use Rattle.std.specs.Prelude.{◌≡◌, ◌<◌, length, All, IfErr, IfOk, IfSome};
-ghost use Rattle.at_board.specs.Knowledge.Seats.{BoardTerms};
+ghost use Rattle.std.specs.Prelude.{◌≡◌, ◌<◌, ◌/◌, ℕ, length, slice_index_or, IfErr, IfOk, IfSome};
+ghost use Rattle.at_board.specs.Knowledge.Seats.{IsOf};
 ghost use Rattle.at_files.specs.Names.{AreNamesOf};
 ghost use Rattle.at_object.specs.Passes.{IsPassOf};
 ghost use Rattle.at_c.specs.Given.{IsGivenBack};
-ghost use Rattle.at_c.specs.Notes.{TakesInNote, Notes};
+ghost use Rattle.at_c.specs.Notes.{HasLearnedNote, LearnsNote, LeavesNote, one_note_more};
+ghost use Rattle.at_c.specs.Shared.{AreOwned};
+ghost use Rattle.at_c.specs.declared.given.Owner.{Owner};
 
-use crate::given::{Given, Left};
+use crate::given::{Given, LeftNote, Owner};
 use crate::outcome::Outcome;
 use at_files::Names;
 use at_ledger::PROCESSES_MAX;
@@ -15,6 +17,7 @@ use at_object::{Ledger, NoMemory, Pass};
 use counted_slot::{Counted, FREE, Fits, TAKEN};
 use std::alloc::Global;
 use std::marker::Model;
+use std::snapshot::Snapshot;
 
 /// A ledger, with the names of its book, a place for what the caller of each process gives back, and one for each two processes, for a
 /// note from one to the other.
@@ -23,7 +26,7 @@ pub struct Shared {
     pub(crate) ledger: Ledger,
     pub(crate) names: Names,
     given: Vec<Counted<Option<Given>>>,
-    left: Vec<Counted<Option<Left>>>,
+    notes: Vec<Counted<Option<LeftNote>>>,
 }
 
 impl Model for Shared {
@@ -34,24 +37,27 @@ impl Model for Shared {
     ghost view = { λ s. record { ledger = s.ledger; names = s.names } };
 
     ghost invariant = { λ s. IsShared (record { ledger = s.ledger; names = s.names })
-        s.given.items s.left.items };
+        s.given.items s.notes.items };
 }
 
-/// Places for notes from one process to another, whichever two they are.
-const NOTES: u32 = PROCESSES_MAX * PROCESSES_MAX;
-
-/// So many places in which nothing stands.
-fn places_of<X: Fits<Tag = Ledger> + Drop>(
+/// Places in which nothing stands, so many for each process.
+fn places_of<X: Fits<Tag = Owner> + Drop>(
     alloc: Global,
     ledger: &Ledger,
-    count: usize,
+    count: u32,
+    each: u32,
 ) -> Result<Vec<Counted<Option<X>>>, NoMemory>
+    requires { 0 < each }
     ensures count { IfOk result (λ places. length places.items ≡ count) }
-    ensures of { IfOk result (λ places. All (λ (l : BoardTerms). l ≡ ledger.now) places.items) }
+    ensures owned { IfOk result (λ places. AreOwned ledger.now each places.items) }
 {
-    let mut places = Vec::with_capacity(alloc, count)?;
-    for _place in 0..count {
-        places.push(Counted::new(None, ledger))?;
+    let mut places = Vec::with_capacity(alloc, count as usize)?;
+    for i in 0..count {
+        let owner = Owner {
+            ledger: Snapshot::of(ledger),
+            process: i / each,
+        };
+        places.push(Counted::new(None, &owner))?;
     }
     Ok(places)
 }
@@ -62,14 +68,14 @@ impl Shared {
         requires { AreNamesOf ledger.book names }
         ensures { IfOk result (λ s. (s.ledger ≡ ledger) × (s.names ≡ names)) }
     {
-        let processes = ledger.book().processes() as usize;
-        let given = places_of(alloc, &ledger, processes)?;
-        let left = places_of(alloc, &ledger, NOTES as usize)?;
+        let processes = ledger.book().processes();
+        let given = places_of(alloc, &ledger, processes, 1)?;
+        let notes = places_of(alloc, &ledger, PROCESSES_MAX * PROCESSES_MAX, PROCESSES_MAX)?;
         Ok(Shared {
             ledger,
             names,
             given,
-            left,
+            notes,
         })
     }
 
@@ -83,38 +89,34 @@ impl Shared {
             ledger,
             names,
             given: _,
-            left: _,
+            notes: _,
         } = self;
         (ledger, names)
     }
 
     /// What the caller of a process has given back, if it has. It isn't there any more then.
     pub(crate) fn take_given(&self, process: u32) -> Option<Given>
+        requires { process < self.now.ledger.book.processes }
         ensures given { IfSome result
             (λ g. IsGivenBack self.now.ledger g.pass g.receipts.items) }
         ensures process { IfSome result (λ g. g.pass.knows.first ≡ process) }
     {
-        let place = self.given.get(process as usize)?;
-        let (found, claim) = place.turn(FREE, TAKEN);
+        let (found, claim) = self.given[process as usize].turn(FREE, TAKEN);
         if found != FREE {
             // Its caller is just giving it back.
             claim.done();
             return None;
         }
-        let given = claim.put(None, FREE)?;
-        // Each caller gives its own pass, so that no other stands here.
-        (given.pass.process() == process).then_some(given)
+        claim.put(None, FREE)
     }
 
-    /// Leaves what a caller gives back, for its process. Where it can't, the caller is still out, and it is all as it was.
+    /// Leaves what a caller gives back, for its process. Where another thread just reaches for the place, it comes back.
     pub(crate) fn give(&self, given: Given) -> Result<(), Given>
-        requires { IsGivenBack self.now.ledger given.pass given.receipts.items }
+        requires given { IsGivenBack self.now.ledger given.pass given.receipts.items }
+        requires process { given.pass.knows.first < self.now.ledger.book.processes }
         ensures { IfErr result (λ g. g ≡ given) }
     {
-        let Some(place) = self.given.get(given.pass.process() as usize) else {
-            return Err(given);
-        };
-        let (found, claim) = place.turn(FREE, TAKEN);
+        let (found, claim) = self.given[given.pass.process() as usize].turn(FREE, TAKEN);
         if found != FREE {
             // Whoever closes the ledger just looks whether it is there.
             claim.done();
@@ -125,20 +127,34 @@ impl Shared {
     }
 
     /// The place for notes from one process to another.
-    fn place_of(&self, from: u32, to: u32) -> &Counted<Option<Left>>
+    fn place_of(&self, from: u32, to: u32) -> &Counted<Option<LeftNote>>
         requires from { from < self.now.ledger.book.processes }
         requires to { to < self.now.ledger.book.processes }
-        ensures { result.now ≡ self.now.ledger }
+        ensures ledger { result.now.ledger.value ≡ self.now.ledger }
+        ensures process { result.now.process ≡ from }
     {
         self.ledger.book().known();
-        &self.left[(from * PROCESSES_MAX + to) as usize]
+        &self.notes[(from * PROCESSES_MAX + to) as usize]
     }
 
-    /// Leaves a note of what the pass has seen for another process, in place of one that it left before.
+    /// A note of what the pass has seen.
+    fn noted(&self, pass: &mut Pass) -> LeftNote
+        requires { IsPassOf pass.old self.now.ledger }
+        ensures ledger { IsOf result.note self.now.ledger }
+        ensures process { result.note.knows.first ≡ pass.old.knows.first }
+        ensures seen { result.note.knows.seen ≡ pass.old.knows.seen }
+        ensures pass { pass.new ≡ one_note_more pass.old }
+    {
+        LeftNote {
+            note: self.ledger.note(pass),
+        }
+    }
+
+    /// Leaves a note of what the pass has seen for a process, in place of one that it left there before.
     pub(crate) fn note(&self, pass: &mut Pass, to: u32) -> Outcome
         requires pass { IsPassOf pass.old self.now.ledger }
         requires process { pass.old.knows.first < self.now.ledger.book.processes }
-        ensures { Notes self.now.ledger to pass.old pass.new result }
+        ensures { LeavesNote self.now.ledger to pass.old pass.new result }
     {
         if to >= self.ledger.book().processes() {
             return Outcome::NoProcess;
@@ -149,16 +165,24 @@ impl Shared {
             claim.done();
             return Outcome::Busy;
         }
-        let note = self.ledger.note(pass);
-        drop(claim.put(Some(Left { note }), FREE));
+        drop(claim.put(Some(self.noted(pass)), FREE));
         Outcome::Done
     }
 
-    /// Takes in the note that another process has left for the process of the pass.
+    /// Takes in a note, so that the pass's later calls come after all that it has seen.
+    fn learned(&self, pass: &mut Pass, left: LeftNote)
+        requires pass { IsPassOf pass.old self.now.ledger }
+        requires note { IsOf left.note self.now.ledger }
+        ensures { HasLearnedNote self.now.ledger left.note pass.old pass.new }
+    {
+        self.ledger.learn(pass, left.note);
+    }
+
+    /// Takes in the note that a process has left for the process of the pass.
     pub(crate) fn learn(&self, pass: &mut Pass, from: u32) -> Outcome
         requires pass { IsPassOf pass.old self.now.ledger }
         requires process { pass.old.knows.first < self.now.ledger.book.processes }
-        ensures { TakesInNote self.now.ledger from pass.old pass.new result }
+        ensures { LearnsNote self.now.ledger from pass.old pass.new result }
     {
         if from >= self.ledger.book().processes() {
             return Outcome::NoProcess;
@@ -172,7 +196,7 @@ impl Shared {
         let Some(left) = claim.put(None, FREE) else {
             return Outcome::NoNote;
         };
-        self.ledger.learn(pass, left.note);
+        self.learned(pass, left);
         Outcome::Done
     }
 }

@@ -15,8 +15,8 @@ pub new-requires-clause-accounted : goal.new-requires-clause-accounted
 new-requires-clause-accounted c =
     let inside = c.self.inside in
     let old = (arc_value inside.shared).ledger in
-    let all_back = subst (λ (t : OpenedTerms). length t.passes ≡ t.given) (sym c.self.view_is) (c.if-not-take_back.ensures.all refl) in
-    let all = AreAccountedFor-gathered (arc_value inside.shared) inside.given inside.waiting.items inside.passes.items (lists_in inside.receipts.items)
+    let all_back = subst (λ (t : OpenedTerms). length t.passes ≡ t.handed) (sym c.self.view_is) (c.if-not-take_back.ensures.all refl) in
+    let all = AreAccountedFor-gathered (arc_value inside.shared) inside.handed inside.waiting.items inside.passes.items (lists_in inside.receipts.items)
     (vec_capacity inside.passes) (vec_capacity inside.receipts) c.self.invariant all_back in
     let passes = c.with_unused-passes.result.0.items in
     let receipts = lists_in c.with_unused-passes.result.1.items in
@@ -30,8 +30,8 @@ pub new-requires-clause-are : goal.new-requires-clause-are
 new-requires-clause-are c =
     let inside = c.self.inside in
     let old = (arc_value inside.shared).ledger in
-    let all_back = subst (λ (t : OpenedTerms). length t.passes ≡ t.given) (sym c.self.view_is) (c.if-not-take_back.ensures.all refl) in
-    let all = AreReceipts-gathered (arc_value inside.shared) inside.given inside.waiting.items inside.passes.items (lists_in inside.receipts.items)
+    let all_back = subst (λ (t : OpenedTerms). length t.passes ≡ t.handed) (sym c.self.view_is) (c.if-not-take_back.ensures.all refl) in
+    let all = AreReceipts-gathered (arc_value inside.shared) inside.handed inside.waiting.items inside.passes.items (lists_in inside.receipts.items)
     (vec_capacity inside.passes) (vec_capacity inside.receipts) c.self.invariant all_back in
     subst (λ (l : BoardTerms). All (AreReceipts (length l.book.accounts)) (lists_in c.with_unused-passes.result.1.items))
     (sym (c.into_parts-ledger.ensures.ledger ∙ ap (λ (s : SharedTerms). s.ledger) c.in-Ok.ensures.ok))

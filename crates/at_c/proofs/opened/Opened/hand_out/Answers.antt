@@ -7,6 +7,6 @@ use Rattle.at_c.proofs.opened.Opened.hand_out.Goals as goal
 pub invariant_of-self-in-Some : goal.invariant_of-self-in-Some
 invariant_of-self-in-Some c =
     let inside = c.self.inside in
-    IsOpened-handed (arc_value inside.shared) inside.given inside.waiting.items c.pop_front.new.self.items inside.passes.items
+    IsOpened-handed (arc_value inside.shared) inside.handed inside.waiting.items c.pop_front.new.self.items inside.passes.items
     (lists_in inside.receipts.items) (vec_capacity inside.passes) (vec_capacity inside.receipts) c.in-Some.pass c.self.invariant
     c.in-Some.ensures.items

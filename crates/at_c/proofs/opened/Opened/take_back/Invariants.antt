@@ -7,5 +7,5 @@ abbrev pub invariant-loop-process : goal.invariant-loop-process
 invariant-loop-process l = record {
   open_still : IsStillOpen l.fn.self l.self;
   back : length l.self.passes ≡ l._process;
-  end : l._process-end ≡ l.fn.self.given;
+  end : l._process-end ≡ l.fn.self.handed;
 }
