@@ -1,7 +1,7 @@
 #!/bin/sh
 # Sixteen threads with ten thousand calls each on one ledger, over a library that `bindings/libraries.sh` has left: under the sanitizers of
 # threads and of addresses, which see the program, its threads and each allocation of the library's; and under valgrind's memcheck and
-# helgrind, which see each access that the library makes. What isn't there isn't tried.
+# helgrind, which see each access that the library makes. What isn't there isn't tried. The built program verifies each report.
 #
 # The library stores into words that threads share by locked instructions alone. Helgrind takes such a store for a load, so it reports each
 # other store into memory that a second thread uses, and nothing has to be suppressed. That it sees the library is tried too: it has to
@@ -22,12 +22,24 @@ has() {
     "$cc" -fsanitize="$1" "$work/empty.c" -o "$work/empty" 2>/dev/null && "$work/empty"
 }
 
-tried=
+# Runs the threads by a command, and has their report verified.
+thread_runs() {
+    name=$1
+    shift
+    "$@" "$work/threads" 10000 "$work" >"$work/said" 2>&1 || { cat "$work/said" >&2; exit 1; }
+    set --
+    p=0
+    while [ "$p" -lt 16 ]; do
+        set -- "$@" "$work/pay$p.csv"
+        p=$((p + 1))
+    done
+    .ci/bindings_verify.sh "threads.c under $name" "$work/book.csv" "$work/report" "$@"
+}
+
 for sanitizer in thread address,undefined; do
     if has "$sanitizer"; then
         "$cc" $flags -fsanitize="$sanitizer" bindings/c/threads.c "$library" -o "$work/threads"
-        "$work/threads" 10000 >"$work/said" 2>&1 || { cat "$work/said" >&2; exit 1; }
-        tried="$tried, -fsanitize=$sanitizer"
+        thread_runs "-fsanitize=$sanitizer" env
     fi
 done
 if command -v valgrind >/dev/null; then
@@ -37,8 +49,7 @@ if command -v valgrind >/dev/null; then
             memcheck) words='--leak-check=full --show-leak-kinds=all --errors-for-leak-kinds=all' ;;
             helgrind) words=--history-level=none ;;
         esac
-        valgrind --quiet --error-exitcode=9 --fair-sched=yes --tool="$tool" $words "$work/threads" 10000 >"$work/said" 2>&1 || { cat "$work/said" >&2; exit 1; }
-        tried="$tried, $tool"
+        thread_runs "$tool" valgrind --quiet --error-exitcode=9 --fair-sched=yes --tool="$tool" $words
     done
     if valgrind --quiet --error-exitcode=9 --fair-sched=yes --tool=helgrind --history-level=none "$work/threads" unordered >"$work/said" 2>&1; then
         echo 'bindings: helgrind reports nothing where two threads use one caller' >&2
@@ -50,4 +61,3 @@ if command -v valgrind >/dev/null; then
         exit 1
     fi
 fi
-echo "bindings: sixteen threads under ${tried#, }"
