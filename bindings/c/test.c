@@ -3,6 +3,8 @@
 #include "bezglami.h"
 
 #include <pthread.h>
+#include <sched.h>
+#include <stdatomic.h>
 #include <stdbool.h>
 #include <stdio.h>
 #include <stdlib.h>
@@ -13,9 +15,9 @@ void *__real_malloc(size_t size);
 void *__real_realloc(void *block, size_t size);
 void __real_free(void *block);
 
-static long allocations;
+static atomic_long allocations;
 static long refused_at; /* the number of the one that is refused, and 0 for none */
-static long blocks;
+static atomic_long blocks;
 
 void *__wrap_malloc(size_t size) {
     if (++allocations == refused_at)
@@ -246,15 +248,15 @@ static void test_report(void) {
     EXPECT(ledger.at == NULL && bezglami_report(&ledger, report, sizeof report) == 0);
 }
 
-/* What is asked of a handle that holds a report: nothing but the report, and to be freed. */
+/* What is asked of a handle that holds a report: nothing but the report, and to be freed. To close it again changes nothing. */
 static void test_closed(void) {
     bezglami_handle ledger = BEZGLAMI_NOTHING, spare = BEZGLAMI_NOTHING;
     bezglami_target target = { 1, 1 };
     bezglami_answer answer = { 7, 7, 7, 7 };
     uint32_t line = 9;
     open_new(BOOK, &ledger);
-    EXPECT(bezglami_close(&ledger) == BEZGLAMI_DONE);
-    EXPECT(bezglami_close(&ledger) == BEZGLAMI_WRONG_HANDLE && bezglami_return(&ledger) == BEZGLAMI_WRONG_HANDLE);
+    EXPECT(bezglami_close(&ledger) == BEZGLAMI_DONE && bezglami_close(&ledger) == BEZGLAMI_DONE);
+    EXPECT(bezglami_return(&ledger) == BEZGLAMI_WRONG_HANDLE);
     EXPECT(bezglami_caller(&ledger, 9, &spare) == BEZGLAMI_WRONG_HANDLE && spare.at == NULL);
     EXPECT(bezglami_transfer(&ledger, 0, 1, 1, &answer) == BEZGLAMI_WRONG_HANDLE && bezglami_read(&ledger, 0, &answer) == BEZGLAMI_WRONG_HANDLE);
     EXPECT(bezglami_pay(&ledger, 0, &target, 1, &answer) == BEZGLAMI_WRONG_HANDLE && answer.reply == 7 && answer.steps == 7);
@@ -385,6 +387,36 @@ static void test_stopped(void) {
     pthread_barrier_destroy(&stopped.ended);
 }
 
+static void *call_and_return(void *argument) {
+    bezglami_handle *caller = argument;
+    uint32_t outcome;
+    EXPECT(answered(caller, 0, 500));
+    while ((outcome = bezglami_return(caller)) == BEZGLAMI_BUSY)
+        sched_yield();
+    EXPECT(outcome == BEZGLAMI_DONE);
+    return NULL;
+}
+
+/* A ledger is closed again and again while threads give their callers back: once all are, it is closed. */
+static void test_closing_meanwhile(void) {
+    for (int time = 0; time < 200; time++) {
+        bezglami_handle ledger = BEZGLAMI_NOTHING, callers[] = { BEZGLAMI_NOTHING, BEZGLAMI_NOTHING };
+        pthread_t threads[2];
+        uint32_t outcome;
+        open_new(BOOK, &ledger);
+        for (int p = 0; p < 2; p++)
+            EXPECT(bezglami_caller(&ledger, 1, &callers[p]) == BEZGLAMI_DONE);
+        for (int p = 0; p < 2; p++)
+            EXPECT(pthread_create(&threads[p], NULL, call_and_return, &callers[p]) == 0);
+        while ((outcome = bezglami_close(&ledger)) == BEZGLAMI_CALLERS_OUT)
+            sched_yield();
+        EXPECT(outcome == BEZGLAMI_DONE && has_report(&ledger, " read 0 500\nbalances 4\n0 500\n1 100\n2 300\n3 0\ntotal 900\n", false));
+        for (int p = 0; p < 2; p++)
+            pthread_join(threads[p], NULL);
+        bezglami_free(&ledger);
+    }
+}
+
 /* What is done again where memory was wanting, which it was once at most. */
 static bool again(uint32_t outcome, bool *refused) {
     EXPECT(outcome == BEZGLAMI_DONE || (outcome == BEZGLAMI_NO_MEMORY && !*refused));
@@ -419,7 +451,7 @@ static long test_memory(void) {
         call_without_memory(&ann);
         while (again(bezglami_close(&ledger), &refused)) {
             EXPECT(bezglami_report(&ledger, (uint8_t[1]){ 0 }, 1) == 0);
-            EXPECT(bezglami_caller(&ledger, 10, &ann) == BEZGLAMI_NO_CALLER && ann.at == NULL);
+            EXPECT(bezglami_caller(&ledger, 10, &ann) == BEZGLAMI_WRONG_HANDLE && ann.at == NULL);
         }
         long taken = allocations;
         EXPECT(has_report(&ledger, wanted, true));
@@ -456,6 +488,7 @@ int main(void) {
     test_two_ledgers();
     test_notes();
     test_stopped();
+    test_closing_meanwhile();
     test_freed_half_closed();
     EXPECT(bezglami_version() == BEZGLAMI_VERSION);
     for (uint32_t outcome = BEZGLAMI_DONE; outcome <= BEZGLAMI_BUSY; outcome++)

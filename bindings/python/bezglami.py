@@ -13,6 +13,7 @@ from __future__ import annotations
 import ctypes
 import os
 import threading
+import time
 from collections.abc import Iterator, Sequence
 from enum import Enum
 from pathlib import Path
@@ -177,9 +178,9 @@ def _load() -> ctypes.CDLL:
 
 
 _library = _load()
-_bad_book, _no_caller = 4, 5
+_wrong_handle, _bad_book, _no_caller, _busy = 1, 4, 5, 12
 _errors: dict[int, type[Error]] = {
-    3: NoMemory, 5: NoCaller, 6: NoAccount, 7: NoRoom, 8: NoPayOut, 9: CallersOut, 10: NoProcess, 11: NoNote, 12: Busy,
+    3: NoMemory, _no_caller: NoCaller, 6: NoAccount, 7: NoRoom, 8: NoPayOut, 9: CallersOut, 10: NoProcess, 11: NoNote, _busy: Busy,
 }
 
 
@@ -215,13 +216,13 @@ class _Holder:
         self._lock = threading.Lock()
 
     def _let_go(self) -> None:
-        with self._lock:
-            getattr(_library, self._end)(self._handle)
+        # A caller is busy while a thread that closes its ledger just looks whether it is back.
+        while getattr(_library, self._end)(self._handle) == _busy:
+            time.sleep(0)
 
     def __del__(self) -> None:
-        handle = self.__dict__.get("_handle")
-        if handle is not None and _library is not None:
-            getattr(_library, self._end)(handle)
+        if "_handle" in self.__dict__ and _library is not None:
+            self._let_go()
 
     def _held(self) -> _Handle:
         if not self._handle.at:
@@ -229,7 +230,8 @@ class _Holder:
         return self._handle
 
     def __exit__(self, kind: type[BaseException] | None, error: BaseException | None, trace: TracebackType | None) -> None:
-        self._let_go()
+        with self._lock:
+            self._let_go()
 
 
 class Caller(_Holder):
@@ -250,7 +252,8 @@ class Caller(_Holder):
 
     def give_back(self) -> None:
         """Gives it back to its ledger now, with the receipts of its calls. Nothing is done where it was given back before."""
-        self._let_go()
+        with self._lock:
+            self._let_go()
 
     def _call(self, name: str, *words: object) -> Receipt:
         answer = _Answer()
@@ -338,10 +341,11 @@ class Ledger(_Holder):
         Raises NoCaller, also once memory was wanting to close the ledger, and NoMemory.
         """
         with self._lock:
-            if self._report_length() > 0:
-                _refuse(_no_caller)
             caller = Caller(self._handed_out)
-            _export("caller", self._held(), _fitting(calls, 32), caller._handle)
+            outcome = _library.bezglami_caller(self._held(), _fitting(calls, 32), caller._handle)
+            if outcome != 0:
+                # A ledger that was being closed hands out no caller: it is none any more.
+                _refuse(_no_caller if outcome == _wrong_handle else outcome)
             self._handed_out += 1
             return caller
 
@@ -374,4 +378,5 @@ class Ledger(_Holder):
 
     def free(self) -> None:
         """Frees it now, without a report. Nothing is done where nothing is held. Its callers are used on."""
-        self._let_go()
+        with self._lock:
+            self._let_go()

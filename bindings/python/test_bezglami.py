@@ -116,6 +116,22 @@ class Calls(unittest.TestCase):
             self.assertRaises(NoCaller, ledger.caller, 9)
             self.assertTrue(ledger.close().startswith("journal 0\n"))
 
+    def test_closing_meanwhile(self):
+        def read(caller):
+            with caller:
+                caller.read(0)
+
+        for _ in range(50):
+            ledger, callers = three()
+            with ThreadPoolExecutor(3) as threads:
+                done = [threads.submit(read, caller) for caller in callers]
+                report = None
+                while report is None:
+                    with suppress(CallersOut):
+                        report = ledger.close()
+            self.assertTrue(report.startswith("journal 3\n"))
+            self.assertEqual([call.result() for call in done], [None] * 3)
+
     def test_two_ledgers(self):
         one, ones = three()
         other, others = three()

@@ -21,8 +21,9 @@ pub struct Target {
 ///
 /// It may be sent to another thread, and is used by one thread at a time. A call takes no memory and waits for no thread.
 ///
-/// Where it is dropped, it is given back to its ledger with the receipts of its calls, and to no other; that takes no memory either. A
-/// ledger is closed once all its callers are back. So one that is [forgotten](std::mem::forget) keeps its ledger open for good.
+/// Where it is dropped, it is given back to its ledger with the receipts of its calls, and to no other; that takes no memory either, and
+/// waits at most until a thread that closes the ledger has looked whether it is back. A ledger is closed once all its callers are back. So
+/// one that is [forgotten](std::mem::forget) keeps its ledger open for good.
 ///
 /// It isn't used by two threads at once, not shared at all, not copied, and not used once it was given back. None of these is compiled:
 ///

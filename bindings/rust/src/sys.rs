@@ -2,6 +2,7 @@
 
 use crate::{Error, Receipt, Reply, Target, Why};
 use std::os::raw::c_void;
+use std::thread;
 
 /// The version of the header that this module was written by.
 const VERSION: u32 = 3;
@@ -176,7 +177,7 @@ impl Handle {
         }
     }
 
-    /// The next caller of a ledger. One that has its report already has none.
+    /// The next caller of a ledger. One that was being closed hands out none.
     pub(crate) fn next_caller(&mut self, calls: u32) -> Result<Handle, Error> {
         let mut caller = Handle::nothing();
         // SAFETY: the handles are two places, and each is lent to this call alone.
@@ -247,8 +248,11 @@ impl Handle {
 
     /// Gives a caller back. The handle is left with nothing.
     pub(crate) fn give_back(&mut self) {
-        // SAFETY: the handle is lent to this call alone. What it answers isn't looked at: it holds a caller, and then it is done.
-        unsafe { bezglami_return(self) };
+        // It is busy while a thread that closes the ledger just looks whether this caller is back.
+        // SAFETY: the handle is lent to this call alone.
+        while unsafe { bezglami_return(self) } == BUSY {
+            thread::yield_now();
+        }
     }
 
     /// The steps of all calls of a caller.

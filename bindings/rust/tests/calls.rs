@@ -196,6 +196,30 @@ fn two_ledgers() {
     callers[2].read(0).unwrap();
 }
 
+/// A ledger is closed again and again while threads give their callers back: once all are, it is closed.
+#[test]
+fn closing_meanwhile() {
+    for _ in 0..200 {
+        let (mut ledger, callers) = three();
+        thread::scope(|threads| {
+            for mut caller in callers {
+                threads.spawn(move || caller.read(0).unwrap());
+            }
+            let report = loop {
+                match ledger.close() {
+                    Ok(report) => break report,
+                    Err(open) => {
+                        assert_eq!(open.error(), Error::CallersOut);
+                        ledger = open.into_ledger();
+                        thread::yield_now();
+                    }
+                }
+            };
+            assert!(report.as_str().starts_with("journal 3\n"));
+        });
+    }
+}
+
 /// What a panic unwinds is given back with the receipts of the calls that were made.
 #[test]
 fn a_thread_that_panics() {
