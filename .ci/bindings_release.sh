@@ -43,10 +43,13 @@ verified() {
 short=$examples/short
 owners=$examples/owners
 if PATH=$path command -v cc >/dev/null; then
-    for linked in "$release/lib/libbezglami.a" "-L$release/lib -lbezglami -Wl,-rpath,$release/lib"; do
+    for linked in static shared; do
+        case $linked in
+            static) set -- "$release/lib/libbezglami.a" ;;
+            shared) set -- "-L$release/lib" -lbezglami "-Wl,-rpath,$release/lib" ;;
+        esac
         for source in short example; do
-            # The words of the linker are parted at spaces, which the names of a new folder don't have.
-            alone cc -std=c11 -D_POSIX_C_SOURCE=200809L -pthread -I"$release/include" "$release/bindings/c/$source.c" $linked -o "$source"
+            alone cc -std=c11 -D_POSIX_C_SOURCE=200809L -pthread -I"$release/include" "$release/bindings/c/$source.c" "$@" -o "$source"
         done
         alone ./short >report 2>said
         cmp report "$short/short.report"
