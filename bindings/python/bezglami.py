@@ -172,8 +172,10 @@ def _load() -> ctypes.CDLL:
         "free": (None, [handle]),
     }
     for name, (answers, takes) in exports.items():
-        export = getattr(library, "bezglami_" + name)
-        export.restype, export.argtypes = answers, takes
+        # A library of another version may lack it. That is told where a ledger is opened.
+        export = getattr(library, "bezglami_" + name, None)
+        if export is not None:
+            export.restype, export.argtypes = answers, takes
     return library
 
 

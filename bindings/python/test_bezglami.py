@@ -7,7 +7,7 @@ from contextlib import suppress
 from unittest import mock
 
 from bezglami import (
-    BadBook, Busy, CallersOut, Error, Ledger, NoAccount, NoCaller, NoNote, NoPayOut, NoProcess, NoRoom, Reply, Why,
+    BadBook, Busy, CallersOut, Error, Ledger, NoAccount, NoCaller, NoNote, NoPayOut, NoProcess, NoRoom, OtherVersion, Reply, Why,
 )
 
 BOOK = b"book,1\nprocesses,3\nlimits,100,20\naccount,0,500,0\naccount,1,100,1\naccount,2,300,0 1\naccount,3,0,\n"
@@ -160,6 +160,8 @@ class Calls(unittest.TestCase):
         self.assertEqual(len(list(ledger.callers(1))), 2)
         self.assertRaises(NoCaller, ledger.caller, 1)
         self.assertTrue(issubclass(NoCaller, Error))
+        with mock.patch("bezglami._VERSION", 2):
+            self.assertRaises(OtherVersion, Ledger, BOOK)
 
     def test_what_is_freed_early(self):
         with Ledger(BOOK) as ledger:
