@@ -2,10 +2,11 @@
  * of another process. Now and then a thread leaves a note for the next one and takes in that of the one before. Each gives its caller back,
  * and the ledger is closed. It is run under sanitizers and valgrind.
  *
- *   threads [CALLS [FOLDER]]   10,000 calls where it isn't said. Where there is a FOLDER, book.csv, pay0.csv .. pay15.csv and report are
- *                              left there, which `verify` takes
- *   threads unordered          one call of a caller in each of two threads, where only time orders the two: what mustn't be done, for tools
- *                              that have to see it */
+ *   threads [CALLS [FOLDER [ordered]]]   10,000 calls where it isn't said. Where there is a FOLDER, book.csv, pay0.csv .. pay15.csv and
+ *                                        report are left there, which `verify` takes. `ordered`: a lock orders the two threads that
+ *                                        reach for a note, for tools that see locks alone
+ *   threads unordered                    one call of a caller in each of two threads, where only time orders the two: what mustn't be
+ *                                        done, for tools that have to see it */
 #include "bezglami.h"
 
 #include <inttypes.h>
@@ -35,6 +36,9 @@ struct call {
     uint32_t count;
     bezglami_target targets[2];
 };
+
+static bool ordered;
+static pthread_mutex_t locks[THREADS]; /* of the notes that each process leaves */
 
 static void fail(const char *what, uint32_t number) {
     fprintf(stderr, "threads: %s, %" PRIu32 "\n", what, number);
@@ -72,10 +76,20 @@ static void make_call(struct worker *worker, uint32_t i) {
     worker->exchanges += answer.exchanges;
 }
 
+static uint32_t reach_for_note(struct worker *worker, uint32_t from, uint32_t (*reach)(bezglami_handle *, uint32_t), uint32_t other) {
+    if (ordered)
+        pthread_mutex_lock(&locks[from]);
+    uint32_t outcome = reach(&worker->caller, other);
+    if (ordered)
+        pthread_mutex_unlock(&locks[from]);
+    return outcome;
+}
+
 /* Leaves a note for the next process, and takes in that of the one before. Each is one step and one exchange. */
 static void pass_notes(struct worker *worker) {
-    uint32_t left = bezglami_note(&worker->caller, (worker->process + 1) % THREADS);
-    uint32_t learnt = bezglami_learn(&worker->caller, (worker->process + THREADS - 1) % THREADS);
+    uint32_t next = (worker->process + 1) % THREADS, before = (worker->process + THREADS - 1) % THREADS;
+    uint32_t left = reach_for_note(worker, worker->process, bezglami_note, next);
+    uint32_t learnt = reach_for_note(worker, before, bezglami_learn, before);
     if (left != BEZGLAMI_DONE && left != BEZGLAMI_BUSY)
         fail("a note isn't left", left);
     if (learnt != BEZGLAMI_DONE && learnt != BEZGLAMI_NO_NOTE && learnt != BEZGLAMI_BUSY)
@@ -207,6 +221,9 @@ int main(int count, char **words) {
     bezglami_handle ledger = BEZGLAMI_NOTHING;
     bool unordered = count > 1 && strcmp(words[1], "unordered") == 0;
     uint32_t calls = unordered ? 1 : count > 1 ? (uint32_t)atoi(words[1]) : 10000;
+    ordered = count > 3 && strcmp(words[3], "ordered") == 0;
+    for (uint32_t p = 0; p < THREADS; p++)
+        pthread_mutex_init(&locks[p], NULL);
     open_all(&ledger, workers, calls);
     if (unordered) {
         use_unordered(&workers[0]);
