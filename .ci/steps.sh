@@ -7,7 +7,9 @@
 #      its own once. `make_note` and `take_in` make one operation each and leave its count to who names them, for whom that is an
 #      operation. The three calls of an `Overview` alone count none: their caller has all the seats whose lists they put together, so
 #      no thread hears of another by them, and they load no word of the table.
-#   2. In every crate of the product, nothing names an atomic word, a lock, a channel or a yield. A test may.
+#   2. In every crate of the product, nothing names an atomic word, a lock, a channel or a yield. A test may. at_c has places of its own,
+#      in which one caller leaves a note for another, or gives its pass back: two of its files name them, and four functions of one
+#      file reach for a place, each once. No transfer, pay-out or read does, and the object counts each note and what takes it in.
 #   3. An `Overview` stays on one thread, but a seat that has learned it may go to another. So no crate names one but `at_board`,
 #      those in which one caller makes the steps of all processes, and the tests of these.
 cd "$(dirname "$0")/../crates" || exit 2
@@ -78,10 +80,12 @@ for file in at_board/src/*.rt; do
         grep -nE '\bmade\b' && say "$file: counts of steps are changed"
 done
 
-words='sync::atomic|Atomic(U|I|Bool|Ptr)|Mutex|RwLock|Condvar|OnceLock|crossbeam|mpsc|channel\(|yield_now|spin_loop|atomic_table'
+words='sync::atomic|Atomic(U|I|Bool|Ptr)|Mutex|RwLock|Condvar|OnceLock|crossbeam|mpsc|channel\(|yield_now|spin_loop|atomic_table|counted_slot|Counted<'
 grep -nE "$words" */src/*.rt |
-    grep -vE '^at_board/|^at_program/src/gate_tests\.rt:' |
+    grep -vE '^at_board/|^at_c/src/(given|shared)\.rt:|^at_program/src/gate_tests\.rt:' |
     grep -vE ':[0-9]+: *(//|ghost use)' && say "a word, a lock or a channel outside the board"
+[ "$(sed 's|//.*||' at_c/src/shared.rt | grep -c '[.]turn(FREE, TAKEN)')" -eq 4 ] || say "at_c: a place is reached for elsewhere than in four functions"
+grep -nE '[.]turn[(]' at_c/src/*.rt | grep -v '^at_c/src/shared.rt:' && say "at_c: a place is reached for outside shared.rt"
 grep -nE 'sync::atomic' at_board/src/*.rt | grep -vE '^at_board/src/meet.rt:' && say "at_board: an atomic word outside its table"
 
 # Who may put together what several seats have seen.

@@ -1,3 +1,4 @@
 pub mod Kept
+mod Lines
 pub mod Sharing
 mod Walks

@@ -1,4 +1,5 @@
 -- What a handle holds may be moved to another thread: each part of it by itself, since one search over all of them meets its limit.
+use base.Fraction.{full_share}
 use base.Shift.{Keyless}
 use mir.Raw.{raw}
 use denote.Memory.{lone}
@@ -8,6 +9,8 @@ use denote.Struct.Owning.{fields, shape, to}
 use denote.Struct.Struct.{Struct, exits_of}
 use denote.Param.Send.{AllSend, IsSend, IsSync, owning_send, part_keyless, sendable, struct_send, view_send, view_sync}
 use denote.Param.SendFields.{declared_send, declared_sync, variants_send}
+use Rattle.core.proofs.atomic.Sent.{chain-Keyless}
+use Rattle.std.proofs.Common.{ℕ, ◌+◌, ◌∷◌}
 use Rattle.std.specs.Prelude.{Option}
 use Rattle.std.proofs.Crossing.{crosses, frees}
 use Rattle.std.specs.contracts.alloc.Global as heap
@@ -20,6 +23,20 @@ use Rattle.atomic_table.specs.declared.shared.TableRule.{Ghosts}
 use Rattle.atomic_table.specs.contracts.send_lease.SendLease as lease
 use Rattle.atomic_table.specs.contracts.owned.Table as table
 use Rattle.atomic_table.specs.contracts.shared.Shared as words
+use Rattle.counted_slot.specs.Counting.{Id, Phase, free, away, shared as apart, offset, state}
+use Rattle.counted_slot.specs.contracts.Counted as counted
+use Rattle.counted_slot.specs.declared.Fits.{Ghosts as Fitting}
+use Rattle.at_base.specs.contracts.decision.Decision as decision
+use Rattle.at_board.proofs.Sharing.{board_seat_sync, table_seat_send}
+use Rattle.at_board.specs.contracts.seat.BoardSeat as seat
+use Rattle.at_fold.specs.contracts.account_totals.AccountTotals as account
+use Rattle.at_fold.specs.contracts.slot_totals.SlotTotals as slot
+use Rattle.at_fold.specs.contracts.totals.Totals as totals
+use Rattle.at_log.specs.contracts.receipt.Receipt as receipt
+use Rattle.at_object.specs.contracts.closed.Closed as closed
+use Rattle.at_object.specs.contracts.parts.CallCount as count
+use Rattle.at_object.specs.contracts.parts.Rest as rest
+use Rattle.at_object.specs.contracts.pass.Pass as pass
 use Rattle.at_ledger.specs.contracts.book.Book as book
 use Rattle.at_board.specs.contracts.board.Board as board
 use Rattle.at_board.specs.contracts.layout.Layout as layout
@@ -32,6 +49,12 @@ use Rattle.at_c.specs.Handles.{owns_held}
 use Rattle.at_c.specs.contracts.handle.Handle as handle
 use Rattle.at_c.specs.contracts.held.Held as held
 use Rattle.at_c.specs.contracts.opened.Opened as opened
+use Rattle.at_c.specs.contracts.ended.Ended as ended
+use Rattle.at_c.specs.contracts.ended.Reported as reported
+use Rattle.at_c.specs.contracts.ending.Ending as ending
+use Rattle.at_c.specs.contracts.gathered.Gathered as gathered
+use Rattle.at_c.specs.contracts.given.Given as given
+use Rattle.at_c.specs.contracts.given.Left as left
 use Rattle.at_c.specs.contracts.shared.Shared as shared
 
 heap_send : IsSend heap.the_row
@@ -103,11 +126,74 @@ names_send = search (sendable, crosses) depth 40 fits 100000
 names_sync : IsSync names.the_row
 names_sync = search (sendable, crosses) depth 40 fits 100000
 
+-- a pass may be shared, as it may be moved
+board_seat_sync' : IsSync seat.the_row
+board_seat_sync' = search (sendable, crosses, board_seat_sync) depth 20
+
+count_sync : IsSync count.the_row
+count_sync = search (sendable, crosses) depth 20
+
+decision_sync : IsSync decision.the_row
+decision_sync = search sendable depth 20
+
+slot_totals_sync : IsSync slot.the_row
+slot_totals_sync = search (sendable, crosses, decision_sync) depth 40 fits 100000
+
+account_totals_sync : IsSync account.the_row
+account_totals_sync = search (sendable, crosses, slot_totals_sync) depth 20
+
+totals_sync : IsSync totals.the_row
+totals_sync = search (sendable, crosses, account_totals_sync) depth 20
+
+rest_sync : IsSync rest.the_row
+rest_sync = search (sendable, count_sync, totals_sync) depth 20
+
+pass_inside_sync : IsSync pass.TheInside.the_row
+pass_inside_sync = search (sendable, declared_sync, board_seat_sync', rest_sync) depth 20
+
+pass_sync : IsSync pass.the_row
+pass_sync = view_sync pass.TheInside.the_row _ _ _ _ pass_inside_sync
+
+receipt_sync : IsSync receipt.the_row
+receipt_sync = search (sendable, crosses) depth 40 fits 100000
+
+-- what stands in a place
+given_send : IsSend given.the_row
+given_send = search (sendable, crosses, declared_send, pass_send, receipt_send) depth 20
+
+given_sync : IsSync given.the_row
+given_sync = search (sendable, crosses, declared_sync, pass_sync, receipt_sync) depth 20
+
+left_send : IsSend left.the_row
+left_send = search (sendable, crosses, declared_send, table_seat_send) depth 20
+
+left_sync : IsSync left.the_row
+left_sync = search (sendable, crosses, declared_sync, board_seat_sync) depth 20
+
+-- and the places themselves
+place_send : (T G : RattleType) (g : Fitting T.Denot G.Denot) → IsSend T → IsSend (counted.the_row T G g)
+place_send T G g s = record { owned = λ d vs. ((λ _. tt), λ z. ((λ vss. (tt, ((tt, tt), (s.owned z.1 vss.1.0, tt)))), λ _. tt)); leaving = λ k d w. tt }
+
+place_keyless : (R : RattleType) (ok : R.Denot → Type 0) → IsSend R → IsSync R → (b o : ℕ) (t : Id) (w : ℕ) (p : Phase R.Denot) → Keyless (state R ok b o t w p)
+place_keyless R ok s y b o t w free = ((λ _. tt), ((λ _. tt), ((tt, tt), λ x. (part_keyless R s full_share x b (o + offset R), λ _. tt))))
+place_keyless R ok s y b o t w away = ((λ _. tt), λ _. tt)
+place_keyless R ok s y b o t w (apart a m x) =
+    ((λ _. tt), ((λ e c. (tt, tt)), ((tt, tt), (((λ _. tt), y.shared x b (o + offset R) (a ∷ t.0)), λ z. (part_keyless R s full_share z b (o + offset R), λ _. tt)))))
+
+place_sync : (T G : RattleType) (g : Fitting T.Denot G.Denot) → IsSend T → IsSync T → IsSync (counted.the_row T G g)
+place_sync T G g s y = record { shared = λ d b o κ t. ((λ νs. chain-Keyless νs κ t.0), λ w. (tt, place_keyless T (g.fits d) s y b o t w)) }
+
+shared_inside_send : IsSend shared.TheInside.the_row
+shared_inside_send = search (sendable, crosses, declared_send, ledger_send, names_send, place_send, given_send, left_send) depth 30 fits 100000
+
+shared_inside_sync : IsSync shared.TheInside.the_row
+shared_inside_sync = search (sendable, crosses, declared_sync, ledger_sync, names_sync, place_sync, given_send, given_sync, left_send, left_sync) depth 30 fits 100000
+
 shared_send : IsSend shared.the_row
-shared_send = search (sendable, declared_send, ledger_send, names_send) depth 20
+shared_send = view_send shared.TheInside.the_row _ _ _ _ shared_inside_send
 
 shared_sync : IsSync shared.the_row
-shared_sync = search (sendable, declared_sync, ledger_sync, names_sync) depth 20
+shared_sync = view_sync shared.TheInside.the_row _ _ _ _ shared_inside_sync
 
 caller_inside_send : IsSend caller.TheInside.the_row
 caller_inside_send = search (sendable, crosses, declared_send, shared_send, shared_sync, pass_send, receipt_send) depth 20
@@ -116,13 +202,38 @@ pub caller_send : IsSend caller.the_row
 caller_send = view_send caller.TheInside.the_row _ _ _ _ caller_inside_send
 
 opened_inside_send : IsSend opened.TheInside.the_row
-opened_inside_send = search (sendable, crosses, declared_send, shared_send, shared_sync, pass_send) depth 20
+opened_inside_send = search (sendable, crosses, declared_send, shared_send, shared_sync, pass_send, receipt_send) depth 20 fits 100000
 
 pub opened_send : IsSend opened.the_row
 opened_send = view_send opened.TheInside.the_row _ _ _ _ opened_inside_send
 
+-- what a ledger comes to
+gathered_inside_send : IsSend gathered.TheInside.the_row
+gathered_inside_send = search (sendable, crosses, declared_send, ledger_send, names_send, pass_send, receipt_send) depth 20 fits 100000
+
+gathered_send : IsSend gathered.the_row
+gathered_send = view_send gathered.TheInside.the_row _ _ _ _ gathered_inside_send
+
+closed_send : IsSend closed.the_row
+closed_send = search (sendable, crosses, declared_send) depth 40 fits 100000
+
+ended_inside_send : IsSend ended.TheInside.the_row
+ended_inside_send = search (sendable, crosses, declared_send, closed_send, names_send) depth 20 fits 100000
+
+ended_send : IsSend ended.the_row
+ended_send = view_send ended.TheInside.the_row _ _ _ _ ended_inside_send
+
+reported_inside_send : IsSend reported.TheInside.the_row
+reported_inside_send = search (sendable, crosses, declared_send, ended_send) depth 20 fits 100000
+
+reported_send : IsSend reported.the_row
+reported_send = view_send reported.TheInside.the_row _ _ _ _ reported_inside_send
+
+pub ending_send : IsSend ending.the_row
+ending_send = search (sendable, variants_send, gathered_send, ended_send, reported_send) depth 20
+
 pub held_send : IsSend held.the_row
-held_send = search (sendable, variants_send, caller_send, opened_send) depth 20
+held_send = search (sendable, variants_send, caller_send, opened_send, ending_send) depth 20
 
 -- what stands behind a handle may be reached and freed in whichever thread has the handle
 box_keyless : (alloc : (heap.the_row).Denot) (p : Ptr) (x : (held.the_row).Denot) → Keyless (box_owns (ghosts.dealloc_token alloc) held.the_row p x)

@@ -4,21 +4,24 @@ use Rattle.at_ledger.specs.declared.call.Call.{Call}
 use Rattle.at_ledger.specs.declared.call.Reply.{Reply}
 use Rattle.at_log.specs.declared.receipt.Receipt.{Receipt}
 use Rattle.at_object.specs.Calls.{CallMade, StaysWithin}
-use Rattle.at_object.specs.Passes.{IsPassOf, PassTerms, Stands}
-use Rattle.at_c.specs.declared.shared.Shared.{Shared}
+use Rattle.at_object.specs.Passes.{PassTerms}
+use Rattle.at_c.specs.Given.{IsGivenBack}
+use Rattle.at_c.specs.Notes.{TakesInNote, Notes}
+use Rattle.at_c.specs.declared.outcome.Outcome.{Outcome}
+use Rattle.at_c.specs.Shared.{SharedTerms}
 
 -- a caller by its ledger and the names of its book, its pass, the receipts of its calls, and how many receipts it has memory for
 pub record OwnCallerTerms : Type 0 where
-  pub shared : Shared
+  pub shared : SharedTerms
   pub pass : PassTerms
   pub receipts : List Receipt
   pub room : ℕ
 
--- the pass is of the ledger, and the receipts are those of all calls that were made with it. They fit the memory
+-- the pass is of the ledger and of one of its processes, and the receipts are those of all calls that were made with it. They fit the
+-- memory
 pub record IsCaller (caller : OwnCallerTerms) : Type 0 where
-  pub of_ledger : IsPassOf caller.pass caller.shared.ledger
-  pub stands : Stands caller.pass caller.receipts
-  pub counted : caller.pass.calls ≡ length caller.receipts
+  pub account : IsGivenBack caller.shared.ledger caller.pass caller.receipts
+  pub process : caller.pass.knows.first < caller.shared.ledger.book.processes
   pub within : length caller.receipts ≤ caller.room
   pub few : caller.room < 2 ^ 32
 
@@ -32,3 +35,12 @@ pub record MakesCall (call : Call) (before after : OwnCallerTerms) (reply : Repl
   pub steps_are : steps ≡ after.pass.steps - before.pass.steps
   pub exchanges_are : exchanges ≡ after.pass.exchanges - before.pass.exchanges
   pub after_is : after ≡ record before { pass = after.pass; receipts = before.receipts ++ receipt ∷ [] }
+
+-- the caller was to leave a note, or to take one in, and nothing of it has changed but what its pass has seen and counted
+abbrev pub CallerNotes : ℕ → OwnCallerTerms → OwnCallerTerms → Outcome → Type 0
+CallerNotes process before after outcome =
+    Notes before.shared.ledger process before.pass after.pass outcome × (after ≡ record before { pass = after.pass })
+
+abbrev pub CallerLearns : ℕ → OwnCallerTerms → OwnCallerTerms → Outcome → Type 0
+CallerLearns process before after outcome =
+    TakesInNote before.shared.ledger process before.pass after.pass outcome × (after ≡ record before { pass = after.pass })

@@ -1,5 +1,5 @@
 -- What exports answer, as numbers and as plain data.
-use Rattle.std.specs.Prelude.{◌≡◌, ℕ, ◌<◌, ◌≤◌, true, is_some, length, map, Err, List, [], None, Option, Some, ⊤}
+use Rattle.std.specs.Prelude.{◌≡◌, ℕ, ◌<◌, ◌≤◌, ◌++◌, true, drop, is_some, length, map, Err, List, [], None, Option, Some, ⊤}
 use Rattle.at_files.specs.BookFile.{book_of_records}
 use Rattle.at_files.specs.Records.{file_records}
 use Rattle.at_files.specs.declared.book_fault.BadBook.{BadBook}
@@ -8,8 +8,11 @@ use Rattle.at_ledger.specs.Limits.{most_targets}
 use Rattle.at_ledger.specs.declared.call.Call.{Call}
 use Rattle.at_ledger.specs.declared.call.Reply.{Reply}
 use Rattle.at_ledger.specs.declared.call.Reply.TheVariants as reply
-use Rattle.at_c.specs.Callers.{OwnCallerTerms, MakesCall}
-use Rattle.at_c.specs.Ledgers.{HandsOut, IsNewLedger, OpenedTerms}
+use Rattle.at_c.specs.Callers.{CallerLearns, CallerNotes, OwnCallerTerms, MakesCall}
+use Rattle.at_c.specs.Endings.{EndsAs, GatheredTerms}
+use Rattle.at_c.specs.Ledgers.{GathersPasses, HandsOut, IsNewLedger, IsStillOpen, OpenedTerms}
+use Rattle.at_c.specs.Why.{why_number}
+use Rattle.at_c.specs.declared.ending.Ending.{Ending}
 use Rattle.at_c.specs.declared.handing.Handed.{Handed}
 use Rattle.at_c.specs.declared.held.Held.{Held}
 use Rattle.at_c.specs.declared.outcome.Answer.{Answer}
@@ -26,6 +29,10 @@ outcome_number Outcome.NoCaller = 5
 outcome_number Outcome.NoAccount = 6
 outcome_number Outcome.NoRoom = 7
 outcome_number Outcome.NoPayOut = 8
+outcome_number Outcome.CallersOut = 9
+outcome_number Outcome.NoProcess = 10
+outcome_number Outcome.NoNote = 11
+outcome_number Outcome.Busy = 12
 
 abbrev pub reply_number : Reply → ℕ
 reply_number reply.Done = 0
@@ -85,33 +92,36 @@ HandlePays from targets before after was now outcome =
     × ((¬ IsPayOut targets) → (outcome ≡ Outcome.NoPayOut) × (after ≡ before) × (now ≡ was))
 
 -- a handle was to be filled with a ledger of the bytes
-abbrev pub Opens : List ℕ → Option Held → Option Held → ℕ → Outcome → Type 0
-Opens bytes before after line Outcome.Done =
+abbrev pub Opens : List ℕ → Option Held → Option Held → ℕ → ℕ → Outcome → Type 0
+Opens bytes before after line why Outcome.Done =
     (before ≡ None) × ((l : OpenedTerms) × (after ≡ Some (Held.Ledger l)) × IsNewLedger bytes l)
-Opens bytes before after line Outcome.BadBook = (before ≡ None) × (after ≡ before)
-    × ((bad : BadBook) × (book_of_records (file_records bytes) ≡ Err bad) × (line ≡ bad.line))
-Opens bytes before after line Outcome.InUse = (is_some before ≡ true) × (after ≡ before)
-Opens bytes before after line Outcome.NoMemory = (before ≡ None) × (after ≡ before)
-Opens bytes before after line other = ⊥
+Opens bytes before after line why Outcome.BadBook = (before ≡ None) × (after ≡ before)
+    × ((bad : BadBook) × (book_of_records (file_records bytes) ≡ Err bad) × (line ≡ bad.line) × (why ≡ why_number bad.why))
+Opens bytes before after line why Outcome.InUse = (is_some before ≡ true) × (after ≡ before)
+Opens bytes before after line why Outcome.NoMemory = (before ≡ None) × (after ≡ before)
+Opens bytes before after line why other = ⊥
 
 -- the next caller of a ledger was handed out
 abbrev pub HandsOutOf : ℕ → Held → Held → OwnCallerTerms → Type 0
 HandsOutOf calls Held.Nothing after caller = ⊥
 HandsOutOf calls (Held.Caller c) after caller = ⊥
+HandsOutOf calls (Held.Ending e) after caller = ⊥
 HandsOutOf calls (Held.Ledger l) after caller =
     (l' : OpenedTerms) × (after ≡ Held.Ledger l') × HandsOut calls l l' (Some caller)
 
--- this is no ledger
+-- this is no ledger that hands out callers
 abbrev pub IsNoLedger : Held → Type 0
 IsNoLedger Held.Nothing = ⊤
 IsNoLedger (Held.Caller c) = ⊤
 IsNoLedger (Held.Ledger l) = ⊥
+IsNoLedger (Held.Ending e) = ⊤
 
 -- this is a ledger of which all callers were handed out
 abbrev pub HasNoneLeft : Held → Type 0
 HasNoneLeft Held.Nothing = ⊥
 HasNoneLeft (Held.Caller c) = ⊥
 HasNoneLeft (Held.Ledger l) = l.waiting ≡ []
+HasNoneLeft (Held.Ending e) = ⊥
 
 -- what was asked for the next caller of its ledger has answered so, and was left so
 abbrev pub HandedOf : ℕ → Held → Held → Handed → Type 0
@@ -148,11 +158,13 @@ abbrev pub steps_of_held : Held → ℕ
 steps_of_held Held.Nothing = 0
 steps_of_held (Held.Ledger l) = 0
 steps_of_held (Held.Caller c) = c.pass.steps
+steps_of_held (Held.Ending e) = 0
 
 abbrev pub exchanges_of_held : Held → ℕ
 exchanges_of_held Held.Nothing = 0
 exchanges_of_held (Held.Ledger l) = 0
 exchanges_of_held (Held.Caller c) = c.pass.exchanges
+exchanges_of_held (Held.Ending e) = 0
 
 -- the same of what a handle holds
 abbrev pub steps_by_handle : Option Held → ℕ
@@ -162,3 +174,100 @@ steps_by_handle (Some held) = steps_of_held held
 abbrev pub exchanges_by_handle : Option Held → ℕ
 exchanges_by_handle None = 0
 exchanges_by_handle (Some held) = exchanges_of_held held
+
+-- a handle was given to leave a note for a process, or to take in what one has left: the caller that it holds does. Where it holds none,
+-- nothing has changed
+abbrev pub HandleNotes : ℕ → Option Held → Option Held → Outcome → Type 0
+HandleNotes process (Some (Held.Caller c)) after outcome =
+    (c' : OwnCallerTerms) × (after ≡ Some (Held.Caller c')) × CallerNotes process c c' outcome
+HandleNotes process before after outcome = (outcome ≡ Outcome.WrongHandle) × (after ≡ before)
+
+abbrev pub HandleLearns : ℕ → Option Held → Option Held → Outcome → Type 0
+HandleLearns process (Some (Held.Caller c)) after outcome =
+    (c' : OwnCallerTerms) × (after ≡ Some (Held.Caller c')) × CallerLearns process c c' outcome
+HandleLearns process before after outcome = (outcome ≡ Outcome.WrongHandle) × (after ≡ before)
+
+-- this is no caller
+abbrev pub IsNoCaller : Held → Type 0
+IsNoCaller Held.Nothing = ⊤
+IsNoCaller (Held.Ledger l) = ⊤
+IsNoCaller (Held.Caller c) = ⊥
+IsNoCaller (Held.Ending e) = ⊤
+
+-- what was to be given back was left so
+abbrev pub GivesBackHeld : Held → Held → Outcome → Type 0
+GivesBackHeld before after Outcome.Done = (c : OwnCallerTerms) × (before ≡ Held.Caller c)
+GivesBackHeld before after Outcome.Busy = (c : OwnCallerTerms) × (before ≡ Held.Caller c) × (after ≡ before)
+GivesBackHeld before after Outcome.WrongHandle = IsNoCaller before × (after ≡ before)
+GivesBackHeld before after other = ⊥
+
+-- the same of what a handle holds
+abbrev pub HoldsCaller : Option Held → Type 0
+HoldsCaller held = (c : OwnCallerTerms) × (held ≡ Some (Held.Caller c))
+
+abbrev pub HoldsNoCaller : Option Held → Type 0
+HoldsNoCaller None = ⊤
+HoldsNoCaller (Some held) = IsNoCaller held
+
+-- a handle was to give back the caller that it holds: it is left with nothing, or as it was
+abbrev pub GivesBack : Option Held → Option Held → Outcome → Type 0
+GivesBack before after Outcome.Done = HoldsCaller before × (after ≡ None)
+GivesBack before after Outcome.Busy = HoldsCaller before × (after ≡ before)
+GivesBack before after Outcome.WrongHandle = HoldsNoCaller before × (after ≡ before)
+GivesBack before after other = ⊥
+
+-- how far an end has come from another: not at all, or on to its closed ledger or to its report
+abbrev pub ComesOf : Ending → Ending → Type 0
+ComesOf (Ending.Gathered g) (Ending.Gathered g') = g' ≡ g
+ComesOf (Ending.Gathered g) (Ending.Closed e) = EndsAs g e
+ComesOf (Ending.Gathered g) (Ending.Reported r) = EndsAs g r.ended
+ComesOf (Ending.Closed e) (Ending.Gathered g) = ⊥
+ComesOf (Ending.Closed e) (Ending.Closed e') = e' ≡ e
+ComesOf (Ending.Closed e) (Ending.Reported r) = r.ended ≡ e
+ComesOf (Ending.Reported r) (Ending.Gathered g) = ⊥
+ComesOf (Ending.Reported r) (Ending.Closed e) = ⊥
+ComesOf (Ending.Reported r) (Ending.Reported r') = r' ≡ r
+
+-- it is done where the report is made, and else memory was wanting
+abbrev pub ending_outcome : Ending → Outcome
+ending_outcome (Ending.Gathered g) = Outcome.NoMemory
+ending_outcome (Ending.Closed e) = Outcome.NoMemory
+ending_outcome (Ending.Reported r) = Outcome.Done
+
+-- an end went on, and this is held now
+abbrev pub EndsHeld : Ending → Held → Outcome → Type 0
+EndsHeld before after outcome =
+    (e : Ending) × (after ≡ Held.Ending e) × ComesOf before e × (outcome ≡ ending_outcome e)
+
+-- what was to be closed was left so. A ledger of which a caller is out stays as it is, but that more may have come back
+abbrev pub ClosesHeld : Held → Held → Outcome → Type 0
+ClosesHeld (Held.Ledger l) after Outcome.CallersOut = (l' : OpenedTerms) × (after ≡ Held.Ledger l') × IsStillOpen l l'
+ClosesHeld (Held.Ledger l) after outcome = (g : GatheredTerms) × GathersPasses l g × EndsHeld (Ending.Gathered g) after outcome
+ClosesHeld (Held.Ending e) after outcome = EndsHeld e after outcome
+ClosesHeld before after outcome = (outcome ≡ Outcome.WrongHandle) × (after ≡ before)
+
+-- a handle was to be closed
+abbrev pub Closes : Option Held → Option Held → Outcome → Type 0
+Closes None after outcome = (outcome ≡ Outcome.WrongHandle) × (after ≡ None)
+Closes (Some before) after outcome = (held : Held) × (after ≡ Some held) × ClosesHeld before held outcome
+
+-- the report, and nothing of what holds none
+abbrev pub report_of_ending : Ending → List ℕ
+report_of_ending (Ending.Gathered g) = []
+report_of_ending (Ending.Closed e) = []
+report_of_ending (Ending.Reported r) = r.text
+
+abbrev pub report_of_held : Held → List ℕ
+report_of_held Held.Nothing = []
+report_of_held (Held.Ledger l) = []
+report_of_held (Held.Caller c) = []
+report_of_held (Held.Ending e) = report_of_ending e
+
+abbrev pub report_by_handle : Option Held → List ℕ
+report_by_handle None = []
+report_by_handle (Some held) = report_of_held held
+
+-- the text was written over the first bytes, if they are as many. Else all are as they were
+pub record IsWrittenOver (text before after : List ℕ) : Type 0 where
+  pub written : length text ≤ length before → after ≡ text ++ drop (length text) before
+  pub same : length before < length text → after ≡ before

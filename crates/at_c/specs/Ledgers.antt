@@ -1,21 +1,38 @@
 -- Opened ledgers as exports see them, and what handing out a caller leaves.
-use Rattle.std.specs.Prelude.{◌≡◌, ℕ, ◌+◌, ◌<◌, List, [], ◌∷◌, length, slice_index_or, None, Option, Some}
+use Rattle.std.specs.Prelude.{◌≡◌, ℕ, ◌+◌, ◌<◌, ◌≤◌, List, [], ◌∷◌, length, slice_index_or, All, None, Option, Some}
 use Rattle.at_files.specs.BookFile.{Spells}
 use Rattle.at_files.specs.Records.{file_records}
+use Rattle.at_object.specs.Closings.{IsAccountedFor}
 use Rattle.at_object.specs.Passes.{IsNewPass, PassTerms}
+use Rattle.at_log.specs.declared.receipt.Receipt.{Receipt}
 use Rattle.at_c.specs.Callers.{OwnCallerTerms}
-use Rattle.at_c.specs.declared.shared.Shared.{Shared}
+use Rattle.at_c.specs.Endings.{GatheredTerms}
+use Rattle.at_c.specs.Given.{AreReceipts}
+use Rattle.at_c.specs.Shared.{SharedTerms}
 
--- an opened ledger by what its callers share, how many callers were handed out, and the passes of the others
+-- an opened ledger by what its callers share, how many callers were handed out, the passes of the others, the passes that came back with
+-- their receipts, and how many it has memory for
 pub record OpenedTerms : Type 0 where
-  pub shared : Shared
+  pub shared : SharedTerms
   pub given : ℕ
   pub waiting : List PassTerms
+  pub passes : List PassTerms
+  pub receipts : List (List Receipt)
+  pub passes_room : ℕ
+  pub receipts_room : ℕ
 
--- those that wait are new passes of the ledger, of the next processes in order
+-- those that wait are new passes of the ledger, of the next processes in order. Those that came back are of the first ones, in order, each
+-- with the receipts of its calls
 pub record IsOpened (o : OpenedTerms) : Type 0 where
   pub count : o.given + length o.waiting ≡ o.shared.ledger.book.processes
   pub each : (i : ℕ) (d : PassTerms) → i < length o.waiting → IsNewPass o.shared.ledger (o.given + i) (slice_index_or o.waiting i d)
+  pub within : length o.passes ≤ o.given
+  pub even : length o.receipts ≡ length o.passes
+  pub back : (p : ℕ) (d : PassTerms) → p < length o.passes →
+      IsAccountedFor o.shared.ledger p (slice_index_or o.passes p d) (slice_index_or o.receipts p [])
+  pub are : All (AreReceipts (length o.shared.ledger.book.accounts)) o.receipts
+  pub passes_fit : o.shared.ledger.book.processes ≤ o.passes_room
+  pub receipts_fit : o.shared.ledger.book.processes ≤ o.receipts_room
 
 -- a new ledger for the book that the bytes spell, of which no caller was handed out
 pub record IsNewLedger (bytes : List ℕ) (o : OpenedTerms) : Type 0 where
@@ -30,3 +47,13 @@ HandsOut calls before after (Some caller) =
     (pass : PassTerms) × (rest : List PassTerms) × (before.waiting ≡ pass ∷ rest) × IsNewPass before.shared.ledger before.given pass
     × (caller ≡ record { shared = before.shared; pass = pass; receipts = []; room = calls })
     × (after ≡ record before { given = before.given + 1; waiting = rest })
+
+-- nothing has changed but that more passes may have come back
+pub record IsStillOpen (before after : OpenedTerms) : Type 0 where
+  pub same : after ≡ record before { passes = after.passes; receipts = after.receipts }
+  pub more : length before.passes ≤ length after.passes
+
+-- all callers that were handed out are back, and with those that weren't they are all passes of the ledger
+pub record GathersPasses (o : OpenedTerms) (g : GatheredTerms) : Type 0 where
+  pub ledger_is : g.ledger ≡ o.shared.ledger
+  pub names_are : g.names ≡ o.shared.names

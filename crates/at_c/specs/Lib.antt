@@ -1,4 +1,9 @@
 pub mod Callers
+pub mod Endings
 pub mod Exports
+pub mod Given
 pub mod Handles
 pub mod Ledgers
+pub mod Notes
+pub mod Shared
+pub mod Why

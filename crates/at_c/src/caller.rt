@@ -1,12 +1,14 @@
 //! Callers: a pass with its ledger and the receipts of its calls.
 
-ghost use Rattle.std.specs.Prelude.{◌≡◌, ℕ, ◌<◌, ◌^◌, [], length};
+ghost use Rattle.std.specs.Prelude.{◌≡◌, ℕ, ◌<◌, ◌^◌, [], length, IfErr};
 ghost use Rattle.std.specs.Arc.{arc_value};
 ghost use Rattle.std.specs.Vec.{vec_capacity};
 ghost use Rattle.at_ledger.specs.Call.{IsCallOn};
 ghost use Rattle.at_object.specs.Passes.{IsNewPass};
-ghost use Rattle.at_c.specs.Callers.{MakesCall};
+ghost use Rattle.at_c.specs.Callers.{CallerLearns, CallerNotes, MakesCall};
 
+use crate::given::Given;
+use crate::outcome::Outcome;
 use crate::shared::Shared;
 use at_ledger::{Call, Reply};
 use at_log::Receipt;
@@ -57,7 +59,8 @@ pub(crate) struct Called {
 impl Caller {
     /// The caller of a new pass. The memory of its receipts was taken before.
     pub(crate) fn new(shared: Arc<Shared>, pass: Pass, receipts: Vec<Receipt>) -> Caller
-        requires pass { (process : ℕ) × IsNewPass (arc_value shared).ledger process pass }
+        requires pass { (process : ℕ) × (process < (arc_value shared).ledger.book.processes)
+            × IsNewPass (arc_value shared).ledger process pass }
         requires empty { receipts.items ≡ [] }
         requires few { vec_capacity receipts < 2 ^ 32 }
         ensures { result ≡ record {
@@ -125,5 +128,38 @@ impl Caller {
         ensures { result ≡ self.now.pass.exchanges }
     {
         self.pass.exchanges()
+    }
+
+    /// Leaves a note of what the caller has seen for the caller of another process. Takes no memory.
+    pub(crate) fn note(&mut self, process: u32) -> Outcome
+        ensures { CallerNotes process self.old self.new result }
+    {
+        self.shared.note(&mut self.pass, process)
+    }
+
+    /// Takes in what the caller of another process has left for this one. Takes no memory.
+    pub(crate) fn learn(&mut self, process: u32) -> Outcome
+        ensures { CallerLearns process self.old self.new result }
+    {
+        self.shared.learn(&mut self.pass, process)
+    }
+
+    /// Gives the pass and the receipts back to the ledger. Where it can't, the caller is as it was.
+    pub(crate) fn give_back(self) -> Result<(), Caller>
+        ensures { IfErr result (λ c. c ≡ self) }
+    {
+        let Caller {
+            shared,
+            pass,
+            receipts,
+        } = self;
+        match shared.give(Given { pass, receipts }) {
+            Ok(()) => Ok(()),
+            Err(Given { pass, receipts }) => Err(Caller {
+                shared,
+                pass,
+                receipts,
+            }),
+        }
     }
 }

@@ -64,6 +64,7 @@ impl Held {
             Held::Caller(caller) => caller.answer(call, answer),
             Held::Nothing => Outcome::WrongHandle,
             Held::Ledger(_) => Outcome::WrongHandle,
+            Held::Ending(_) => Outcome::WrongHandle,
         }
     }
 }

@@ -1,8 +1,8 @@
 //! The exports: one function of C each, which calls one function of the crate.
 
-ghost use Rattle.std.specs.Prelude.{◌≡◌, None};
+ghost use Rattle.std.specs.Prelude.{◌≡◌, length, None};
 ghost use Rattle.at_ledger.specs.declared.call.Call.{Call};
-ghost use Rattle.at_c.specs.Exports.{HandleAnswers, HandlePays, HandsOutTo, Opens, outcome_number, steps_by_handle, exchanges_by_handle};
+ghost use Rattle.at_c.specs.Exports.{Closes, GivesBack, HandleAnswers, HandleLearns, HandleNotes, HandlePays, HandsOutTo, IsWrittenOver, Opens, exchanges_by_handle, outcome_number, report_by_handle, steps_by_handle};
 ghost use Rattle.at_c.specs.declared.outcome.Outcome.{Outcome};
 
 use crate::handle::Handle;
@@ -12,29 +12,30 @@ use at_ledger::Call;
 use std::alloc::Global;
 
 /// The version of the exports, as the header of C numbers it.
-const VERSION: u32 = 2;
+const VERSION: u32 = 3;
 
 /// The version of the exports.
 #[unsafe(no_mangle)]
 pub extern "C" fn bezglami_version() -> u32
-    ensures { result ≡ 2 }
+    ensures { result ≡ 3 }
 {
     VERSION
 }
 
 /// Fills a handle, which holds nothing, with a ledger for the book that the bytes spell. Where they spell none, `line` is that of the
-/// first fault.
+/// first fault, and `why` its cause.
 #[unsafe(no_mangle)]
 pub extern "C" fn bezglami_open(
     alloc: Global,
     book: &[u8],
     ledger: &mut Handle,
     line: &mut u32,
+    why: &mut u32,
 ) -> u32
     ensures { (outcome : Outcome) × (result ≡ outcome_number outcome)
-        × Opens book.now ledger.old.held ledger.new.held line.new outcome }
+        × Opens book.now ledger.old.held ledger.new.held line.new why.new outcome }
 {
-    ledger.open(alloc, book, line).number()
+    ledger.open(alloc, book, line, why).number()
 }
 
 /// Fills a handle, which holds nothing, with the caller of the next process of the ledger, with memory for so many receipts.
@@ -97,6 +98,25 @@ pub extern "C" fn bezglami_read(
     caller.call(alloc, Call::Read { account }, answer).number()
 }
 
+/// Leaves a note of what the caller has seen for the caller of another process. Takes no memory and waits for no thread.
+#[unsafe(no_mangle)]
+pub extern "C" fn bezglami_note(alloc: Global, caller: &mut Handle, process: u32) -> u32
+    ensures { (outcome : Outcome) × (result ≡ outcome_number outcome)
+        × HandleNotes process caller.old.held caller.new.held outcome }
+{
+    caller.note(alloc, process).number()
+}
+
+/// Takes in the note that the caller of another process has left for this one, which is then there no more. Takes no memory and waits for
+/// no thread.
+#[unsafe(no_mangle)]
+pub extern "C" fn bezglami_learn(alloc: Global, caller: &mut Handle, process: u32) -> u32
+    ensures { (outcome : Outcome) × (result ≡ outcome_number outcome)
+        × HandleLearns process caller.old.held caller.new.held outcome }
+{
+    caller.learn(alloc, process).number()
+}
+
 /// How many steps the calls of this caller have made, and 0 where the handle holds none.
 #[unsafe(no_mangle)]
 pub extern "C" fn bezglami_steps(alloc: Global, caller: &mut Handle) -> u64
@@ -113,6 +133,34 @@ pub extern "C" fn bezglami_exchanges(alloc: Global, caller: &mut Handle) -> u64
     ensures same { caller.new.held ≡ caller.old.held }
 {
     caller.exchanges(alloc)
+}
+
+/// Gives a caller back to its ledger, with the receipts of its calls. The handle is left with nothing.
+#[unsafe(no_mangle)]
+pub extern "C" fn bezglami_return(alloc: Global, caller: &mut Handle) -> u32
+    ensures { (outcome : Outcome) × (result ≡ outcome_number outcome)
+        × GivesBack caller.old.held caller.new.held outcome }
+{
+    caller.give_back(alloc).number()
+}
+
+/// Closes a ledger, once all its callers are back, and makes its report. Where memory is wanting, it may be called again.
+#[unsafe(no_mangle)]
+pub extern "C" fn bezglami_close(alloc: Global, ledger: &mut Handle) -> u32
+    ensures { (outcome : Outcome) × (result ≡ outcome_number outcome)
+        × Closes ledger.old.held ledger.new.held outcome }
+{
+    ledger.close(alloc).number()
+}
+
+/// How many bytes the report has that the handle holds, which are written where there is room for all of them. 0 where it holds none.
+#[unsafe(no_mangle)]
+pub extern "C" fn bezglami_report(alloc: Global, ledger: &mut Handle, bytes: &mut [u8]) -> usize
+    ensures length { result ≡ length (report_by_handle ledger.old.held) }
+    ensures written { IsWrittenOver (report_by_handle ledger.old.held) bytes.old bytes.new }
+    ensures same { ledger.new.held ≡ ledger.old.held }
+{
+    ledger.report(alloc, bytes)
 }
 
 /// Frees what the handle holds, whatever it is. The handle is left with nothing.

@@ -9,6 +9,7 @@ use crate::handle::Handle;
 use crate::held::Held;
 use crate::opened::Opened;
 use crate::outcome::Outcome;
+use crate::why::number_of_why;
 use at_files::ReadBookFault;
 use std::alloc::Global;
 
@@ -38,6 +39,7 @@ impl Held {
             },
             Held::Nothing => Handed::NoLedger,
             Held::Caller(_) => Handed::NoLedger,
+            Held::Ending(_) => Handed::NoLedger,
         }
     }
 
@@ -48,6 +50,7 @@ impl Held {
             Held::Caller(caller) => caller.steps(),
             Held::Nothing => 0,
             Held::Ledger(_) => 0,
+            Held::Ending(_) => 0,
         }
     }
 
@@ -58,6 +61,7 @@ impl Held {
             Held::Caller(caller) => caller.exchanges(),
             Held::Nothing => 0,
             Held::Ledger(_) => 0,
+            Held::Ending(_) => 0,
         }
     }
 }
@@ -78,8 +82,14 @@ impl Handle {
     }
 
     /// Fills the handle, which holds nothing, with a new ledger.
-    pub(crate) fn open(&mut self, alloc: Global, book: &[u8], line: &mut u32) -> Outcome
-        ensures { Opens book.now self.old.held self.new.held line.new result }
+    pub(crate) fn open(
+        &mut self,
+        alloc: Global,
+        book: &[u8],
+        line: &mut u32,
+        why: &mut u32,
+    ) -> Outcome
+        ensures { Opens book.now self.old.held self.new.held line.new why.new result }
     {
         if self.is_in_use(alloc) {
             return Outcome::InUse;
@@ -95,6 +105,7 @@ impl Handle {
             }
             Err(ReadBookFault::Bad(bad)) => {
                 *line = bad.line;
+                *why = number_of_why(bad.why);
                 Outcome::BadBook
             }
             Err(ReadBookFault::NoMemory) => Outcome::NoMemory,

@@ -1,6 +1,7 @@
 //! What a handle holds.
 
 use crate::caller::Caller;
+use crate::ending::Ending;
 use crate::opened::Opened;
 
 /// What stands behind a handle.
@@ -12,4 +13,6 @@ pub enum Held {
     Ledger(Opened),
     /// A caller of a ledger.
     Caller(Caller),
+    /// A ledger whose callers are all back.
+    Ending(Ending),
 }

@@ -26,6 +26,14 @@ pub enum Outcome {
     NoRoom,
     /// It is no pay-out that has so many targets.
     NoPayOut,
+    /// A caller wasn't given back.
+    CallersOut,
+    /// The book has no process of that number.
+    NoProcess,
+    /// The process has left no note.
+    NoNote,
+    /// Another thread just reaches for the same.
+    Busy,
 }
 
 impl Outcome {
@@ -43,6 +51,10 @@ impl Outcome {
             Outcome::NoAccount => 6,
             Outcome::NoRoom => 7,
             Outcome::NoPayOut => 8,
+            Outcome::CallersOut => 9,
+            Outcome::NoProcess => 10,
+            Outcome::NoNote => 11,
+            Outcome::Busy => 12,
         }
     }
 }

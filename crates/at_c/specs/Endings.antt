@@ -1,0 +1,57 @@
+-- How a ledger ends: all callers have given their passes back, the ledger is closed, and its report is made.
+use Rattle.std.specs.Prelude.{◌≡◌, ℕ, List, length, All}
+use Rattle.at_ledger.specs.Run.{Legal, Whole}
+use Rattle.at_board.specs.Knowledge.Seats.{BoardTerms}
+use Rattle.at_files.specs.Names.{AreNamesOf, NameList}
+use Rattle.at_journal.specs.Calls.{calls_in}
+use Rattle.at_journal.specs.Linearizable.{AreTimed, CallTimes, IsLinearizable}
+use Rattle.at_log.specs.JournalOrder.{journal_lines}
+use Rattle.at_log.specs.declared.receipt.Receipt.{Receipt}
+use Rattle.at_object.specs.Closings.{AreAccountedFor, ClosedTerms, HasAllLogs}
+use Rattle.at_object.specs.Passes.{PassTerms}
+use Rattle.at_report.specs.Report.{report_text}
+use Rattle.at_c.specs.Given.{AreReceipts}
+
+-- a ledger with the names of its book, all its passes and the receipts of all calls
+pub record GatheredTerms : Type 0 where
+  pub ledger : BoardTerms
+  pub names : NameList
+  pub passes : List PassTerms
+  pub receipts : List (List Receipt)
+
+-- each pass is there, in order, with the receipts of its calls
+pub record IsGathered (g : GatheredTerms) : Type 0 where
+  pub named : AreNamesOf g.ledger.book g.names
+  pub accounted : AreAccountedFor g.ledger g.passes g.receipts
+  pub are : All (AreReceipts (length g.ledger.book.accounts)) g.receipts
+
+-- a closed ledger with the names of its book
+pub record EndedTerms : Type 0 where
+  pub closed : ClosedTerms
+  pub names : NameList
+
+-- the names are the book's, and the receipts are of calls on its accounts
+pub record IsEnded (e : EndedTerms) : Type 0 where
+  pub named : AreNamesOf e.closed.book e.names
+  pub are : All (AreReceipts (length e.closed.book.accounts)) e.closed.closing.receipts
+
+-- the ledger was closed with these passes and receipts
+pub record EndsAs (g : GatheredTerms) (e : EndedTerms) : Type 0 where
+  pub book_is : e.closed.book ≡ g.ledger.book
+  pub names_are : e.names ≡ g.names
+  pub receipts_are : e.closed.closing.receipts ≡ g.receipts
+  pub logs : HasAllLogs g.passes e.closed
+
+-- the same with its report
+pub record ReportedTerms : Type 0 where
+  pub ended : EndedTerms
+  pub text : List ℕ
+
+-- the text is the report of the closed ledger: of all its calls, in one order in which the ledger answers each as it was answered, and
+-- in which each call that had ended before another began stands before it
+pub record IsReportOfClosed (closed : ClosedTerms) (names : NameList) (text : List ℕ) : Type 0 where
+  pub text_is : text ≡ report_text closed.book names (journal_lines closed.closing)
+  pub whole : Whole (calls_in closed.closing) (journal_lines closed.closing)
+  pub legal : Legal closed.book (journal_lines closed.closing)
+  pub linearizable : (times : CallTimes) → AreTimed closed.closing times
+      → IsLinearizable closed.book (calls_in closed.closing) times (journal_lines closed.closing)
