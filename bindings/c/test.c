@@ -417,6 +417,44 @@ static void test_closing_meanwhile(void) {
     }
 }
 
+/* A caller that reaches for the same two notes as another thread, and what came of it. */
+struct reaching {
+    bezglami_handle caller;
+    uint32_t other;
+    uint64_t done;
+    pthread_t thread;
+};
+
+static void *reach_for_notes(void *argument) {
+    struct reaching *reaching = argument;
+    for (int time = 0; time < 20000; time++) {
+        uint32_t left = bezglami_note(&reaching->caller, reaching->other);
+        uint32_t learnt = bezglami_learn(&reaching->caller, reaching->other);
+        EXPECT(left == BEZGLAMI_DONE || left == BEZGLAMI_BUSY);
+        EXPECT(learnt == BEZGLAMI_DONE || learnt == BEZGLAMI_BUSY || learnt == BEZGLAMI_NO_NOTE);
+        reaching->done += (left == BEZGLAMI_DONE) + (learnt == BEZGLAMI_DONE);
+    }
+    return NULL;
+}
+
+/* Two threads leave notes for each other and take them in at once. What is busy counts as no step. */
+static void test_notes_meanwhile(void) {
+    struct reaching both[2] = { { .other = 1 }, { .other = 0 } };
+    bezglami_handle ledger = BEZGLAMI_NOTHING;
+    open_new(BOOK, &ledger);
+    for (int p = 0; p < 2; p++)
+        EXPECT(bezglami_caller(&ledger, 0, &both[p].caller) == BEZGLAMI_DONE);
+    for (int p = 0; p < 2; p++)
+        EXPECT(pthread_create(&both[p].thread, NULL, reach_for_notes, &both[p]) == 0);
+    for (int p = 0; p < 2; p++) {
+        pthread_join(both[p].thread, NULL);
+        EXPECT(bezglami_steps(&both[p].caller) == both[p].done && bezglami_exchanges(&both[p].caller) == both[p].done);
+        EXPECT(bezglami_return(&both[p].caller) == BEZGLAMI_DONE);
+    }
+    EXPECT(bezglami_close(&ledger) == BEZGLAMI_DONE);
+    bezglami_free(&ledger);
+}
+
 /* What is done again where memory was wanting, which it was once at most. */
 static bool again(uint32_t outcome, bool *refused) {
     EXPECT(outcome == BEZGLAMI_DONE || (outcome == BEZGLAMI_NO_MEMORY && !*refused));
@@ -489,6 +527,7 @@ int main(void) {
     test_notes();
     test_stopped();
     test_closing_meanwhile();
+    test_notes_meanwhile();
     test_freed_half_closed();
     EXPECT(bezglami_version() == BEZGLAMI_VERSION);
     for (uint32_t outcome = BEZGLAMI_DONE; outcome <= BEZGLAMI_BUSY; outcome++)
