@@ -13,9 +13,14 @@ use Rattle.at_log.specs.Coherent.{Coherent}
 use Rattle.at_log.specs.JournalOrder.{journal_lines}
 use Rattle.at_log.specs.declared.receipt.Receipt.{Receipt}
 use Rattle.at_object.specs.Closings.{ClosedTerms}
-use Rattle.at_object.specs.Passes.{IsNewPass, PassTerms}
+use Rattle.at_object.specs.Passes.{AreNewPasses, IsNewPass, PassTerms}
 use Rattle.at_workers.specs.Costs.{CostTerms, TakeCalls}
 use Rattle.at_workers.specs.Jobs.{IsReady, JobTerms}
+
+-- this is a ledger of the book, and there is a new pass on it for each process
+pub record HasNewPasses (b : BookTerms) (ledger : BoardTerms) (passes : List PassTerms) : Type 0 where
+  pub book_is : ledger.book ≡ b
+  pub passes_are : AreNewPasses ledger passes
 
 -- the calls of the files were made on the closed ledger, and no others: it has a receipt for each call of each process's file, in the
 -- order of the file. Its closing is coherent

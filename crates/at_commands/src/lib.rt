@@ -17,6 +17,7 @@ mod generating;
 mod given;
 mod making;
 mod nodes;
+mod opening;
 mod playing;
 mod replaying;
 mod running;

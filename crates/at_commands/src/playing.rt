@@ -7,7 +7,7 @@ ghost use Rattle.at_ledger.specs.Call.{IsCallOn};
 ghost use Rattle.at_log.specs.Receipts.{calls_of, lists_in};
 ghost use Rattle.at_object.specs.Closings.{AreAccountedFor};
 ghost use Rattle.at_object.specs.Passes.{AreNewPasses, Stands};
-ghost use Rattle.at_commands.specs.Running.{AreCosts, AreJobsFor, IsClosedAfter, IsPlayed, IsPlayedInOrder, IsPlayedNoting, costs_in};
+ghost use Rattle.at_commands.specs.Running.{AreCosts, AreJobsFor, HasNewPasses, IsClosedAfter, IsPlayed, IsPlayedInOrder, IsPlayedNoting, costs_in};
 ghost use Rattle.at_workers.specs.Jobs.{JobTerms};
 
 use at_journal::{CallAt, journal, journal_calls};
@@ -137,6 +137,37 @@ fn make_calls<R: Threads + Sync, G: Gate + Sync>(
     taken_apart(alloc, jobs)
 }
 
+/// Makes the calls of each file on this ledger, which has its new passes beside it, and closes it. Beside it are then the costs of each
+/// process's calls, where they are to be noted.
+fn closed_on<R: Threads + Sync, G: Gate + Sync>(
+    rt: &R,
+    alloc: Global,
+    opened: (Ledger, Vec<Pass>),
+    files: Vec<Vec<Call>>,
+    notes: bool,
+    gate: &G,
+) -> Result<(Closed, Vec<Vec<CallCost>>), NoMemory>
+    requires passes { AreNewPasses opened.0 opened.1.items }
+    requires count { length files.items ≡ opened.0.book.processes }
+    requires known { All (IsPlayable (length opened.0.book.accounts)) (contents_of files.items) }
+    ensures closed { IfOk result (λ r. IsClosedAfter opened.0.book (contents_of files.items) r.0) }
+    ensures costs { notes ≡ true
+        → IfOk result
+        (λ r. AreCosts opened.0.book r.0.closing.receipts (lists_in r.1.items)) }
+{
+    let (ledger, passes) = opened;
+    let left = make_calls(rt, alloc, &ledger, passes, files, notes, gate)?;
+    let Left {
+        passes,
+        receipts,
+        costs,
+    } = left;
+    let Ok(closed) = ledger.close(alloc, passes, receipts) else {
+        return Err(AllocError);
+    };
+    Ok((closed, costs))
+}
+
 /// Makes the calls of each file on a new ledger of the book, and closes it. Beside it are the costs of each process's calls, where
 /// they are to be noted.
 fn closed_after<R: Threads + Sync, G: Gate + Sync>(
@@ -153,17 +184,8 @@ fn closed_after<R: Threads + Sync, G: Gate + Sync>(
     ensures costs { notes ≡ true
         → IfOk result (λ r. AreCosts book.now r.0.closing.receipts (lists_in r.1.items)) }
 {
-    let (ledger, passes) = Ledger::new(alloc, book)?;
-    let left = make_calls(rt, alloc, &ledger, passes, files, notes, gate)?;
-    let Left {
-        passes,
-        receipts,
-        costs,
-    } = left;
-    let Ok(closed) = ledger.close(alloc, passes, receipts) else {
-        return Err(AllocError);
-    };
-    Ok((closed, costs))
+    let opened = Ledger::new(alloc, book)?;
+    closed_on(rt, alloc, opened, files, notes, gate)
 }
 
 /// Makes the calls of each file on a new ledger of the book, each process's by a thread of its own. What is left are the closed ledger
@@ -184,20 +206,23 @@ pub fn play<R: Threads + Sync, G: Gate + Sync>(
     Ok((closed, lines))
 }
 
-/// Makes the calls of each file as `play` does. What is left are the closed ledger, and its calls in the order of its journal.
+/// Makes the calls of each file on this new ledger of the book as `play` does. What is left are the closed ledger, and its calls in the
+/// order of its journal.
 pub(crate) fn play_in_order<R: Threads + Sync, G: Gate + Sync>(
     rt: &R,
     alloc: Global,
     book: &Book,
+    opened: (Ledger, Vec<Pass>),
     files: Vec<Vec<Call>>,
     gate: &G,
 ) -> Result<(Closed, Vec<CallAt>), NoMemory>
+    requires opened { HasNewPasses book.now opened.0 opened.1.items }
     requires count { length files.items ≡ book.now.processes }
     requires known { All (IsPlayable (length book.now.accounts)) (contents_of files.items) }
     ensures { IfOk result (λ r. IsPlayedInOrder book.now (contents_of files.items) r.0 r.1.items) }
 {
     book.known();
-    let (closed, _costs) = closed_after(rt, alloc, book, files, false, gate)?;
+    let (closed, _costs) = closed_on(rt, alloc, opened, files, false, gate)?;
     let calls = journal_calls(alloc, closed.book(), closed.closing())?;
     Ok((closed, calls))
 }

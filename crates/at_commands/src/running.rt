@@ -3,45 +3,49 @@
 ghost use Rattle.std.specs.Prelude.{◌≡◌, ◌≢◌, ◌≤◌, ℕ, All, length, sum_by, None, Err, IfOk, IfErr, OnOk};
 ghost use Rattle.at_commands.specs.Answer.{Prints, PrintsRead};
 ghost use Rattle.at_commands.specs.Answered.{AnsweredFiles};
+ghost use Rattle.at_commands.specs.Running.{HasNewPasses};
 ghost use Rattle.at_ledger.specs.Files.{IsPlayable, contents_of};
 ghost use Rattle.at_files.specs.Names.{AreNamesOf};
 ghost use Rattle.at_io.specs.Faults.{Rose};
 ghost use Rattle.at_io.specs.Shelf.{SameFiles};
 ghost use Rattle.at_loading.specs.Faults.{HasFileNumbers, MayRefuse};
-ghost use Rattle.at_loading.specs.Loading.{MayReach, loaded};
-ghost use Rattle.at_loading.specs.Words.{form_shown};
+ghost use Rattle.at_loading.specs.Loading.{IsBookRead, MayReach, loaded, named_book};
+ghost use Rattle.at_loading.specs.Words.{form_shown, words_of};
 ghost use Rattle.at_report.specs.Report.{checked_line};
 
 use crate::closing_journal::ClosingJournal;
 use crate::ending::{Printed, end_keeping};
+use crate::opening::open_and_load;
 use crate::playing::play_in_order;
 use at_files::Names;
 use at_io::{Shelf, Sink};
 use at_ledger::{Book, Call};
-use at_loading::{Command, Form, Loaded, count, load};
-use at_object::Closed;
+use at_loading::{Command, Form, count, load_book};
+use at_object::{Closed, Ledger, Pass};
 use at_report::{Pieces, Status, checked_text, journal_report};
 use at_workers::Gate;
 use std::alloc::{AllocError, Global};
 use std::thread::Threads;
 
-/// The report of a run of the files, all of them at once.
+/// The report of a run of the files, all of them at once, on this new ledger.
 fn run_text<R: Threads + Sync, G: Gate + Sync>(
     rt: &R,
     alloc: Global,
     book: &Book,
     names: &Names,
+    opened: (Ledger, Vec<Pass>),
     files: Vec<Vec<Call>>,
     gate: &G,
 ) -> Result<Printed, AllocError>
     requires names { AreNamesOf book.now names.now }
+    requires opened { HasNewPasses book.now opened.0 opened.1.items }
     requires count { length files.items ≡ book.now.processes }
     requires known { All (IsPlayable (length book.now.accounts)) (contents_of files.items) }
     ensures { IfOk result (λ p. Prints Command.Run
         (record { book = book.now; names = names.now; files = contents_of files.items })
         p.closed p.text) }
 {
-    let (closed, calls) = play_in_order(rt, alloc, book, files, gate)?;
+    let (closed, calls) = play_in_order(rt, alloc, book, opened, files, gate)?;
     let journal = ClosingJournal {
         closing: closed.closing(),
         calls: calls.as_slice(),
@@ -51,6 +55,49 @@ fn run_text<R: Threads + Sync, G: Gate + Sync>(
         text,
         closed: Some(closed),
     })
+}
+
+/// The report of a run of the payments of the form, beside the book that was read, or why there is none. The ledger is made while they
+/// are read.
+fn run_beside<R: Threads + Sync, F: Shelf, G: Gate + Sync>(
+    rt: &R,
+    alloc: Global,
+    shelf: &mut F,
+    book: &Book,
+    names: &Names,
+    form: &Form<'_>,
+    gate: &G,
+) -> Result<Printed, Status>
+    requires run { form.now.command ≡ Command.Run }
+    requires read { IsBookRead (F.tells shelf.old) (F.file shelf.old) form.now.book.now
+        (words_of form.now.payments.now) (named_book book.now names.now) }
+    ensures files { SameFiles (F.tells shelf.old) (F.tells shelf.new) (F.file shelf.old)
+        (F.file shelf.new) }
+    ensures later { F.faults shelf.old ≤ F.faults shelf.new }
+    ensures kept { OnOk result (F.faults shelf.new ≡ F.faults shelf.old) }
+    ensures printed { IfOk result
+        (λ p. PrintsRead (F.tells shelf.old) (F.file shelf.old) (form_shown form.now)
+        p.closed p.text) }
+    ensures err { IfErr result
+        (λ refusal. MayRefuse (F.tells shelf.old) (loaded (F.file shelf.old) (form_shown form.now))
+        (F.faults shelf.old) (F.faults shelf.new) refusal) }
+    ensures reached { (file : ℕ) → result ≡ Err (Status.ReadFault file)
+        → MayReach (F.tells shelf.old) (F.file shelf.old) (form_shown form.now) file }
+    ensures numbered { IfErr result (HasFileNumbers (length form.now.payments.now)) }
+{
+    let (opened, loaded) = open_and_load(rt, alloc, book, names, form, shelf);
+    // A fault of the files is told even where there was no memory for the ledger.
+    let files = match loaded {
+        Ok(files) => files,
+        Err(refusal) => return Err(refusal),
+    };
+    let Ok(opened) = opened else {
+        return Err(Status::NoMemory);
+    };
+    match run_text(rt, alloc, book, names, opened, files, gate) {
+        Ok(report) => Ok(report),
+        Err(_) => Err(Status::NoMemory),
+    }
 }
 
 /// The line of how many calls were counted.
@@ -90,14 +137,11 @@ fn files_text<R: Threads + Sync, F: Shelf, G: Gate + Sync>(
 {
     match form.command {
         Command::Run => {
-            let Loaded { book, names, files } = match load(alloc, shelf, form) {
-                Ok(loaded) => loaded,
+            let (book, names) = match load_book(alloc, shelf, form) {
+                Ok(read) => read,
                 Err(refusal) => return Err(refusal),
             };
-            match run_text(rt, alloc, &book, &names, files, gate) {
-                Ok(report) => Ok(report),
-                Err(_) => Err(Status::NoMemory),
-            }
+            run_beside(rt, alloc, shelf, &book, &names, form, gate)
         }
         Command::Check => {
             let counted = match count(alloc, shelf, form) {

@@ -6,7 +6,7 @@ use Rattle.at_ledger.specs.declared.call.Call.{Call}
 use Rattle.at_ledger.specs.Files.{contents_of}
 use Rattle.at_files.specs.Records.{file_records}
 use Rattle.at_files.specs.Results.{and_then}
-use Rattle.at_files.specs.Names.{NameList}
+use Rattle.at_files.specs.Names.{AreNamesOf, NameList}
 use Rattle.at_files.specs.BookRecords.{NamedBook}
 use Rattle.at_files.specs.BookFile.{book_of_records, Spells}
 use Rattle.at_files.specs.Messages.{Sends, messages_spelled}
@@ -70,9 +70,13 @@ pub record LoadedOf (T : Type 0) : Type 0 where
   pub names : NameList
   pub files : List (List T)
 
--- the same beside this book
+-- what the files gave beside this book
+abbrev pub loaded_beside : {T : Type 0} → NamedBook → List (List T) → LoadedOf T
+loaded_beside b all = record { book = b.book; names = b.names; files = all }
+
+-- the same, or why they are refused
 abbrev pub with_book : {T : Type 0} → NamedBook → Result (List (List T)) Status → Result (LoadedOf T) Status
-with_book b files = and_then files (λ all. Ok (record { book = b.book; names = b.names; files = all }))
+with_book b files = and_then files (λ all. Ok (loaded_beside b all))
 
 -- as many files as the book has processes, and what they give
 abbrev pub files_beside : {T : Type 0} → (NamedBook → Giving T) → Files → List Word → NamedBook → Result (LoadedOf T) Status
@@ -154,6 +158,13 @@ pub record SpellsBook (files : Files) (name : Word) (b : BookTerms) (names : Nam
   pub bytes : List ℕ
   pub held : HoldsFile files name bytes
   pub spelled : Spells (file_records bytes) b names
+
+-- this is the book that was read of the file of this name, and there is one of these files for each of its processes
+pub record IsBookRead (tells : Bool) (files : Files) (name : Word) (words : List Word) (b : NamedBook) : Type 0 where
+  pub names : AreNamesOf b.book b.names
+  pub enough : length words ≡ b.book.processes
+  pub read : tells ≡ true → book_loaded files name ≡ Ok b
+  pub spelled : tells ≡ true → SpellsBook files name b.book b.names
 
 -- what bytes spell beside a book with its names
 abbrev pub Spelling : Type 0 → Type 1

@@ -8,7 +8,7 @@ ghost use Rattle.at_files.specs.Names.{AreNamesOf};
 ghost use Rattle.at_io.specs.Limits.{most_file_bytes};
 ghost use Rattle.at_loading.specs.Words.{words_of, form_shown};
 ghost use Rattle.at_loading.specs.Faults.{HasFileNumbers, IsUnfetched, Kind, MayRefuse, MayRefuseOf};
-ghost use Rattle.at_loading.specs.Loading.{EachSpells, HoldsFile, IsFileReached, IsSpelled, MayReach, MayReachOf, Spelled, SpelledOf, SpellsBook, SpellsFile, all_loaded, loaded_shown, book_loaded, fetched, file_loaded, files_loaded, loaded, named_book};
+ghost use Rattle.at_loading.specs.Loading.{EachSpells, HoldsFile, IsBookRead, IsFileReached, IsSpelled, MayReach, MayReachOf, Spelled, SpelledOf, SpellsBook, SpellsFile, all_loaded, loaded_beside, loaded_shown, book_loaded, fetched, file_loaded, files_loaded, loaded, named_book};
 
 use crate::file_forms::{FileForm, Payments};
 use crate::words::Form;
@@ -60,7 +60,7 @@ pub fn fetch_file<F: Shelf>(
 }
 
 /// The book of file 0, with its names.
-fn load_book<F: Shelf>(alloc: Global, shelf: &mut F, name: &str) -> Result<(Book, Names), Status>
+fn fetch_book<F: Shelf>(alloc: Global, shelf: &mut F, name: &str) -> Result<(Book, Names), Status>
     ensures files { SameFiles (F.tells shelf.old) (F.tells shelf.new) (F.file shelf.old)
         (F.file shelf.new) }
     ensures later { F.faults shelf.old ≤ F.faults shelf.new }
@@ -86,6 +86,42 @@ fn load_book<F: Shelf>(alloc: Global, shelf: &mut F, name: &str) -> Result<(Book
         Err(ReadBookFault::Bad(bad)) => Err(Status::BadBook(bad)),
         Err(ReadBookFault::NoMemory) => Err(Status::NoMemory),
     }
+}
+
+/// The book of file 0, with its names, beside which each process has a file: or the refusal of the book, or that of the number of
+/// files.
+fn load_book_for<F: Shelf, P: FileForm>(
+    alloc: Global,
+    shelf: &mut F,
+    name: &str,
+    words: &[String],
+) -> Result<(Book, Names), Status>
+    ensures files { SameFiles (F.tells shelf.old) (F.tells shelf.new) (F.file shelf.old)
+        (F.file shelf.new) }
+    ensures later { F.faults shelf.old ≤ F.faults shelf.new }
+    ensures kept { OnOk result (F.faults shelf.new ≡ F.faults shelf.old) }
+    ensures read { IfOk result
+        (λ l. IsBookRead (F.tells shelf.old) (F.file shelf.old) name.now (words_of words.now)
+        (named_book l.0 l.1)) }
+    ensures err { IfErr result
+        (λ refusal. MayRefuseOf P.kind (F.tells shelf.old)
+        (all_loaded P.given (F.file shelf.old) name.now (words_of words.now)) (F.faults shelf.old)
+        (F.faults shelf.new) refusal) }
+    ensures reached { (file : ℕ) → result ≡ Err (Status.ReadFault file)
+        → MayReachOf P.given (F.tells shelf.old) (F.file shelf.old) name.now (words_of words.now)
+        file }
+    ensures numbered { IfErr result (HasFileNumbers (length words.now)) }
+{
+    let (book, names) = match fetch_book(alloc, shelf, name) {
+        Ok(read) => read,
+        Err(refusal) => return Err(refusal),
+    };
+    let wanted = book.processes();
+    let given = words.len() as u64;
+    if given != u64::from(wanted) {
+        return Err(Status::Usage(UsageFault::Files { wanted, given }));
+    }
+    Ok((book, names))
 }
 
 /// What the file of this name holds, which is a process's and of this form.
@@ -217,15 +253,11 @@ pub fn load_all<F: Shelf, P: FileForm>(
         file }
     ensures numbered { IfErr result (HasFileNumbers (length words.now)) }
 {
-    let (book, names) = match load_book(alloc, shelf, name) {
+    let (book, names) = match load_book_for::<F, P>(alloc, shelf, name, words) {
         Ok(read) => read,
         Err(refusal) => return Err(refusal),
     };
-    let wanted = book.processes();
-    let given = words.len() as u64;
-    if given != u64::from(wanted) {
-        return Err(Status::Usage(UsageFault::Files { wanted, given }));
-    }
+    book.known();
     match load_files::<F, P>(alloc, shelf, &book, &names, words) {
         Ok(files) => Ok(Loaded { book, names, files }),
         Err(refusal) => Err(refusal),
@@ -255,4 +287,65 @@ pub fn load<F: Shelf>(alloc: Global, shelf: &mut F, form: &Form<'_>) -> Result<L
     ensures numbered { IfErr result (HasFileNumbers (length form.now.payments.now)) }
 {
     load_all::<F, Payments>(alloc, shelf, form.book, form.payments)
+}
+
+/// The first half of `load`: the book that the form names, with its names, or the first refusal. Each of its processes has a payment
+/// file. Whoever has something to do with the book may do it while `load_payments` reads the rest.
+pub fn load_book<F: Shelf>(
+    alloc: Global,
+    shelf: &mut F,
+    form: &Form<'_>,
+) -> Result<(Book, Names), Status>
+    ensures files { SameFiles (F.tells shelf.old) (F.tells shelf.new) (F.file shelf.old)
+        (F.file shelf.new) }
+    ensures later { F.faults shelf.old ≤ F.faults shelf.new }
+    ensures kept { OnOk result (F.faults shelf.new ≡ F.faults shelf.old) }
+    ensures read { IfOk result
+        (λ l. IsBookRead (F.tells shelf.old) (F.file shelf.old) form.now.book.now
+        (words_of form.now.payments.now) (named_book l.0 l.1)) }
+    ensures err { IfErr result
+        (λ refusal. MayRefuse (F.tells shelf.old) (loaded (F.file shelf.old) (form_shown form.now))
+        (F.faults shelf.old) (F.faults shelf.new) refusal) }
+    ensures reached { (file : ℕ) → result ≡ Err (Status.ReadFault file)
+        → MayReach (F.tells shelf.old) (F.file shelf.old) (form_shown form.now) file }
+    ensures numbered { IfErr result (HasFileNumbers (length form.now.payments.now)) }
+{
+    load_book_for::<F, Payments>(alloc, shelf, form.book, form.payments)
+}
+
+/// The second half of `load`: the calls that the payment files spell beside the book that `load_book` gave, or the first refusal.
+pub fn load_payments<F: Shelf>(
+    alloc: Global,
+    book: &Book,
+    names: &Names,
+    form: &Form<'_>,
+    shelf: &mut F,
+) -> Result<Vec<Vec<Call>>, Status>
+    requires { IsBookRead (F.tells shelf.old) (F.file shelf.old) form.now.book.now
+        (words_of form.now.payments.now) (named_book book.now names.now) }
+    ensures files { SameFiles (F.tells shelf.old) (F.tells shelf.new) (F.file shelf.old)
+        (F.file shelf.new) }
+    ensures later { F.faults shelf.old ≤ F.faults shelf.new }
+    ensures kept { OnOk result (F.faults shelf.new ≡ F.faults shelf.old) }
+    ensures ok { F.tells shelf.old ≡ true
+        → IfOk result (λ files. loaded (F.file shelf.old) (form_shown form.now) ≡ Ok
+        (loaded_beside (named_book book.now names.now) (contents_of files.items))) }
+    ensures spelled { F.tells shelf.old ≡ true
+        → IfOk result (λ files. Spelled (F.file shelf.old) (form_shown form.now)
+        (loaded_beside (named_book book.now names.now) (contents_of files.items))) }
+    ensures known { IfOk result
+        (λ files. All (IsPlayable (length book.now.accounts)) (contents_of files.items)) }
+    ensures count { IfOk result (λ files. length files.items ≡ book.now.processes) }
+    ensures err { IfErr result
+        (λ refusal. MayRefuse (F.tells shelf.old) (loaded (F.file shelf.old) (form_shown form.now))
+        (F.faults shelf.old) (F.faults shelf.new) refusal) }
+    ensures reached { (file : ℕ) → result ≡ Err (Status.ReadFault file)
+        → MayReach (F.tells shelf.old) (F.file shelf.old) (form_shown form.now) file }
+    ensures numbered { IfErr result (HasFileNumbers (length form.now.payments.now)) }
+{
+    book.known();
+    match load_files::<F, Payments>(alloc, shelf, book, names, form.payments) {
+        Ok(files) => Ok(files),
+        Err(refusal) => Err(refusal),
+    }
 }

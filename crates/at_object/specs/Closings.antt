@@ -1,5 +1,6 @@
 -- The closing of a ledger.
 use Rattle.std.specs.Prelude.{◌≡◌, ℕ, ◌<◌, List, [], length, slice_index_or, All, None}
+use Rattle.atomic_table.specs.Seated.{TableId}
 use Rattle.at_history.specs.BoardState.{BoardState}
 use Rattle.at_history.specs.Histories.{IsHistory}
 use Rattle.at_history.specs.Publications.{IsPrefix, count_of, publications_of}
@@ -25,8 +26,9 @@ pub record AreAccountedFor (ledger : BoardTerms) (passes : List PassTerms) (rece
   pub each : (p : ℕ) (d : PassTerms) → p < ledger.book.processes →
       IsAccountedFor ledger p (slice_index_or passes p d) (slice_index_or receipts p [])
 
--- a closed ledger by its book and its closing
+-- a closed ledger by the board that it had, its book and its closing
 pub record ClosedTerms : Type 0 where
+  pub id : TableId
   pub book : BookTerms
   pub closing : ClosingTerms
 

@@ -17,6 +17,7 @@ use at_closing::closing_of;
 use at_ledger::Book;
 use at_log::{Receipt, Record};
 use std::alloc::Global;
+use std::snapshot::Snapshot;
 
 /// There was no memory to close the ledger with. The ledger, its passes and the receipts come back as they were.
 #[derive(Drop)]
@@ -36,6 +37,7 @@ impl Ledger {
         receipts: Vec<Vec<Receipt>>,
     ) -> Result<Closed, CloseRefused>
         requires { AreAccountedFor self passes.items (map (λ v. v.items) receipts.items) }
+        ensures id { IfOk result (λ c. c.id ≡ self.id) }
         ensures book { IfOk result (λ c. c.book ≡ self.book) }
         ensures receipts { IfOk result (λ c. c.closing.receipts
             ≡ map (λ v. v.items) receipts.items) }
@@ -52,10 +54,12 @@ impl Ledger {
             });
         };
         let Memory { book, rooms, seats } = memory;
+        let ledger = Snapshot::of(&self);
         let end = self.board.close(seats_of(passes, seats));
         Ok(Closed {
             book,
             closing: closing_of(&end, rooms, receipts),
+            ledger,
         })
     }
 }

@@ -37,6 +37,7 @@ impl Ledger {
     pub fn note(&self, pass: &mut Pass) -> Note
         requires pass { IsPassOf pass.old self.now }
         ensures note { IsOf result self.now }
+        ensures process { result.knows.first ≡ pass.old.knows.first }
         ensures seen { result.knows.seen ≡ pass.old.knows.seen }
         ensures same { pass.new ≡ record pass.old {
           steps = raised pass.old.steps 1;

@@ -85,9 +85,12 @@ pub loaded-Spelled : (files : Files) (form : Form) (l : Loaded) → Spelled file
 loaded-Spelled files form l is = all_loaded-SpelledOf PaysBytes calls_given files form.book form.payments l Accepts-payments is
 
 -- calls that payment files spell can be played
-pub IsPlayable-spelled : {E : Type 0} (r : Result (program.Loaded Call) E) → IfOk r (λ l. All (IsSpelled (PaysBytes (named_book l.book l.names))) (contents_of l.files.items))
-    → IfOk r (λ l. All (IsPlayable (length l.book.accounts)) (contents_of l.files.items))
-IsPlayable-spelled (Ok l) spelled = λ k d below.
+pub IsPlayable-each : (b : NamedBook) (files : List (List Call)) → All (IsSpelled (PaysBytes b)) files → All (IsPlayable (length b.book.accounts)) files
+IsPlayable-each b files spelled = λ k d below.
     let pays = (spelled k d below).1 in
     record { known = pays.known; few = pays.few }
+
+pub IsPlayable-spelled : {E : Type 0} (r : Result (program.Loaded Call) E) → IfOk r (λ l. All (IsSpelled (PaysBytes (named_book l.book l.names))) (contents_of l.files.items))
+    → IfOk r (λ l. All (IsPlayable (length l.book.accounts)) (contents_of l.files.items))
+IsPlayable-spelled (Ok l) spelled = IsPlayable-each (named_book l.book l.names) (contents_of l.files.items) spelled
 IsPlayable-spelled (Err refusal) spelled = tt

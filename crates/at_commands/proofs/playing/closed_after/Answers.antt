@@ -1,17 +1,7 @@
-use Rattle.std.proofs.Common.{◌∙◌, map, ap, sym}
-use Rattle.at_log.specs.Receipts.{calls_of}
 use Rattle.at_commands.proofs.playing.closed_after.Goals as goal
 
-pub close-requires : goal.close-requires
-close-requires g c = c.in_ok-left.ensures.accounted
-
 pub returns-clause-closed : goal.returns-clause-closed
-returns-clause-closed g c = record {
-  book_is = c.in-Ok.ensures.book ∙ c.in_ok-ledger.ensures.book;
-  calls_are = ap (map calls_of) c.in-Ok.ensures.receipts ∙ c.in_ok-left.ensures.calls;
-  coherent = c.in-Ok.ensures.coherent;
-}
+returns-clause-closed g c = rw c.in_ok-opened.ensures.book at c.closed_on.ensures.closed
 
 pub returns-clause-costs : goal.returns-clause-costs
-returns-clause-costs g c notes =
-    rw (c.in-Ok.ensures.receipts, sym c.in_ok-ledger.ensures.book) (c.in_ok-left.ensures.costs notes)
+returns-clause-costs g c notes = rw c.in_ok-opened.ensures.book at c.closed_on.ensures.costs notes

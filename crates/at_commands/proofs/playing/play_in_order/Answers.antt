@@ -1,4 +1,4 @@
-use Rattle.std.proofs.Common.{◌∙◌, length, refl}
+use Rattle.std.proofs.Common.{◌∙◌, length}
 use Rattle.std.proofs.lemmas.List.{length-map}
 use Rattle.at_ledger.specs.Files.{contents_of}
 use Rattle.at_commands.proofs.JobsNoting.{IsPlayed-closed}
@@ -10,12 +10,12 @@ journal_calls-requires-clause-coherent g c = rw (c.book.ensures, c.closing.ensur
 
 pub journal_calls-requires-clause-few : goal.journal_calls-requires-clause-few
 journal_calls-requires-clause-few g c =
-    let run = c.in_ok-closed.ensures.closed in
+    let run = rw c.requires.opened.book_is at c.in_ok-closed.ensures.closed in
     rw c.closing.ensures.closing (few-calls_in (length c.args.book.now.accounts) c.in_ok-closed.closed.closing (rw run.calls_are c.requires.known))
 
 pub returns : goal.returns
 returns g c =
-    let run = c.in_ok-closed.ensures.closed in
+    let run = rw c.requires.opened.book_is at c.in_ok-closed.ensures.closed in
     record {
       played = IsPlayed-closed c.args.book.now (contents_of c.args.files.items) c.in_ok-closed.closed c.known.ensures.checked.begun
           (length-map c.args.files.items (λ file. file.items) ∙ c.requires.count) c.requires.known run;

@@ -1,0 +1,61 @@
+//! Opening a ledger while the calls for it are read.
+
+ghost use Rattle.std.specs.Prelude.{◌≡◌, ◌≤◌, ℕ, length, true, All, Ok, Err, IfOk, IfErr, OnOk};
+ghost use Rattle.at_commands.specs.Running.{HasNewPasses};
+ghost use Rattle.at_io.specs.Shelf.{SameFiles};
+ghost use Rattle.at_ledger.specs.Files.{IsPlayable, contents_of};
+ghost use Rattle.at_loading.specs.Faults.{HasFileNumbers, MayRefuse};
+ghost use Rattle.at_loading.specs.Loading.{IsBookRead, MayReach, Spelled, loaded, loaded_beside, named_book};
+ghost use Rattle.at_loading.specs.Words.{form_shown, words_of};
+
+use at_files::Names;
+use at_io::Shelf;
+use at_ledger::{Book, Call};
+use at_loading::{Form, load_payments};
+use at_object::{Ledger, NoMemory, Pass};
+use at_report::Status;
+use std::alloc::Global;
+use std::thread::{Threads, join_mut};
+
+/// A new ledger of the book with its passes, and the calls of the payment files, each of which may be refused. The files are read in
+/// this thread, and the ledger is made in another, or after them where no thread can be had.
+pub(crate) fn open_and_load<R: Threads, F: Shelf>(
+    rt: &R,
+    alloc: Global,
+    book: &Book,
+    names: &Names,
+    form: &Form<'_>,
+    shelf: &mut F,
+) -> (
+    Result<(Ledger, Vec<Pass>), NoMemory>,
+    Result<Vec<Vec<Call>>, Status>,
+)
+    requires { IsBookRead (F.tells shelf.old) (F.file shelf.old) form.now.book.now
+        (words_of form.now.payments.now) (named_book book.now names.now) }
+    ensures opened { IfOk result.0 (λ r. HasNewPasses book.now r.0 r.1.items) }
+    ensures files { SameFiles (F.tells shelf.old) (F.tells shelf.new) (F.file shelf.old)
+        (F.file shelf.new) }
+    ensures later { F.faults shelf.old ≤ F.faults shelf.new }
+    ensures kept { OnOk result.1 (F.faults shelf.new ≡ F.faults shelf.old) }
+    ensures ok { F.tells shelf.old ≡ true
+        → IfOk result.1 (λ files. loaded (F.file shelf.old) (form_shown form.now) ≡ Ok
+        (loaded_beside (named_book book.now names.now) (contents_of files.items))) }
+    ensures spelled { F.tells shelf.old ≡ true
+        → IfOk result.1 (λ files. Spelled (F.file shelf.old) (form_shown form.now)
+        (loaded_beside (named_book book.now names.now) (contents_of files.items))) }
+    ensures known { IfOk result.1
+        (λ files. All (IsPlayable (length book.now.accounts)) (contents_of files.items)) }
+    ensures count { IfOk result.1 (λ files. length files.items ≡ book.now.processes) }
+    ensures err { IfErr result.1
+        (λ refusal. MayRefuse (F.tells shelf.old) (loaded (F.file shelf.old) (form_shown form.now))
+        (F.faults shelf.old) (F.faults shelf.new) refusal) }
+    ensures reached { (file : ℕ) → result.1 ≡ Err (Status.ReadFault file)
+        → MayReach (F.tells shelf.old) (F.file shelf.old) (form_shown form.now) file }
+    ensures numbered { IfErr result.1 (HasFileNumbers (length form.now.payments.now)) }
+{
+    join_mut(
+        rt,
+        &mut move || Ledger::new(alloc, book),
+        &mut || load_payments(alloc, book, names, form, shelf),
+    )
+}
