@@ -1,8 +1,8 @@
 #!/bin/sh
-# Builds what calls the static library from C, and runs it: each export with each kind of handle, wrong numbers and refused memory, and
-# a thread for each process. Then threads under sanitizers and valgrind, the crate, the module, and the release. It needs a C compiler, and
-# the library that `bezglami build` leaves; where one of them isn't there, or a source is newer than the library, it tries nothing and
-# says so. So does each of the others for the tools that it needs.
+# Builds what calls the static library from C, and runs it: each export with each kind of handle, wrong numbers and refused memory, the short
+# program, and a thread for each process. Then threads under sanitizers and valgrind, the crate, the module, and the release. Each report
+# is verified by the built program. It needs a C compiler, and the library that `bezglami build` leaves; where one of them isn't there, or a
+# source is newer than the library, it tries nothing and says so. So does each of the others for the tools that it needs.
 set -eu
 cd "$(dirname "$0")/.."
 cc=${CC:-cc}
@@ -22,11 +22,15 @@ trap 'rm -rf -- "$work"' EXIT
 flags="-std=c11 -D_POSIX_C_SOURCE=200809L -Wall -Wextra -Werror -O1 -g -pthread -Ibindings/c"
 "$cc" $flags bindings/c/test.c "$library" "$heap" -Wl,--wrap=malloc -Wl,--wrap=realloc -Wl,--wrap=free -o "$work/test"
 "$work/test"
+"$cc" $flags bindings/c/short.c "$library" "$heap" -o "$work/short"
+"$work/short" 2>"$work/said" >"$work/report"
+cmp "$work/report" examples/short/short.report
+.ci/bindings_verify.sh short.c examples/short/book.csv "$work/report" examples/short/ann.csv examples/short/bob.csv
 "$cc" $flags bindings/c/example.c "$library" "$heap" -o "$work/example"
-for turn in 1 2 3; do
-    "$work/example" examples/realistic/book.csv >"$work/said"
+for name in realistic owners; do
+    "$work/example" "examples/$name/book.csv" "examples/$name"/pay*.csv 2>"$work/said" >"$work/report"
+    .ci/bindings_verify.sh "example.c with $name" "examples/$name/book.csv" "$work/report" "examples/$name"/pay*.csv
 done
-tail -n 1 "$work/said"
 bindings/libraries.sh "$work/libraries"
 .ci/bindings_threads.sh "$work/libraries"
 .ci/bindings_rust.sh "$work/libraries"

@@ -1,6 +1,7 @@
 #!/bin/sh
 # Tests the release that `bezglami release` has left: unpacked in a new folder, with an empty environment, a path on which rt isn't, and from
-# another folder, both programs and the examples in C, Rust and Python run. Where there is no release, or a source is newer, it tries nothing.
+# another folder, both programs and the examples in C, Rust and Python run, and the release's own program verifies their reports. Where there
+# is no release, or a source is newer, it tries nothing.
 set -eu
 cd "$(dirname "$0")/.."
 version=$(sed -n 's/^#define BEZGLAMI_VERSION //p' bindings/c/bezglami.h)
@@ -34,20 +35,39 @@ alone "$release/bin/at_program" run "$examples/usual/book.csv" "$examples/usual/
 alone "$release/bin/at_showing" kinds "$examples/usual/book.csv" "$examples/usual/pay0.csv" | cmp - "$examples/usual/usual.kinds"
 tried='both programs'
 
+# Whether the release's program says that the file `report` is one of a run of these files.
+verified() {
+    [ "$(alone "$release/bin/at_program" verify "$1" report "$2" "$3")" = "verified $(sed -n '1s/journal //p' report)" ]
+}
+
+short=$examples/short
+owners=$examples/owners
 if PATH=$path command -v cc >/dev/null; then
-    alone cc -std=c11 -D_POSIX_C_SOURCE=200809L -pthread -I"$release/include" "$release/bindings/c/example.c" "$release/lib/libbezglami.a" -o static
-    alone cc -std=c11 -D_POSIX_C_SOURCE=200809L -pthread -I"$release/include" "$release/bindings/c/example.c" -L"$release/lib" -lbezglami -Wl,-rpath,"$release/lib" -o shared
-    alone ./static "$examples/realistic/book.csv" | grep -q '^accounts .* total 995000 before, 995000 after$'
-    alone ./shared "$examples/realistic/book.csv" | grep -q '^accounts .* total 995000 before, 995000 after$'
+    for linked in static shared; do
+        case $linked in
+            static) set -- "$release/lib/libbezglami.a" ;;
+            shared) set -- "-L$release/lib" -lbezglami "-Wl,-rpath,$release/lib" ;;
+        esac
+        for source in short example; do
+            alone cc -std=c11 -D_POSIX_C_SOURCE=200809L -pthread -I"$release/include" "$release/bindings/c/$source.c" "$@" -o "$source"
+        done
+        alone ./short >report 2>said
+        cmp report "$short/short.report"
+        verified "$short/book.csv" "$short/ann.csv" "$short/bob.csv"
+        alone ./example "$owners/book.csv" "$owners/pay0.csv" "$owners/pay1.csv" >report 2>said
+        verified "$owners/book.csv" "$owners/pay0.csv" "$owners/pay1.csv"
+    done
     tried="$tried, C"
 fi
 if rust=$(rustc --print sysroot 2>/dev/null) && [ -x "$rust/bin/cargo" ]; then
     alone PATH="$rust/bin:$path" CARGO_HOME="$work/cargo" CARGO_TARGET_DIR="$work/target" cargo run --quiet --offline \
-        --manifest-path "$release/bindings/rust/Cargo.toml" --example short | grep -q '^the shop has 200$'
+        --manifest-path "$release/bindings/rust/Cargo.toml" --example short >report 2>said
+    verified "$short/book.csv" "$short/ann.csv" "$short/ann.csv"
     tried="$tried, Rust"
 fi
 if python=$(python3 -c 'import sys; sys.version_info >= (3, 10) and print(sys.executable)' 2>/dev/null) && [ -n "$python" ]; then
-    alone PYTHONDONTWRITEBYTECODE=1 "$python" "$release/bindings/python/example.py" | grep -q '^the shop has 200$'
+    alone PYTHONDONTWRITEBYTECODE=1 "$python" "$release/bindings/python/example.py" >report 2>said
+    verified "$short/book.csv" "$short/ann.csv" "$short/ann.csv"
     tried="$tried, Python"
 fi
 echo "bindings: the release runs alone: $tried"

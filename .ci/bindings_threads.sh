@@ -1,11 +1,13 @@
 #!/bin/sh
 # Sixteen threads with ten thousand calls each on one ledger, over a library that `bindings/libraries.sh` has left: under the sanitizers of
 # threads and of addresses, which see the program, its threads and each allocation of the library's; and under valgrind's memcheck and
-# helgrind, which see each access that the library makes. What isn't there isn't tried.
+# helgrind, which see each access that the library makes. What isn't there isn't tried. The built program verifies each report.
 #
 # The library stores into words that threads share by locked instructions alone. Helgrind takes such a store for a load, so it reports each
-# other store into memory that a second thread uses, and nothing has to be suppressed. That it sees the library is tried too: it has to
-# report two threads that use one caller one after another, where nothing orders the two.
+# other store into memory that a second thread uses, and nothing has to be suppressed. A note is handed over in memory that a
+# compare-exchange gives to one thread at a time. Helgrind doesn't see that, so under it a lock of the program orders the two threads that
+# reach for a note. That it sees the library is tried too: it has to report two threads that use one caller one after another, where nothing
+# orders the two.
 #
 #   bindings_threads.sh LIBRARIES
 set -eu
@@ -22,23 +24,35 @@ has() {
     "$cc" -fsanitize="$1" "$work/empty.c" -o "$work/empty" 2>/dev/null && "$work/empty"
 }
 
-tried=
+# Runs the threads by a command, with their notes ordered or as they come, and has their report verified.
+thread_runs() {
+    name=$1
+    notes=$2
+    shift 2
+    "$@" "$work/threads" 10000 "$work" "$notes" >"$work/said" 2>&1 || { cat "$work/said" >&2; exit 1; }
+    set --
+    p=0
+    while [ "$p" -lt 16 ]; do
+        set -- "$@" "$work/pay$p.csv"
+        p=$((p + 1))
+    done
+    .ci/bindings_verify.sh "threads.c under $name" "$work/book.csv" "$work/report" "$@"
+}
+
 for sanitizer in thread address,undefined; do
     if has "$sanitizer"; then
         "$cc" $flags -fsanitize="$sanitizer" bindings/c/threads.c "$library" -o "$work/threads"
-        "$work/threads" 10000 >"$work/said" 2>&1 || { cat "$work/said" >&2; exit 1; }
-        tried="$tried, -fsanitize=$sanitizer"
+        thread_runs "-fsanitize=$sanitizer" as-they-come env
     fi
 done
 if command -v valgrind >/dev/null; then
     "$cc" $flags bindings/c/threads.c "$library" -o "$work/threads"
     for tool in memcheck helgrind; do
         case $tool in
-            memcheck) words='--leak-check=full --show-leak-kinds=all --errors-for-leak-kinds=all' ;;
-            helgrind) words=--history-level=none ;;
+            memcheck) notes=as-they-come words='--leak-check=full --show-leak-kinds=all --errors-for-leak-kinds=all' ;;
+            helgrind) notes=ordered words=--history-level=none ;;
         esac
-        valgrind --quiet --error-exitcode=9 --fair-sched=yes --tool="$tool" $words "$work/threads" 10000 >"$work/said" 2>&1 || { cat "$work/said" >&2; exit 1; }
-        tried="$tried, $tool"
+        thread_runs "$tool" "$notes" valgrind --quiet --error-exitcode=9 --fair-sched=yes --tool="$tool" $words
     done
     if valgrind --quiet --error-exitcode=9 --fair-sched=yes --tool=helgrind --history-level=none "$work/threads" unordered >"$work/said" 2>&1; then
         echo 'bindings: helgrind reports nothing where two threads use one caller' >&2
@@ -50,4 +64,3 @@ if command -v valgrind >/dev/null; then
         exit 1
     fi
 fi
-echo "bindings: sixteen threads under ${tried#, }"

@@ -78,9 +78,17 @@ Each of these runs in this folder:
 
 \`\`\`
 bin/at_program run examples/household/book.csv examples/household/ann.csv examples/household/bob.csv
-cc -std=c11 -pthread -Iinclude bindings/c/example.c lib/libbezglami.a -o example && ./example examples/realistic/book.csv
+cc -std=c11 -pthread -Iinclude bindings/c/short.c lib/libbezglami.a -o short && ./short
+cc -std=c11 -pthread -Iinclude bindings/c/example.c lib/libbezglami.a -o example
+./example examples/owners/book.csv examples/owners/pay0.csv examples/owners/pay1.csv
 (cd bindings/rust && cargo run --offline --example short)
 python3 bindings/python/example.py
+\`\`\`
+
+Each of them prints its report to the output, and all else to the error output. The program tells whether such a report is one of a legal run:
+
+\`\`\`
+./short >report && bin/at_program verify examples/short/book.csv report examples/short/ann.csv examples/short/bob.csv
 \`\`\`
 END
 }

@@ -107,10 +107,10 @@ static uint32_t target_of(const struct run *run) {
 
 static void open_object(struct run *run) {
     static char book[4096];
-    uint32_t line = 0;
+    uint32_t line = 0, why = 0;
     run->ledger = (bezglami_handle)BEZGLAMI_NOTHING;
     size_t length = write_book(run, book, sizeof book);
-    if (bezglami_open((const uint8_t *)book, length, &run->ledger, &line) != BEZGLAMI_DONE)
+    if (bezglami_open((const uint8_t *)book, length, &run->ledger, &line, &why) != BEZGLAMI_DONE)
         fail("no ledger");
     for (uint32_t p = 0; p < run->threads; p++) {
         run->workers[p].caller = (bezglami_handle)BEZGLAMI_NOTHING;

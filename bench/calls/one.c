@@ -27,8 +27,8 @@ static uint64_t now(void) {
 static uint64_t time_one(const char *book, size_t length, int processes) {
     bezglami_handle ledger = BEZGLAMI_NOTHING, caller = BEZGLAMI_NOTHING;
     bezglami_answer answer;
-    uint32_t line;
-    expect(bezglami_open((const uint8_t *)book, length, &ledger, &line));
+    uint32_t line, why;
+    expect(bezglami_open((const uint8_t *)book, length, &ledger, &line, &why));
     for (int process = 0; process < processes - 1; process++) {
         expect(bezglami_caller(&ledger, 0, &caller));
         bezglami_free(&caller);

@@ -1,110 +1,115 @@
-/* A thread for each process of a book makes calls on one ledger, and no thread waits for another.
+/* Makes the calls of payment files at once, by a thread for each process of a book on one ledger, where no thread waits for another, and
+ * prints the report. Accounts are numbers here, so the book is of version 1.
  *
- *   cc -std=c11 -pthread example.c libat_c.a liblibc_c.a -o example && ./example ../../examples/realistic/book.csv */
+ *   cc -std=c11 -pthread example.c libat_c.a liblibc_c.a -o example
+ *   ./example ../../examples/owners/book.csv ../../examples/owners/pay0.csv ../../examples/owners/pay1.csv >report */
 #include "bezglami.h"
 
+#include <inttypes.h>
 #include <pthread.h>
 #include <stdio.h>
 #include <stdlib.h>
+#include <string.h>
 
-enum { PROCESSES_MOST = 16, ROUNDS = 4 };
+enum { PROCESSES_MOST = 16, CALLS_MOST = 16384, BOOK_MOST = 1 << 16 };
 
 struct worker {
     bezglami_handle caller;
-    uint32_t process;
-    uint32_t accounts;
-    uint32_t refused;
+    FILE *calls;
     uint32_t replies[5];
+    pthread_t thread;
 };
 
-/* Pays 10 from an account to the next one, and from each fourth account 6 and 4 to the next two. */
-static uint32_t pay(struct worker *worker, uint32_t from, bezglami_answer *answer) {
-    bezglami_target targets[] = { { (from + 1) % worker->accounts, 6 }, { (from + 2) % worker->accounts, 4 } };
-    if (from % 4 == 3)
-        return bezglami_pay(&worker->caller, from, targets, 2, answer);
-    return bezglami_transfer(&worker->caller, from, targets[0].account, 10, answer);
+static void fail(const char *what, const char *why) {
+    fprintf(stderr, "%s: %s\n", what, why);
+    exit(3);
 }
 
-/* Pays from each account in turn, and reads what it paid from. Whose account it is decides the reply. */
-static void *work(void *argument) {
-    struct worker *worker = argument;
-    for (uint32_t i = 0; i < ROUNDS * worker->accounts; i++) {
-        uint32_t from = (i + worker->process) % worker->accounts;
-        bezglami_answer answer;
-        if (pay(worker, from, &answer) != BEZGLAMI_DONE || answer.reply >= BEZGLAMI_REPLY_BALANCE) {
-            worker->refused++;
-            continue;
-        }
-        worker->replies[answer.reply]++;
-        if (bezglami_read(&worker->caller, from, &answer) != BEZGLAMI_DONE || answer.reply != BEZGLAMI_REPLY_BALANCE)
-            worker->refused++;
-    }
-    return NULL;
+/* Ends the program where something wasn't done. */
+static void expect(uint32_t outcome, const char *what) {
+    if (outcome != BEZGLAMI_DONE)
+        fail(what, bezglami_outcome_text(outcome));
 }
 
-static size_t read_file(const char *path, uint8_t *bytes, size_t room) {
+static FILE *open_file(const char *path) {
     FILE *file = fopen(path, "rb");
     if (file == NULL) {
         perror(path);
         exit(2);
     }
-    size_t length = fread(bytes, 1, room, file);
-    fclose(file);
-    return length;
+    return file;
 }
 
-/* The sum of the balances that the caller reads, of accounts that no thread pays from any more, and how many accounts there are. */
-static uint64_t total_of(bezglami_handle *caller, uint32_t *accounts) {
-    bezglami_answer answer;
-    uint64_t total = 0;
-    uint32_t account = 0;
-    while (bezglami_read(caller, account, &answer) == BEZGLAMI_DONE) {
-        total += answer.balance;
-        account++;
+/* Makes the calls of the file one after another, and gives the caller back. */
+static void *work(void *argument) {
+    struct worker *worker = argument;
+    char line[128];
+    while (fgets(line, sizeof line, worker->calls) != NULL) {
+        bezglami_answer answer;
+        uint32_t from, to;
+        uint64_t amount;
+        int end = 0;
+        line[strcspn(line, "\r\n")] = '\0';
+        if (sscanf(line, "transfer,%4" SCNu32 ",%4" SCNu32 ",%19" SCNu64 "%n", &from, &to, &amount, &end) == 3 && line[end] == '\0')
+            expect(bezglami_transfer(&worker->caller, from, to, amount, &answer), line);
+        else if (sscanf(line, "read,%4" SCNu32 "%n", &from, &end) == 1 && line[end] == '\0')
+            expect(bezglami_read(&worker->caller, from, &answer), line);
+        else
+            fail(line, "no call");
+        worker->replies[answer.reply]++;
     }
-    *accounts = account;
-    return total;
+    expect(bezglami_return(&worker->caller), "return");
+    return NULL;
+}
+
+static void open_ledger(bezglami_handle *ledger, const char *path) {
+    static uint8_t book[BOOK_MOST];
+    FILE *file = open_file(path);
+    size_t length = fread(book, 1, sizeof book, file);
+    uint32_t line, why;
+    uint32_t outcome = bezglami_open(book, length, ledger, &line, &why);
+    if (outcome == BEZGLAMI_BAD_BOOK)
+        fprintf(stderr, "line %" PRIu32 ": %s\n", line, bezglami_why_text(why));
+    expect(outcome, path);
+    fclose(file);
+}
+
+static void print_report(bezglami_handle *ledger) {
+    uint8_t none;
+    size_t length = bezglami_report(ledger, &none, 0);
+    uint8_t *report = malloc(length);
+    if (report == NULL)
+        fail("report", "no memory");
+    bezglami_report(ledger, report, length);
+    fwrite(report, 1, length, stdout);
+    free(report);
 }
 
 int main(int count, char **words) {
-    static uint8_t book[1 << 16];
-    if (count != 2) {
-        fprintf(stderr, "usage: example BOOK\n");
+    static struct worker workers[PROCESSES_MOST];
+    bezglami_handle ledger = BEZGLAMI_NOTHING;
+    int processes = count - 2;
+    if (processes < 1 || processes > PROCESSES_MOST) {
+        fprintf(stderr, "usage: example BOOK PAY...\n");
         return 2;
     }
-    size_t length = read_file(words[1], book, sizeof book);
-    bezglami_handle ledger = BEZGLAMI_NOTHING;
-    uint32_t line = 0;
-    uint32_t outcome = bezglami_open(book, length, &ledger, &line);
-    if (outcome != BEZGLAMI_DONE) {
-        fprintf(stderr, "no ledger: %s, line %u\n", bezglami_outcome_text(outcome), line);
-        return 3;
+    open_ledger(&ledger, words[1]);
+    for (int p = 0; p < processes; p++) {
+        workers[p].calls = open_file(words[p + 2]);
+        expect(bezglami_caller(&ledger, CALLS_MOST, &workers[p].caller), words[p + 2]);
     }
-    static struct worker workers[PROCESSES_MOST];
-    uint32_t processes = 0;
-    while (processes < PROCESSES_MOST && bezglami_caller(&ledger, 20000, &workers[processes].caller) == BEZGLAMI_DONE) {
-        workers[processes].process = processes;
-        processes++;
-    }
-    uint32_t accounts;
-    uint64_t before = total_of(&workers[0].caller, &accounts);
-    pthread_t threads[PROCESSES_MOST];
-    for (uint32_t i = 0; i < processes; i++) {
-        workers[i].accounts = accounts;
-        if (pthread_create(&threads[i], NULL, work, &workers[i]) != 0)
+    for (int p = 0; p < processes; p++)
+        if (pthread_create(&workers[p].thread, NULL, work, &workers[p]) != 0)
             return 4;
+    for (int p = 0; p < processes; p++) {
+        uint32_t *replies = workers[p].replies;
+        pthread_join(workers[p].thread, NULL);
+        fclose(workers[p].calls);
+        fprintf(stderr, "process %d: done %" PRIu32 ", short %" PRIu32 ", not-owner %" PRIu32 ", full %" PRIu32 ", reads %" PRIu32 "\n", p,
+            replies[0], replies[1], replies[2], replies[3], replies[4]);
     }
-    for (uint32_t i = 0; i < processes; i++)
-        pthread_join(threads[i], NULL);
-    uint64_t after = total_of(&workers[0].caller, &accounts);
-    for (uint32_t i = 0; i < processes; i++) {
-        struct worker *worker = &workers[i];
-        printf("process %u: done %u, short %u, not-owner %u, full %u, refused %u, steps %llu, exchanges %llu\n", i, worker->replies[0],
-            worker->replies[1], worker->replies[2], worker->replies[3], worker->refused,
-            (unsigned long long)bezglami_steps(&worker->caller), (unsigned long long)bezglami_exchanges(&worker->caller));
-        bezglami_free(&worker->caller);
-    }
+    expect(bezglami_close(&ledger), "close");
+    print_report(&ledger);
     bezglami_free(&ledger);
-    printf("accounts %u, total %llu before, %llu after\n", accounts, (unsigned long long)before, (unsigned long long)after);
-    return before == after ? 0 : 1;
+    return 0;
 }

@@ -1,7 +1,11 @@
-/* Each export with each kind of handle, with wrong numbers, and with each allocation refused in turn. Ends with 0 and one line. */
+/* Each export with each kind of handle, with wrong numbers, out of order, and with each allocation refused in turn. Ends with 0 and one
+ * line. */
 #include "bezglami.h"
 
 #include <pthread.h>
+#include <sched.h>
+#include <stdatomic.h>
+#include <stdbool.h>
 #include <stdio.h>
 #include <stdlib.h>
 #include <string.h>
@@ -11,9 +15,9 @@ void *__real_malloc(size_t size);
 void *__real_realloc(void *block, size_t size);
 void __real_free(void *block);
 
-static long allocations;
+static atomic_long allocations;
 static long refused_at; /* the number of the one that is refused, and 0 for none */
-static long blocks;
+static atomic_long blocks;
 
 void *__wrap_malloc(size_t size) {
     if (++allocations == refused_at)
@@ -24,7 +28,11 @@ void *__wrap_malloc(size_t size) {
 }
 
 void *__wrap_realloc(void *block, size_t size) {
-    return ++allocations == refused_at ? NULL : __real_realloc(block, size);
+    if (++allocations == refused_at)
+        return NULL;
+    void *grown = __real_realloc(block, size);
+    blocks += block == NULL && grown != NULL;
+    return grown;
 }
 
 void __wrap_free(void *block) {
@@ -43,7 +51,29 @@ void __wrap_free(void *block) {
 static const char BOOK[] = "book,1\nprocesses,3\nlimits,100,20\naccount,0,500,0\naccount,1,100,1\naccount,2,300,0 1\naccount,3,0,\n";
 
 static uint32_t open_book(const char *book, bezglami_handle *ledger, uint32_t *line) {
-    return bezglami_open((const uint8_t *)book, strlen(book), ledger, line);
+    uint32_t why = 0;
+    return bezglami_open((const uint8_t *)book, strlen(book), ledger, line, &why);
+}
+
+static void open_new(const char *book, bezglami_handle *ledger) {
+    uint32_t line = 0;
+    EXPECT(open_book(book, ledger, &line) == BEZGLAMI_DONE);
+}
+
+/* Whether the bytes spell no book, and the first fault is in this line, for this cause. */
+static bool is_bad(const char *book, uint32_t line, uint32_t why) {
+    bezglami_handle ledger = BEZGLAMI_NOTHING;
+    uint32_t told_line = 0, told_why = 0;
+    uint32_t outcome = bezglami_open((const uint8_t *)book, strlen(book), &ledger, &told_line, &told_why);
+    return outcome == BEZGLAMI_BAD_BOOK && ledger.at == NULL && told_line == line && told_why == why;
+}
+
+/* Whether the handle holds a report that is this text, or one that ends so. */
+static bool has_report(bezglami_handle *ledger, const char *text, bool whole) {
+    static uint8_t report[1024];
+    size_t length = bezglami_report(ledger, report, sizeof report), end = strlen(text);
+    EXPECT(length > 0 && length <= sizeof report);
+    return (whole ? length == end : length >= end) && memcmp(report + length - end, text, end) == 0;
 }
 
 static int answered(bezglami_handle *caller, uint32_t account, uint64_t balance) {
@@ -120,6 +150,7 @@ static void test_misuse(void) {
     bezglami_handle ledger = BEZGLAMI_NOTHING, ann = BEZGLAMI_NOTHING, spare = BEZGLAMI_NOTHING;
     bezglami_target targets[5] = { { 1, 1 }, { 1, 1 }, { 1, 1 }, { 1, 1 }, { 1, 1 } };
     bezglami_answer answer = { 7, 7, 7, 7 };
+    uint8_t report[1] = { 7 };
     uint32_t line = 9;
     EXPECT(bezglami_read(&spare, 0, &answer) == BEZGLAMI_WRONG_HANDLE && answer.reply == 7 && answer.steps == 7);
     EXPECT(bezglami_transfer(&spare, 0, 1, 1, &answer) == BEZGLAMI_WRONG_HANDLE);
@@ -127,18 +158,23 @@ static void test_misuse(void) {
     EXPECT(bezglami_pay(&spare, 0, targets, 0, &answer) == BEZGLAMI_NO_PAY_OUT && answer.reply == 7);
     EXPECT(bezglami_steps(&spare) == 0 && bezglami_exchanges(&spare) == 0);
     EXPECT(bezglami_caller(&spare, 1, &ann) == BEZGLAMI_WRONG_HANDLE);
+    EXPECT(bezglami_note(&spare, 9) == BEZGLAMI_WRONG_HANDLE && bezglami_learn(&spare, 9) == BEZGLAMI_WRONG_HANDLE);
+    EXPECT(bezglami_return(&spare) == BEZGLAMI_WRONG_HANDLE && bezglami_close(&spare) == BEZGLAMI_WRONG_HANDLE);
+    EXPECT(bezglami_report(&spare, report, sizeof report) == 0);
     bezglami_free(&spare);
-    EXPECT(open_book("", &ledger, &line) == BEZGLAMI_BAD_BOOK && line == 1);
-    EXPECT(open_book("book,1\nprocesses,0\n", &ledger, &line) == BEZGLAMI_BAD_BOOK && ledger.at == NULL);
-    EXPECT(open_book("book,1\nprocesses,1\nlimits,4,4\naccount,0,x,0\n", &ledger, &line) == BEZGLAMI_BAD_BOOK && line == 4);
+    EXPECT(spare.at == NULL);
     EXPECT(open_book(BOOK, &ledger, &line) == BEZGLAMI_DONE);
     EXPECT(open_book(BOOK, &ledger, &line) == BEZGLAMI_IN_USE);
     EXPECT(bezglami_read(&ledger, 0, &answer) == BEZGLAMI_WRONG_HANDLE);
     EXPECT(bezglami_pay(&ledger, 0, targets, 4, &answer) == BEZGLAMI_WRONG_HANDLE);
     EXPECT(bezglami_steps(&ledger) == 0 && bezglami_exchanges(&ledger) == 0);
+    EXPECT(bezglami_note(&ledger, 1) == BEZGLAMI_WRONG_HANDLE && bezglami_learn(&ledger, 1) == BEZGLAMI_WRONG_HANDLE);
+    EXPECT(bezglami_return(&ledger) == BEZGLAMI_WRONG_HANDLE && bezglami_report(&ledger, report, 1) == 0 && ledger.at != NULL);
     EXPECT(bezglami_caller(&ledger, 2, &ann) == BEZGLAMI_DONE);
     EXPECT(bezglami_caller(&ledger, 2, &ann) == BEZGLAMI_IN_USE);
     EXPECT(bezglami_caller(&ann, 2, &spare) == BEZGLAMI_WRONG_HANDLE);
+    EXPECT(bezglami_close(&ann) == BEZGLAMI_WRONG_HANDLE && bezglami_report(&ann, report, 1) == 0 && ann.at != NULL);
+    EXPECT(open_book(BOOK, &ann, &line) == BEZGLAMI_IN_USE);
     EXPECT(bezglami_read(&ann, 4, &answer) == BEZGLAMI_NO_ACCOUNT && bezglami_read(&ann, UINT32_MAX, &answer) == BEZGLAMI_NO_ACCOUNT);
     EXPECT(bezglami_transfer(&ann, 4, 0, 1, &answer) == BEZGLAMI_NO_ACCOUNT);
     EXPECT(bezglami_transfer(&ann, 0, 4, 1, &answer) == BEZGLAMI_NO_ACCOUNT);
@@ -158,13 +194,159 @@ static void test_misuse(void) {
     EXPECT(bezglami_caller(&ledger, 1, &spare) == BEZGLAMI_DONE);
     bezglami_handle last = BEZGLAMI_NOTHING;
     EXPECT(bezglami_caller(&ledger, 1, &last) == BEZGLAMI_NO_CALLER && last.at == NULL);
+    EXPECT(report[0] == 7);
     bezglami_free(&ann);
     bezglami_free(&ann);
     bezglami_free(&spare);
     bezglami_free(&ledger);
 }
 
-/* A thread that makes one call and then no other, and holds its caller to the end. */
+/* Each cause for which bytes spell no book. */
+static void test_bad_books(void) {
+    static char many[32768];
+    EXPECT(is_bad("book,3\n", 1, BEZGLAMI_WHY_VERSION));
+    EXPECT(is_bad("", 1, BEZGLAMI_WHY_SHAPE) && is_bad("book,2\nprocess\n", 2, BEZGLAMI_WHY_SHAPE));
+    EXPECT(is_bad("book,1\nprocesses,1\nlimits,4,4\naccount,0,x,0\n", 4, BEZGLAMI_WHY_NUMBER));
+    EXPECT(is_bad("book,1\nprocesses,1\nlimits,4,4\naccount,1,0,\n", 4, BEZGLAMI_WHY_ACCOUNT_ORDER));
+    EXPECT(is_bad("book,2\nprocesses,ann,-bob\n", 2, BEZGLAMI_WHY_NAME));
+    EXPECT(is_bad("book,2\nprocesses,ann,ann\n", 2, BEZGLAMI_WHY_NAME_TWICE));
+    EXPECT(is_bad("book,2\nprocesses,ann\nlimits,4,4\naccount,joint,9,ann bob\n", 4, BEZGLAMI_WHY_UNKNOWN_OWNER));
+    EXPECT(is_bad("book,1\nprocesses,0\n", 2, BEZGLAMI_WHY_NO_PROCESS));
+    EXPECT(is_bad("book,1\nprocesses,17\n", 2, BEZGLAMI_WHY_TOO_MANY_PROCESSES));
+    EXPECT(is_bad("book,1\nprocesses,1\nlimits,4,4\n", 4, BEZGLAMI_WHY_NO_ACCOUNT));
+    EXPECT(is_bad("book,1\nprocesses,2\nlimits,4,4\naccount,0,0,0 2\n", 4, BEZGLAMI_WHY_OWNER_OUT_OF_RANGE));
+    EXPECT(is_bad("book,1\nprocesses,2\nlimits,4,4\naccount,0,0,1 0\n", 4, BEZGLAMI_WHY_OWNERS_NOT_RISING));
+    EXPECT(is_bad("book,1\nprocesses,9\nlimits,4,4\naccount,0,0,0 1 2 3 4 5 6 7 8\n", 4, BEZGLAMI_WHY_TOO_MANY_OWNERS));
+    EXPECT(is_bad("book,1\nprocesses,1\nlimits,4,1025\n", 3, BEZGLAMI_WHY_ROOM_OUT_OF_RANGE));
+    EXPECT(is_bad("book,1\nprocesses,8\nlimits,4,1024\naccount,0,0,0 1 2 3 4 5 6 7\naccount,1,0,0 1\n", 5, BEZGLAMI_WHY_ROUNDS_OVER_LIMIT));
+    EXPECT(is_bad("book,1\nprocesses,1\nlimits,4,4\naccount,0,18446744073709551615,\naccount,1,1,\n", 5, BEZGLAMI_WHY_TOTAL_OVER_LIMIT));
+    size_t at = (size_t)snprintf(many, sizeof many, "book,1\nprocesses,1\nlimits,4,4\n");
+    for (int account = 0; account < 1025; account++)
+        at += (size_t)snprintf(many + at, sizeof many - at, "account,%d,1,0\n", account);
+    EXPECT(is_bad(many, 1028, BEZGLAMI_WHY_TOO_MANY_ACCOUNTS));
+}
+
+/* The report of calls of one process is in their order, to the byte; nothing is written where there is too little room. */
+static void test_report(void) {
+    static const char wanted[] = "journal 3\n0 1 transfer 0 1 30 done\n0 2 read 0 70\n0 3 read 1 30\nbalances 2\n0 70\n1 30\ntotal 100\n";
+    const size_t length = sizeof wanted - 1;
+    bezglami_handle ledger = BEZGLAMI_NOTHING, ann = BEZGLAMI_NOTHING;
+    uint8_t report[sizeof wanted + 1];
+    open_new("book,1\nprocesses,1\nlimits,4,4\naccount,0,100,0\naccount,1,0,\n", &ledger);
+    EXPECT(bezglami_caller(&ledger, 3, &ann) == BEZGLAMI_DONE);
+    EXPECT(replied(&ann, 0, 1, 30) == BEZGLAMI_REPLY_DONE && answered(&ann, 0, 70) && answered(&ann, 1, 30));
+    EXPECT(bezglami_return(&ann) == BEZGLAMI_DONE && bezglami_close(&ledger) == BEZGLAMI_DONE);
+    memset(report, '#', sizeof report);
+    EXPECT(bezglami_report(&ledger, report, 0) == length && bezglami_report(&ledger, report, length - 1) == length);
+    for (size_t i = 0; i < sizeof report; i++)
+        EXPECT(report[i] == '#');
+    EXPECT(bezglami_report(&ledger, report, length) == length && memcmp(report, wanted, length) == 0 && report[length] == '#');
+    memset(report, '#', sizeof report);
+    EXPECT(bezglami_report(&ledger, report, sizeof report) == length && memcmp(report, wanted, length) == 0);
+    EXPECT(report[length] == '#' && report[length + 1] == '#' && has_report(&ledger, wanted, true));
+    bezglami_free(&ledger);
+    EXPECT(ledger.at == NULL && bezglami_report(&ledger, report, sizeof report) == 0);
+}
+
+/* What is asked of a handle that holds a report: nothing but the report, and to be freed. To close it again changes nothing. */
+static void test_closed(void) {
+    bezglami_handle ledger = BEZGLAMI_NOTHING, spare = BEZGLAMI_NOTHING;
+    bezglami_target target = { 1, 1 };
+    bezglami_answer answer = { 7, 7, 7, 7 };
+    uint32_t line = 9;
+    open_new(BOOK, &ledger);
+    EXPECT(bezglami_close(&ledger) == BEZGLAMI_DONE && bezglami_close(&ledger) == BEZGLAMI_DONE);
+    EXPECT(bezglami_return(&ledger) == BEZGLAMI_WRONG_HANDLE);
+    EXPECT(bezglami_caller(&ledger, 9, &spare) == BEZGLAMI_WRONG_HANDLE && spare.at == NULL);
+    EXPECT(bezglami_transfer(&ledger, 0, 1, 1, &answer) == BEZGLAMI_WRONG_HANDLE && bezglami_read(&ledger, 0, &answer) == BEZGLAMI_WRONG_HANDLE);
+    EXPECT(bezglami_pay(&ledger, 0, &target, 1, &answer) == BEZGLAMI_WRONG_HANDLE && answer.reply == 7 && answer.steps == 7);
+    EXPECT(bezglami_note(&ledger, 1) == BEZGLAMI_WRONG_HANDLE && bezglami_learn(&ledger, 1) == BEZGLAMI_WRONG_HANDLE);
+    EXPECT(bezglami_steps(&ledger) == 0 && bezglami_exchanges(&ledger) == 0);
+    EXPECT(open_book(BOOK, &ledger, &line) == BEZGLAMI_IN_USE);
+    EXPECT(has_report(&ledger, "journal 0\nbalances 4\n0 500\n1 100\n2 300\n3 0\ntotal 900\n", true));
+    bezglami_free(&ledger);
+    bezglami_free(&ledger);
+}
+
+/* Closing before all callers are back, and a caller that is used after it was given back. */
+static void test_order_of_closing(void) {
+    bezglami_handle ledger = BEZGLAMI_NOTHING, ann = BEZGLAMI_NOTHING, bob = BEZGLAMI_NOTHING, carl = BEZGLAMI_NOTHING;
+    bezglami_answer answer = { 7, 7, 7, 7 };
+    open_new(BOOK, &ledger);
+    EXPECT(bezglami_caller(&ledger, 9, &ann) == BEZGLAMI_DONE && bezglami_caller(&ledger, 9, &bob) == BEZGLAMI_DONE);
+    EXPECT(replied(&ann, 0, 3, 200) == BEZGLAMI_REPLY_DONE && bezglami_close(&ledger) == BEZGLAMI_CALLERS_OUT);
+    EXPECT(bezglami_return(&ann) == BEZGLAMI_DONE && ann.at == NULL);
+    EXPECT(bezglami_return(&ann) == BEZGLAMI_WRONG_HANDLE && bezglami_read(&ann, 0, &answer) == BEZGLAMI_WRONG_HANDLE);
+    EXPECT(bezglami_close(&ledger) == BEZGLAMI_CALLERS_OUT && answered(&bob, 3, 200));
+    EXPECT(bezglami_caller(&ledger, 9, &carl) == BEZGLAMI_DONE && answered(&carl, 0, 300));
+    EXPECT(bezglami_return(&bob) == BEZGLAMI_DONE && bezglami_close(&ledger) == BEZGLAMI_CALLERS_OUT);
+    EXPECT(answered(&carl, 0, 300) && bezglami_return(&carl) == BEZGLAMI_DONE && bezglami_close(&ledger) == BEZGLAMI_DONE);
+    EXPECT(has_report(&ledger, "\nbalances 4\n0 300\n1 100\n2 300\n3 200\ntotal 900\n", false));
+    bezglami_free(&ledger);
+}
+
+/* A ledger of which a caller was freed is closed never. */
+static void test_lost_caller(void) {
+    bezglami_handle ledger = BEZGLAMI_NOTHING, ann = BEZGLAMI_NOTHING, bob = BEZGLAMI_NOTHING;
+    open_new(BOOK, &ledger);
+    EXPECT(bezglami_caller(&ledger, 9, &ann) == BEZGLAMI_DONE && bezglami_caller(&ledger, 9, &bob) == BEZGLAMI_DONE);
+    bezglami_free(&ann);
+    EXPECT(bezglami_close(&ledger) == BEZGLAMI_CALLERS_OUT && answered(&bob, 0, 500));
+    EXPECT(bezglami_return(&bob) == BEZGLAMI_DONE);
+    for (int time = 0; time < 3; time++)
+        EXPECT(bezglami_close(&ledger) == BEZGLAMI_CALLERS_OUT);
+    EXPECT(bezglami_report(&ledger, (uint8_t[1]){ 0 }, 1) == 0);
+    bezglami_free(&ledger);
+}
+
+/* A caller goes back to its own ledger, also once that was freed. */
+static void test_two_ledgers(void) {
+    bezglami_handle one = BEZGLAMI_NOTHING, other = BEZGLAMI_NOTHING;
+    bezglami_handle ann = BEZGLAMI_NOTHING, bob = BEZGLAMI_NOTHING, carl = BEZGLAMI_NOTHING;
+    open_new(BOOK, &one);
+    open_new(BOOK, &other);
+    EXPECT(bezglami_caller(&one, 9, &ann) == BEZGLAMI_DONE && bezglami_caller(&other, 9, &bob) == BEZGLAMI_DONE);
+    EXPECT(replied(&ann, 0, 3, 1) == BEZGLAMI_REPLY_DONE && replied(&bob, 0, 3, 2) == BEZGLAMI_REPLY_DONE);
+    EXPECT(bezglami_note(&ann, 1) == BEZGLAMI_DONE && bezglami_caller(&other, 9, &carl) == BEZGLAMI_DONE);
+    EXPECT(bezglami_learn(&carl, 0) == BEZGLAMI_NO_NOTE && bezglami_return(&carl) == BEZGLAMI_DONE);
+    EXPECT(bezglami_return(&ann) == BEZGLAMI_DONE && bezglami_close(&other) == BEZGLAMI_CALLERS_OUT);
+    EXPECT(bezglami_close(&one) == BEZGLAMI_DONE && has_report(&one, "3 1\ntotal 900\n", false));
+    EXPECT(bezglami_return(&bob) == BEZGLAMI_DONE && bezglami_close(&other) == BEZGLAMI_DONE);
+    EXPECT(has_report(&other, "journal 1\n0 1 transfer 0 3 2 done\nbalances 4\n0 498\n1 100\n2 300\n3 2\ntotal 900\n", true));
+    bezglami_free(&one);
+    bezglami_free(&other);
+    open_new(BOOK, &one);
+    EXPECT(bezglami_caller(&one, 9, &ann) == BEZGLAMI_DONE && bezglami_caller(&one, 9, &bob) == BEZGLAMI_DONE);
+    bezglami_free(&one);
+    EXPECT(replied(&ann, 0, 3, 1) == BEZGLAMI_REPLY_DONE && bezglami_return(&ann) == BEZGLAMI_DONE);
+    EXPECT(answered(&bob, 3, 1) && bezglami_return(&bob) == BEZGLAMI_DONE);
+}
+
+/* Notes: taken in once, the last one alone, also of a caller that is gone; each is one step and one exchange. */
+static void test_notes(void) {
+    bezglami_handle ledger = BEZGLAMI_NOTHING, ann = BEZGLAMI_NOTHING, bob = BEZGLAMI_NOTHING;
+    open_new(BOOK, &ledger);
+    EXPECT(bezglami_caller(&ledger, 9, &ann) == BEZGLAMI_DONE);
+    EXPECT(bezglami_note(&ann, 3) == BEZGLAMI_NO_PROCESS && bezglami_note(&ann, UINT32_MAX) == BEZGLAMI_NO_PROCESS);
+    EXPECT(bezglami_learn(&ann, 3) == BEZGLAMI_NO_PROCESS && bezglami_learn(&ann, UINT32_MAX) == BEZGLAMI_NO_PROCESS);
+    EXPECT(bezglami_learn(&ann, 1) == BEZGLAMI_NO_NOTE && bezglami_steps(&ann) == 0 && bezglami_exchanges(&ann) == 0);
+    long taken = allocations;
+    EXPECT(bezglami_note(&ann, 1) == BEZGLAMI_DONE && bezglami_steps(&ann) == 1 && bezglami_exchanges(&ann) == 1);
+    EXPECT(replied(&ann, 0, 3, 200) == BEZGLAMI_REPLY_DONE && bezglami_note(&ann, 1) == BEZGLAMI_DONE);
+    EXPECT(bezglami_note(&ann, 2) == BEZGLAMI_DONE && bezglami_exchanges(&ann) == 3 && allocations == taken);
+    EXPECT(bezglami_caller(&ledger, 9, &bob) == BEZGLAMI_DONE);
+    taken = allocations;
+    EXPECT(bezglami_return(&ann) == BEZGLAMI_DONE);
+    EXPECT(bezglami_learn(&bob, 2) == BEZGLAMI_NO_NOTE && bezglami_learn(&bob, 0) == BEZGLAMI_DONE);
+    EXPECT(bezglami_steps(&bob) == 1 && bezglami_exchanges(&bob) == 1);
+    EXPECT(bezglami_learn(&bob, 0) == BEZGLAMI_NO_NOTE && bezglami_steps(&bob) == 1);
+    EXPECT(answered(&bob, 3, 200) && bezglami_note(&bob, 0) == BEZGLAMI_DONE && bezglami_exchanges(&bob) == 2);
+    EXPECT(bezglami_return(&bob) == BEZGLAMI_DONE && allocations == taken);
+    EXPECT(bezglami_close(&ledger) == BEZGLAMI_DONE && has_report(&ledger, "3 200\ntotal 900\n", false));
+    bezglami_free(&ledger);
+}
+
+/* A thread that makes one call and then no other, and gives its caller back at the end alone. */
 struct stopped {
     bezglami_handle caller;
     pthread_barrier_t called;
@@ -176,11 +358,11 @@ static void *call_and_stop(void *argument) {
     EXPECT(replied(&stopped->caller, 2, 3, 100) == BEZGLAMI_REPLY_DONE);
     pthread_barrier_wait(&stopped->called);
     pthread_barrier_wait(&stopped->ended);
-    bezglami_free(&stopped->caller);
+    EXPECT(bezglami_return(&stopped->caller) == BEZGLAMI_DONE);
     return NULL;
 }
 
-/* The others make their calls to the end while a thread has stopped, and free all but its caller, which it frees in its thread. */
+/* The others make their calls to the end while a thread has stopped. The ledger is closed once that thread has given its caller back. */
 static void test_stopped(void) {
     struct stopped stopped = { .caller = BEZGLAMI_NOTHING };
     bezglami_handle ledger = BEZGLAMI_NOTHING, bob = BEZGLAMI_NOTHING;
@@ -196,43 +378,122 @@ static void test_stopped(void) {
         EXPECT(replied(&bob, 2, 3, 10) == BEZGLAMI_REPLY_DONE);
     EXPECT(replied(&bob, 2, 3, 11) == BEZGLAMI_REPLY_SHORT && replied(&bob, 2, 3, 1) == BEZGLAMI_REPLY_FULL);
     EXPECT(answered(&bob, 2, 10) && answered(&bob, 3, 290));
-    bezglami_free(&bob);
-    bezglami_free(&ledger);
+    EXPECT(bezglami_return(&bob) == BEZGLAMI_DONE && bezglami_close(&ledger) == BEZGLAMI_CALLERS_OUT);
     pthread_barrier_wait(&stopped.ended);
     pthread_join(thread, NULL);
+    EXPECT(bezglami_close(&ledger) == BEZGLAMI_DONE && has_report(&ledger, "2 10\n3 290\ntotal 900\n", false));
+    bezglami_free(&ledger);
     pthread_barrier_destroy(&stopped.called);
     pthread_barrier_destroy(&stopped.ended);
 }
 
+static void *call_and_return(void *argument) {
+    bezglami_handle *caller = argument;
+    uint32_t outcome;
+    EXPECT(answered(caller, 0, 500));
+    while ((outcome = bezglami_return(caller)) == BEZGLAMI_BUSY)
+        sched_yield();
+    EXPECT(outcome == BEZGLAMI_DONE);
+    return NULL;
+}
+
+/* A ledger is closed again and again while threads give their callers back: once all are, it is closed. */
+static void test_closing_meanwhile(void) {
+    for (int time = 0; time < 200; time++) {
+        bezglami_handle ledger = BEZGLAMI_NOTHING, callers[] = { BEZGLAMI_NOTHING, BEZGLAMI_NOTHING };
+        pthread_t threads[2];
+        uint32_t outcome;
+        open_new(BOOK, &ledger);
+        for (int p = 0; p < 2; p++)
+            EXPECT(bezglami_caller(&ledger, 1, &callers[p]) == BEZGLAMI_DONE);
+        for (int p = 0; p < 2; p++)
+            EXPECT(pthread_create(&threads[p], NULL, call_and_return, &callers[p]) == 0);
+        while ((outcome = bezglami_close(&ledger)) == BEZGLAMI_CALLERS_OUT)
+            sched_yield();
+        EXPECT(outcome == BEZGLAMI_DONE && has_report(&ledger, " read 0 500\nbalances 4\n0 500\n1 100\n2 300\n3 0\ntotal 900\n", false));
+        for (int p = 0; p < 2; p++)
+            pthread_join(threads[p], NULL);
+        bezglami_free(&ledger);
+    }
+}
+
+/* A caller that reaches for the same two notes as another thread, and what came of it. */
+struct reaching {
+    bezglami_handle caller;
+    uint32_t other;
+    uint64_t done;
+    pthread_t thread;
+};
+
+static void *reach_for_notes(void *argument) {
+    struct reaching *reaching = argument;
+    for (int time = 0; time < 20000; time++) {
+        uint32_t left = bezglami_note(&reaching->caller, reaching->other);
+        uint32_t learnt = bezglami_learn(&reaching->caller, reaching->other);
+        EXPECT(left == BEZGLAMI_DONE || left == BEZGLAMI_BUSY);
+        EXPECT(learnt == BEZGLAMI_DONE || learnt == BEZGLAMI_BUSY || learnt == BEZGLAMI_NO_NOTE);
+        reaching->done += (left == BEZGLAMI_DONE) + (learnt == BEZGLAMI_DONE);
+    }
+    return NULL;
+}
+
+/* Two threads leave notes for each other and take them in at once. What is busy counts as no step. */
+static void test_notes_meanwhile(void) {
+    struct reaching both[2] = { { .other = 1 }, { .other = 0 } };
+    bezglami_handle ledger = BEZGLAMI_NOTHING;
+    open_new(BOOK, &ledger);
+    for (int p = 0; p < 2; p++)
+        EXPECT(bezglami_caller(&ledger, 0, &both[p].caller) == BEZGLAMI_DONE);
+    for (int p = 0; p < 2; p++)
+        EXPECT(pthread_create(&both[p].thread, NULL, reach_for_notes, &both[p]) == 0);
+    for (int p = 0; p < 2; p++) {
+        pthread_join(both[p].thread, NULL);
+        EXPECT(bezglami_steps(&both[p].caller) == both[p].done && bezglami_exchanges(&both[p].caller) == both[p].done);
+        EXPECT(bezglami_return(&both[p].caller) == BEZGLAMI_DONE);
+    }
+    EXPECT(bezglami_close(&ledger) == BEZGLAMI_DONE);
+    bezglami_free(&ledger);
+}
+
+/* What is done again where memory was wanting, which it was once at most. */
+static bool again(uint32_t outcome, bool *refused) {
+    EXPECT(outcome == BEZGLAMI_DONE || (outcome == BEZGLAMI_NO_MEMORY && !*refused));
+    *refused = *refused || outcome == BEZGLAMI_NO_MEMORY;
+    return outcome == BEZGLAMI_NO_MEMORY;
+}
+
+/* The calls of a caller take no memory, nor do its notes, nor does it to give it back. */
+static void call_without_memory(bezglami_handle *ann) {
+    const bezglami_target targets[] = { { 1, 3 }, { 3, 2 } };
+    long taken = allocations;
+    EXPECT(replied(ann, 0, 1, 5) == BEZGLAMI_REPLY_DONE && paid(ann, 0, targets, 2) == BEZGLAMI_REPLY_DONE);
+    EXPECT(answered(ann, 0, 490) && bezglami_note(ann, 1) == BEZGLAMI_DONE && bezglami_learn(ann, 1) == BEZGLAMI_NO_NOTE);
+    EXPECT(bezglami_return(ann) == BEZGLAMI_DONE && allocations == taken);
+}
+
 /* Each allocation refused in turn: what was asked for isn't there, nothing is lost, and it is there when asked for again. */
 static long test_memory(void) {
+    static const char wanted[] = "journal 3\n0 1 transfer 0 1 5 done\n0 2 pay 0 1 3 3 2 done\n0 3 read 0 490\n"
+                                 "balances 4\n0 490\n1 108\n2 300\n3 2\ntotal 900\n";
     for (long at = 1;; at++) {
         bezglami_handle ledger = BEZGLAMI_NOTHING, ann = BEZGLAMI_NOTHING;
         uint32_t line = 9;
-        int refused = 0;
+        bool refused = false;
         long before = blocks;
         allocations = 0;
         refused_at = at;
-        uint32_t outcome = open_book(BOOK, &ledger, &line);
-        if (outcome == BEZGLAMI_NO_MEMORY) {
+        while (again(open_book(BOOK, &ledger, &line), &refused))
             EXPECT(ledger.at == NULL && blocks == before && line == 9);
-            refused = 1;
-            outcome = open_book(BOOK, &ledger, &line);
-        }
-        EXPECT(outcome == BEZGLAMI_DONE);
-        outcome = bezglami_caller(&ledger, 10, &ann);
-        if (outcome == BEZGLAMI_NO_MEMORY) {
+        while (again(bezglami_caller(&ledger, 10, &ann), &refused))
             EXPECT(ann.at == NULL);
-            refused = 1;
-            outcome = bezglami_caller(&ledger, 10, &ann);
+        call_without_memory(&ann);
+        while (again(bezglami_close(&ledger), &refused)) {
+            EXPECT(bezglami_report(&ledger, (uint8_t[1]){ 0 }, 1) == 0);
+            EXPECT(bezglami_caller(&ledger, 10, &ann) == BEZGLAMI_WRONG_HANDLE && ann.at == NULL);
         }
-        EXPECT(outcome == BEZGLAMI_DONE);
         long taken = allocations;
-        const bezglami_target targets[] = { { 1, 3 }, { 3, 2 } };
-        EXPECT(replied(&ann, 0, 1, 5) == BEZGLAMI_REPLY_DONE && paid(&ann, 0, targets, 2) == BEZGLAMI_REPLY_DONE);
-        EXPECT(answered(&ann, 0, 490) && allocations == taken);
+        EXPECT(has_report(&ledger, wanted, true));
         bezglami_free(&ledger);
-        bezglami_free(&ann);
         EXPECT(blocks == before && allocations == taken);
         refused_at = 0;
         if (!refused)
@@ -240,15 +501,39 @@ static long test_memory(void) {
     }
 }
 
+/* A ledger that memory was wanting to close is freed with all that it keeps. */
+static void test_freed_half_closed(void) {
+    bezglami_handle ledger = BEZGLAMI_NOTHING, ann = BEZGLAMI_NOTHING;
+    open_new(BOOK, &ledger);
+    EXPECT(bezglami_caller(&ledger, 10, &ann) == BEZGLAMI_DONE);
+    call_without_memory(&ann);
+    refused_at = allocations + 1;
+    EXPECT(bezglami_close(&ledger) == BEZGLAMI_NO_MEMORY);
+    refused_at = 0;
+    bezglami_free(&ledger);
+}
+
 int main(void) {
     long before = blocks;
     test_replies();
     test_pay_outs();
     test_misuse();
+    test_bad_books();
+    test_report();
+    test_closed();
+    test_order_of_closing();
+    test_lost_caller();
+    test_two_ledgers();
+    test_notes();
     test_stopped();
+    test_closing_meanwhile();
+    test_notes_meanwhile();
+    test_freed_half_closed();
     EXPECT(bezglami_version() == BEZGLAMI_VERSION);
-    for (uint32_t outcome = BEZGLAMI_DONE; outcome <= BEZGLAMI_NO_PAY_OUT; outcome++)
+    for (uint32_t outcome = BEZGLAMI_DONE; outcome <= BEZGLAMI_BUSY; outcome++)
         EXPECT(strcmp(bezglami_outcome_text(outcome), bezglami_outcome_text(UINT32_MAX)) != 0);
+    for (uint32_t why = BEZGLAMI_WHY_VERSION; why <= BEZGLAMI_WHY_TOTAL_OVER_LIMIT; why++)
+        EXPECT(strcmp(bezglami_why_text(why), bezglami_why_text(0)) != 0);
     EXPECT(blocks == before);
     long refused = test_memory();
     printf("bezglami from C: all as said, %ld allocations refused in turn\n", refused);

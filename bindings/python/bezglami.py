@@ -1,7 +1,8 @@
 """A payment ledger that no thread waits for, by the library for C.
 
 A Ledger is opened with a book and hands out a Caller for each process. Threads make calls at once, each by a caller of its own; ctypes
-lets go of the interpreter's lock meanwhile. Accounts are numbers from 0 in the book's order, also where the book names them.
+lets go of the interpreter's lock meanwhile. Once all callers are given back, the ledger is closed, and its report has all calls in one
+legal order. Accounts are numbers from 0 in the book's order, also where the book names them.
 
 The library is libbezglami.so in the folder that BEZGLAMI_LIB names, beside this file, or in lib of the release that this file lies in.
 It is proved; this module is a thin layer around it, and no proof speaks of it.
@@ -12,21 +13,22 @@ from __future__ import annotations
 import ctypes
 import os
 import threading
+import time
 from collections.abc import Iterator, Sequence
 from enum import Enum
 from pathlib import Path
 from types import TracebackType
-from typing import NamedTuple, NoReturn
+from typing import ClassVar, NamedTuple, NoReturn
 
 __all__ = [
-    "TARGETS_MOST", "BadBook", "Caller", "Error", "Ledger", "NoAccount", "NoCaller", "NoMemory", "NoPayOut", "NoRoom", "OtherVersion",
-    "Receipt", "Reply",
+    "TARGETS_MOST", "BadBook", "Busy", "Caller", "CallersOut", "Error", "Ledger", "NoAccount", "NoCaller", "NoMemory", "NoNote", "NoPayOut",
+    "NoProcess", "NoRoom", "OtherVersion", "Receipt", "Reply", "Why",
 ]
 
 TARGETS_MOST = 4
 """The most targets that a pay-out has."""
 
-_VERSION = 2
+_VERSION = 3
 """The version of the header that this module was written by."""
 
 
@@ -34,12 +36,38 @@ class Error(Exception):
     """Something wasn't done, and nothing has changed."""
 
 
-class BadBook(Error):
-    """The bytes spell no book. `line` is that of the first fault; lines are records, counted from 1."""
+class Why(Enum):
+    """Why bytes spell no book: the cause of their first fault. As a `str` it has the words that docs/formats.md explains."""
 
-    def __init__(self, line: int) -> None:
-        super().__init__(f"no book: the first fault is in line {line}")
+    VERSION = 1
+    SHAPE = 2
+    NUMBER = 3
+    ACCOUNT_ORDER = 4
+    NAME = 5
+    NAME_TWICE = 6
+    UNKNOWN_OWNER = 7
+    NO_PROCESS = 8
+    TOO_MANY_PROCESSES = 9
+    NO_ACCOUNT = 10
+    TOO_MANY_ACCOUNTS = 11
+    OWNER_OUT_OF_RANGE = 12
+    OWNERS_NOT_RISING = 13
+    TOO_MANY_OWNERS = 14
+    ROOM_OUT_OF_RANGE = 15
+    ROUNDS_OVER_LIMIT = 16
+    TOTAL_OVER_LIMIT = 17
+
+    def __str__(self) -> str:
+        return self.name.lower().replace("_", " ")
+
+
+class BadBook(Error):
+    """The bytes spell no book. `line` is that of the first fault, and `why` its cause; lines are records, counted from 1."""
+
+    def __init__(self, line: int, why: Why) -> None:
+        super().__init__(f"no book: the first fault is in line {line}: {why}")
         self.line = line
+        self.why = why
 
 
 class NoMemory(Error):
@@ -60,6 +88,22 @@ class NoRoom(Error):
 
 class NoPayOut(Error):
     """A pay-out has from 1 to TARGETS_MOST targets."""
+
+
+class CallersOut(Error):
+    """A caller of the ledger wasn't given back."""
+
+
+class NoProcess(Error):
+    """The book has no process of this number."""
+
+
+class NoNote(Error):
+    """The process has left no note."""
+
+
+class Busy(Error):
+    """Another thread is just reaching for the same note. To ask again is all that it takes."""
 
 
 class OtherVersion(Error):
@@ -109,28 +153,37 @@ def _library_file() -> Path:
 
 def _load() -> ctypes.CDLL:
     library = ctypes.CDLL(str(_library_file()))
-    handle, answer = ctypes.POINTER(_Handle), ctypes.POINTER(_Answer)
+    handle, answer, number = ctypes.POINTER(_Handle), ctypes.POINTER(_Answer), ctypes.POINTER(ctypes.c_uint32)
     u32, u64, size = ctypes.c_uint32, ctypes.c_uint64, ctypes.c_size_t
     exports = {
         "version": (u32, []),
-        "open": (u32, [ctypes.c_char_p, size, handle, ctypes.POINTER(u32)]),
+        "open": (u32, [ctypes.c_char_p, size, handle, number, number]),
         "caller": (u32, [handle, u32, handle]),
         "transfer": (u32, [handle, u32, u32, u64, answer]),
         "pay": (u32, [handle, u32, ctypes.POINTER(_Target), size, answer]),
         "read": (u32, [handle, u32, answer]),
         "steps": (u64, [handle]),
         "exchanges": (u64, [handle]),
+        "note": (u32, [handle, u32]),
+        "learn": (u32, [handle, u32]),
+        "return": (u32, [handle]),
+        "close": (u32, [handle]),
+        "report": (size, [handle, ctypes.c_char_p, size]),
         "free": (None, [handle]),
     }
     for name, (answers, takes) in exports.items():
-        export = getattr(library, "bezglami_" + name)
-        export.restype, export.argtypes = answers, takes
+        # A library of another version may lack it. That is told where a ledger is opened.
+        export = getattr(library, "bezglami_" + name, None)
+        if export is not None:
+            export.restype, export.argtypes = answers, takes
     return library
 
 
 _library = _load()
-_bad_book = 4
-_errors: dict[int, type[Error]] = {3: NoMemory, 5: NoCaller, 6: NoAccount, 7: NoRoom, 8: NoPayOut}
+_wrong_handle, _bad_book, _no_caller, _busy = 1, 4, 5, 12
+_errors: dict[int, type[Error]] = {
+    3: NoMemory, _no_caller: NoCaller, 6: NoAccount, 7: NoRoom, 8: NoPayOut, 9: CallersOut, 10: NoProcess, 11: NoNote, _busy: Busy,
+}
 
 
 def _refuse(outcome: int) -> NoReturn:
@@ -155,33 +208,41 @@ def _fitting(value: int, bits: int) -> int:
 
 
 class _Holder:
-    """The one place that holds what the library made. A lock has one thread at a time use it, and it frees what it holds."""
+    """The one place that holds what the library made. A lock has one thread at a time use it."""
+
+    _end: ClassVar[str]
+    """The export that lets go of what is held, and does nothing where nothing is."""
 
     def __init__(self) -> None:
         self._handle = _Handle()
         self._lock = threading.Lock()
 
-    def free(self) -> None:
-        """Frees it now. Nothing is done where nothing is held."""
-        with self._lock:
-            _library.bezglami_free(self._handle)
+    def _let_go(self) -> None:
+        # A caller is busy while a thread that closes its ledger just looks whether it is back.
+        while getattr(_library, self._end)(self._handle) == _busy:
+            time.sleep(0)
 
     def __del__(self) -> None:
-        handle = self.__dict__.get("_handle")
-        if handle is not None and _library is not None:
-            _library.bezglami_free(handle)
+        if "_handle" in self.__dict__ and _library is not None:
+            self._let_go()
 
     def _held(self) -> _Handle:
         if not self._handle.at:
-            raise ValueError("it was freed")
+            raise ValueError("it was let go of")
         return self._handle
 
     def __exit__(self, kind: type[BaseException] | None, error: BaseException | None, trace: TracebackType | None) -> None:
-        self.free()
+        with self._lock:
+            self._let_go()
 
 
 class Caller(_Holder):
-    """Makes the calls of one process. A call takes no memory of the library's and waits for no other caller."""
+    """Makes the calls of one process. A call takes no memory of the library's and waits for no other caller.
+
+    It is given back to its ledger at the end of a `with`, by `give_back`, and else when it is collected.
+    """
+
+    _end = "bezglami_return"
 
     def __init__(self, process: int) -> None:
         super().__init__()
@@ -190,6 +251,11 @@ class Caller(_Holder):
 
     def __enter__(self) -> Caller:
         return self
+
+    def give_back(self) -> None:
+        """Gives it back to its ledger now, with the receipts of its calls. Nothing is done where it was given back before."""
+        with self._lock:
+            self._let_go()
 
     def _call(self, name: str, *words: object) -> Receipt:
         answer = _Answer()
@@ -200,22 +266,39 @@ class Caller(_Holder):
 
     def transfer(self, source: int, target: int, amount: int) -> Receipt:
         """Moves the amount from one account to another. Raises NoAccount and NoRoom."""
-        return self._call("transfer", _account(source), _account(target), _fitting(amount, 64))
+        return self._call("transfer", _number(source), _number(target), _fitting(amount, 64))
 
     def pay(self, source: int, targets: Sequence[tuple[int, int]]) -> Receipt:
         """Moves each amount to its account, or none of them: `targets` has pairs of an account and an amount.
 
         Raises NoAccount, NoRoom and NoPayOut.
         """
-        pairs = (_Target * len(targets))(*(_Target(_account(account), _fitting(amount, 64)) for account, amount in targets))
-        return self._call("pay", _account(source), pairs, len(targets))
+        pairs = (_Target * len(targets))(*(_Target(_number(account), _fitting(amount, 64)) for account, amount in targets))
+        return self._call("pay", _number(source), pairs, len(targets))
 
     def read(self, account: int) -> Receipt:
         """Tells the balance of an account. Raises NoAccount and NoRoom."""
-        return self._call("read", _account(account))
+        return self._call("read", _number(account))
+
+    def note(self, process: int) -> None:
+        """Leaves a note of all that the caller has seen, for the caller of another process, in place of one that it left there before.
+
+        It counts as one step and one exchange. Raises NoProcess and Busy.
+        """
+        with self._lock:
+            _export("note", self._held(), _number(process))
+
+    def learn(self, process: int) -> None:
+        """Takes in the note that the caller of another process has left for this one.
+
+        The caller's later calls come after all that the note has seen. A note is taken in once. It counts as one step and one exchange.
+        Raises NoProcess, NoNote and Busy.
+        """
+        with self._lock:
+            _export("learn", self._held(), _number(process))
 
     def steps(self) -> int:
-        """How many steps all its calls have made."""
+        """How many steps all its calls and notes have made."""
         with self._lock:
             return _library.bezglami_steps(self._held())
 
@@ -225,23 +308,28 @@ class Caller(_Holder):
             return _library.bezglami_exchanges(self._held())
 
 
-def _account(number: int) -> int:
-    """The number of an account, and of one that no book has in place of a number that doesn't fit."""
+def _number(number: int) -> int:
+    """The number of an account or a process, and of one that no book has in place of a number that doesn't fit."""
     return number if 0 <= number < 1 << 32 else (1 << 32) - 1
 
 
 class Ledger(_Holder):
-    """A ledger for the book that the bytes spell. Raises BadBook, NoMemory and OtherVersion."""
+    """A ledger for the book that the bytes spell. Raises BadBook, NoMemory and OtherVersion.
+
+    It is freed at the end of a `with`, by `free`, and else when it is collected.
+    """
+
+    _end = "bezglami_free"
 
     def __init__(self, book: bytes) -> None:
         super().__init__()
         version = _library.bezglami_version()
         if version != _VERSION:
             raise OtherVersion(f"the library is of version {version}")
-        line = ctypes.c_uint32()
-        outcome = _library.bezglami_open(bytes(book), len(book), self._handle, line)
+        line, why = ctypes.c_uint32(), ctypes.c_uint32()
+        outcome = _library.bezglami_open(bytes(book), len(book), self._handle, line, why)
         if outcome == _bad_book:
-            raise BadBook(line.value)
+            raise BadBook(line.value, Why(why.value))
         if outcome != 0:
             _refuse(outcome)
         self._handed_out = 0
@@ -250,10 +338,16 @@ class Ledger(_Holder):
         return self
 
     def caller(self, calls: int) -> Caller:
-        """The caller of the next process, with memory for the receipts of so many calls. Raises NoCaller and NoMemory."""
+        """The caller of the next process, with memory for the receipts of so many calls.
+
+        Raises NoCaller, also once memory was wanting to close the ledger, and NoMemory.
+        """
         with self._lock:
             caller = Caller(self._handed_out)
-            _export("caller", self._held(), _fitting(calls, 32), caller._handle)
+            outcome = _library.bezglami_caller(self._held(), _fitting(calls, 32), caller._handle)
+            if outcome != 0:
+                # A ledger that was being closed hands out no caller: it is none any more.
+                _refuse(_no_caller if outcome == _wrong_handle else outcome)
             self._handed_out += 1
             return caller
 
@@ -264,3 +358,27 @@ class Ledger(_Holder):
                 yield self.caller(calls)
             except NoCaller:
                 return
+
+    def close(self) -> str:
+        """Closes the ledger, all callers of which were given back, and answers its report, as the program's `run` prints it.
+
+        Raises CallersOut and NoMemory, and nothing is lost then: it may be closed again. A ledger that was closed is freed.
+        """
+        with self._lock:
+            # Where there was no memory to copy the report, it is still there.
+            if self._report_length() == 0:
+                _export("close", self._held())
+            report = ctypes.create_string_buffer(self._report_length())
+            _library.bezglami_report(self._held(), report, len(report))
+            text = report.raw.decode("ascii")
+            _library.bezglami_free(self._handle)
+            return text
+
+    def _report_length(self) -> int:
+        """How long the report is that is held, and 0 where none is."""
+        return _library.bezglami_report(self._held(), b"", 0)
+
+    def free(self) -> None:
+        """Frees it now, without a report. Nothing is done where nothing is held. Its callers are used on."""
+        with self._lock:
+            self._let_go()

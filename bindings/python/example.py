@@ -1,3 +1,4 @@
+import sys
 from concurrent.futures import ThreadPoolExecutor
 
 import bezglami
@@ -6,11 +7,12 @@ book = b"book,2\nprocesses,ann,bob\nlimits,9,9\naccount,joint,300,ann bob\naccou
 
 
 def pay(caller):
-    return caller.transfer(0, 1, 200)
+    with caller:
+        receipt = caller.transfer(0, 1, 200)
+        print(caller.process, "was answered", receipt.reply.name, file=sys.stderr)
 
 
-with bezglami.Ledger(book) as ledger, ThreadPoolExecutor() as threads:
-    callers = list(ledger.callers(calls=9))
-    for caller, receipt in zip(callers, threads.map(pay, callers)):
-        print(caller.process, "was answered", receipt.reply.name)
-    print("the shop has", callers[0].read(1).balance)
+with bezglami.Ledger(book) as ledger:
+    with ThreadPoolExecutor() as threads:
+        list(threads.map(pay, ledger.callers(calls=9)))
+    print(ledger.close(), end="")

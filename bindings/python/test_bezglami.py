@@ -1,12 +1,37 @@
-"""Each kind of call, each error, and threads: `python3 -m unittest` in this folder."""
+"""Each kind of call, each error, notes, closing, and threads: `python3 -m unittest` in this folder."""
 
 import gc
 import unittest
 from concurrent.futures import ThreadPoolExecutor
+from contextlib import suppress
+from unittest import mock
 
-from bezglami import BadBook, Error, Ledger, NoAccount, NoCaller, NoPayOut, NoRoom, Reply
+from bezglami import (
+    BadBook, Busy, CallersOut, Error, Ledger, NoAccount, NoCaller, NoNote, NoPayOut, NoProcess, NoRoom, OtherVersion, Reply, Why,
+)
 
 BOOK = b"book,1\nprocesses,3\nlimits,100,20\naccount,0,500,0\naccount,1,100,1\naccount,2,300,0 1\naccount,3,0,\n"
+
+
+BAD_BOOKS = [
+    (1, "version", "book,3\n"),
+    (1, "shape", ""),
+    (2, "number", "book,1\nprocesses,x\n"),
+    (2, "no process", "book,1\nprocesses,0\n"),
+    (2, "too many processes", "book,1\nprocesses,17\n"),
+    (2, "name", "book,2\nprocesses,Ann\n"),
+    (2, "name twice", "book,2\nprocesses,ann,ann\n"),
+    (3, "room out of range", "book,1\nprocesses,9\nlimits,0,4\n"),
+    (4, "no account", "book,1\nprocesses,9\nlimits,4,1024\n"),
+    (4, "account order", "book,1\nprocesses,9\nlimits,4,1024\naccount,1,0,\n"),
+    (4, "owner out of range", "book,1\nprocesses,9\nlimits,4,1024\naccount,0,0,9\n"),
+    (4, "owners not rising", "book,1\nprocesses,9\nlimits,4,1024\naccount,0,0,1 0\n"),
+    (4, "too many owners", "book,1\nprocesses,9\nlimits,4,1\naccount,0,0,0 1 2 3 4 5 6 7 8\n"),
+    (4, "unknown owner", "book,2\nprocesses,ann\nlimits,4,4\naccount,joint,9,ann bob\n"),
+    (5, "rounds over limit", "book,1\nprocesses,8\nlimits,4,1024\naccount,0,0,0 1 2 3 4 5 6 7\naccount,1,0,0 1\n"),
+    (5, "total over limit", "book,1\nprocesses,1\nlimits,4,4\naccount,0,18446744073709551615,\naccount,1,1,\n"),
+    (1028, "too many accounts", "book,1\nprocesses,1\nlimits,4,4\n" + "".join(f"account,{i},1,\n" for i in range(1025))),
+]
 
 
 def three():
@@ -39,11 +64,87 @@ class Calls(unittest.TestCase):
         steps = sum(carl.read(account).steps for account in range(4))
         self.assertEqual((carl.steps(), carl.exchanges(), ann.steps()), (steps, 0, 0))
 
+    def test_bad_books(self):
+        self.assertEqual({why for _, why, _ in BAD_BOOKS}, set(map(str, Why)))
+        for line, why, book in BAD_BOOKS:
+            with self.subTest(why), self.assertRaises(BadBook) as raised:
+                Ledger(book.encode())
+            self.assertEqual((raised.exception.line, str(raised.exception.why)), (line, why))
+            self.assertEqual(str(raised.exception), f"no book: the first fault is in line {line}: {why}")
+
+    def test_notes(self):
+        ledger, (ann, bob, carl) = three()
+        for process in [3, 2**32 - 1, 2**32, -1]:
+            self.assertRaises(NoProcess, ann.note, process)
+            self.assertRaises(NoProcess, ann.learn, process)
+        self.assertRaises(NoNote, bob.learn, 0)
+        self.assertEqual((bob.steps(), bob.exchanges()), (0, 0))
+        ann.note(1)
+        ann.note(1)
+        self.assertEqual((ann.steps(), ann.exchanges()), (2, 2))
+        self.assertRaises(NoNote, carl.learn, 0)
+        ann.give_back()
+        bob.learn(0)
+        self.assertEqual((bob.steps(), bob.exchanges()), (1, 1))
+        self.assertRaises(NoNote, bob.learn, 0)
+
+    def test_closing(self):
+        ledger = Ledger(BOOK)
+        with ledger.caller(9) as ann:
+            ann.transfer(0, 3, 200)
+            self.assertRaises(CallersOut, ledger.close)
+            bob = ledger.caller(9)
+            self.assertEqual(ann.read(0).balance, 300)
+        self.assertRaises(CallersOut, ledger.close)
+        del bob
+        gc.collect()
+        report = "journal 2\n0 1 transfer 0 3 200 done\n0 2 read 0 300\nbalances 4\n0 300\n1 100\n2 300\n3 200\ntotal 900\n"
+        self.assertEqual(ledger.close(), report)
+        for use in [ledger.close, ann.steps, ann.exchanges]:
+            self.assertRaises(ValueError, use)
+        self.assertRaises(ValueError, ledger.caller, 9)
+        self.assertRaises(ValueError, ann.read, 0)
+        self.assertRaises(ValueError, ann.note, 1)
+        self.assertRaises(ValueError, ann.learn, 1)
+        ann.give_back()
+        ledger.free()
+
+    def test_no_memory_for_the_copy_of_a_report(self):
+        with Ledger(BOOK) as ledger:
+            with mock.patch("bezglami.ctypes.create_string_buffer", side_effect=MemoryError):
+                self.assertRaises(MemoryError, ledger.close)
+            self.assertRaises(NoCaller, ledger.caller, 9)
+            self.assertTrue(ledger.close().startswith("journal 0\n"))
+
+    def test_closing_meanwhile(self):
+        def read(caller):
+            with caller:
+                caller.read(0)
+
+        for _ in range(50):
+            ledger, callers = three()
+            with ThreadPoolExecutor(3) as threads:
+                done = [threads.submit(read, caller) for caller in callers]
+                report = None
+                while report is None:
+                    with suppress(CallersOut):
+                        report = ledger.close()
+            self.assertTrue(report.startswith("journal 3\n"))
+            self.assertEqual([call.result() for call in done], [None] * 3)
+
+    def test_two_ledgers(self):
+        one, ones = three()
+        other, others = three()
+        for caller in ones:
+            caller.give_back()
+        self.assertRaises(CallersOut, other.close)
+        self.assertTrue(one.close().startswith("journal 0\n"))
+        others[0].read(0)
+        for caller in others:
+            caller.give_back()
+        self.assertTrue(other.close().startswith("journal 1\n"))
+
     def test_errors(self):
-        for book, line in [(b"", 1), (b"book,1\nprocesses,1\nlimits,4,4\naccount,0,x,0\n", 4)]:
-            with self.assertRaises(BadBook) as raised:
-                Ledger(book)
-            self.assertEqual(raised.exception.line, line)
         ledger = Ledger(BOOK)
         ann = ledger.caller(1)
         for account in [4, 2**32 - 1, 2**32, -1]:
@@ -59,14 +160,16 @@ class Calls(unittest.TestCase):
         self.assertEqual(len(list(ledger.callers(1))), 2)
         self.assertRaises(NoCaller, ledger.caller, 1)
         self.assertTrue(issubclass(NoCaller, Error))
+        with mock.patch("bezglami._VERSION", 2):
+            self.assertRaises(OtherVersion, Ledger, BOOK)
 
     def test_what_is_freed_early(self):
         with Ledger(BOOK) as ledger:
             ann = ledger.caller(9)
         self.assertRaises(ValueError, ledger.caller, 9)
         self.assertEqual(ann.read(0).balance, 500)
-        ann.free()
-        ann.free()
+        ann.give_back()
+        ledger.free()
         del ledger, ann
         gc.collect()
 
@@ -74,19 +177,25 @@ class Calls(unittest.TestCase):
         book = b"book,1\nprocesses,16\nlimits,4096,1000\naccount,0,10000,0 1 2 3 4 5 6 7\n"
         for process in range(16):
             book += b"account,%d,10000,%d\n" % (process + 1, process)
-        with Ledger(book) as ledger:
-            callers = list(ledger.callers(1100))
+        ledger = Ledger(book)
 
         def work(caller):
-            for i in range(500):
-                source = 0 if i % 4 == 0 else caller.process + 1
-                reply = caller.transfer(source, (caller.process + i) % 17, 1).reply
-                self.assertEqual(reply is Reply.NOT_OWNER, source == 0 and caller.process >= 8)
-                caller.read(i % 17)
+            with caller:
+                for i in range(500):
+                    source = 0 if i % 4 == 0 else caller.process + 1
+                    reply = caller.transfer(source, (caller.process + i) % 17, 1).reply
+                    self.assertEqual(reply is Reply.NOT_OWNER, source == 0 and caller.process >= 8)
+                    caller.read(i % 17)
+                    with suppress(Busy):
+                        caller.note((caller.process + 1) % 16)
+                    with suppress(Busy, NoNote):
+                        caller.learn((caller.process + 15) % 16)
 
         with ThreadPoolExecutor(16) as threads:
-            list(threads.map(work, callers))
-        self.assertEqual(sum(callers[3].read(account).balance for account in range(17)), 170000)
+            list(threads.map(work, ledger.callers(1000)))
+        report = ledger.close()
+        self.assertTrue(report.startswith("journal 16000\n"))
+        self.assertTrue(report.endswith("\ntotal 170000\n"))
 
 
 if __name__ == "__main__":

@@ -21,9 +21,36 @@ pub struct Target {
 ///
 /// It may be sent to another thread, and is used by one thread at a time. A call takes no memory and waits for no thread.
 ///
-/// ```compile_fail
-/// fn needs_sync<T: Sync>() {}
-/// needs_sync::<bezglami::Caller>();
+/// Where it is dropped, it is given back to its ledger with the receipts of its calls, and to no other; that takes no memory either, and
+/// waits at most until a thread that closes the ledger has looked whether it is back. A ledger is closed once all its callers are back. So
+/// one that is [forgotten](std::mem::forget) keeps its ledger open for good.
+///
+/// It isn't used by two threads at once, not shared at all, not copied, and not used once it was given back. None of these is compiled:
+///
+/// ```compile_fail,E0499
+/// fn use_twice(mut caller: bezglami::Caller) {
+///     std::thread::scope(|threads| {
+///         threads.spawn(|| caller.read(0));
+///         threads.spawn(|| caller.read(0));
+///     });
+/// }
+/// ```
+///
+/// ```compile_fail,E0277
+/// fn share<T: Sync>() {}
+/// share::<bezglami::Caller>();
+/// ```
+///
+/// ```compile_fail,E0277
+/// fn copy<T: Clone>() {}
+/// copy::<bezglami::Caller>();
+/// ```
+///
+/// ```compile_fail,E0382
+/// fn give_back(mut caller: bezglami::Caller) {
+///     drop(caller);
+///     caller.steps();
+/// }
 /// ```
 pub struct Caller {
     handle: Handle,
@@ -75,7 +102,27 @@ impl Caller {
         self.handle.read(account)
     }
 
-    /// How many steps all its calls have made.
+    /// Leaves a note of all that the caller has seen, for the caller of another process, in place of one that it left there before. It counts
+    /// as one step and one exchange.
+    ///
+    /// # Errors
+    ///
+    /// [`Error::NoProcess`] and [`Error::Busy`].
+    pub fn note(&mut self, process: u32) -> Result<(), Error> {
+        self.handle.note(process)
+    }
+
+    /// Takes in the note that the caller of another process has left for this one: its later calls come after all that the note has seen.
+    /// A note is taken in once. It counts as one step and one exchange.
+    ///
+    /// # Errors
+    ///
+    /// [`Error::NoProcess`], [`Error::NoNote`] and [`Error::Busy`].
+    pub fn learn(&mut self, process: u32) -> Result<(), Error> {
+        self.handle.learn(process)
+    }
+
+    /// How many steps all its calls and notes have made.
     #[must_use]
     pub fn steps(&mut self) -> u64 {
         self.handle.steps()
@@ -85,6 +132,13 @@ impl Caller {
     #[must_use]
     pub fn exchanges(&mut self) -> u64 {
         self.handle.exchanges()
+    }
+}
+
+/// Gives the caller back to its ledger.
+impl Drop for Caller {
+    fn drop(&mut self) {
+        self.handle.give_back();
     }
 }
 

@@ -1,10 +1,11 @@
 //! The library for C, behind functions that are safe to call. All unsafe code of the crate stands here.
 
-use crate::{Error, Receipt, Reply, Target};
+use crate::{Error, Receipt, Reply, Target, Why};
 use std::os::raw::c_void;
+use std::thread;
 
 /// The version of the header that this module was written by.
-const VERSION: u32 = 2;
+const VERSION: u32 = 3;
 
 const DONE: u32 = 0;
 const WRONG_HANDLE: u32 = 1;
@@ -15,6 +16,10 @@ const NO_CALLER: u32 = 5;
 const NO_ACCOUNT: u32 = 6;
 const NO_ROOM: u32 = 7;
 const NO_PAY_OUT: u32 = 8;
+const CALLERS_OUT: u32 = 9;
+const NO_PROCESS: u32 = 10;
+const NO_NOTE: u32 = 11;
+const BUSY: u32 = 12;
 
 /// What a call answered, as the library writes it.
 #[repr(C)]
@@ -28,7 +33,13 @@ struct Answer {
 
 extern "C" {
     fn bezglami_version() -> u32;
-    fn bezglami_open(book: *const u8, length: usize, ledger: *mut Handle, line: *mut u32) -> u32;
+    fn bezglami_open(
+        book: *const u8,
+        length: usize,
+        ledger: *mut Handle,
+        line: *mut u32,
+        why: *mut u32,
+    ) -> u32;
     fn bezglami_caller(ledger: *mut Handle, calls: u32, caller: *mut Handle) -> u32;
     fn bezglami_transfer(
         caller: *mut Handle,
@@ -47,11 +58,15 @@ extern "C" {
     fn bezglami_read(caller: *mut Handle, account: u32, answer: *mut Answer) -> u32;
     fn bezglami_steps(caller: *mut Handle) -> u64;
     fn bezglami_exchanges(caller: *mut Handle) -> u64;
+    fn bezglami_note(caller: *mut Handle, process: u32) -> u32;
+    fn bezglami_learn(caller: *mut Handle, process: u32) -> u32;
+    fn bezglami_return(caller: *mut Handle) -> u32;
+    fn bezglami_close(ledger: *mut Handle) -> u32;
+    fn bezglami_report(ledger: *mut Handle, bytes: *mut u8, room: usize) -> usize;
     fn bezglami_free(handle: *mut Handle);
 }
 
-/// The one place that holds a ledger or a caller of the library, or nothing. It isn't copied, and frees what
-/// it holds.
+/// The one place that holds a ledger, a caller or a report of the library, or nothing. It isn't copied, and frees what it holds.
 #[repr(C)]
 pub(crate) struct Handle {
     at: *mut c_void,
@@ -80,8 +95,36 @@ fn done(outcome: u32) -> Result<(), Error> {
         NO_ACCOUNT => Err(Error::NoAccount),
         NO_ROOM => Err(Error::NoRoom),
         NO_PAY_OUT => Err(Error::NoPayOut),
+        CALLERS_OUT => Err(Error::CallersOut),
+        NO_PROCESS => Err(Error::NoProcess),
+        NO_NOTE => Err(Error::NoNote),
+        BUSY => Err(Error::Busy),
         WRONG_HANDLE | IN_USE => unreachable!("the library has lost what a handle holds"),
         other => unreachable!("the library answered {other}, which its header doesn't have"),
+    }
+}
+
+/// The cause of a fault of a book.
+fn cause(why: u32) -> Why {
+    match why {
+        1 => Why::Version,
+        2 => Why::Shape,
+        3 => Why::Number,
+        4 => Why::AccountOrder,
+        5 => Why::Name,
+        6 => Why::NameTwice,
+        7 => Why::UnknownOwner,
+        8 => Why::NoProcess,
+        9 => Why::TooManyProcesses,
+        10 => Why::NoAccount,
+        11 => Why::TooManyAccounts,
+        12 => Why::OwnerOutOfRange,
+        13 => Why::OwnersNotRising,
+        14 => Why::TooManyOwners,
+        15 => Why::RoomOutOfRange,
+        16 => Why::RoundsOverLimit,
+        17 => Why::TotalOverLimit,
+        other => unreachable!("the library told the cause {other}, which its header doesn't have"),
     }
 }
 
@@ -120,21 +163,50 @@ impl Handle {
             return Err(Error::OtherVersion { library });
         }
         let mut ledger = Handle::nothing();
-        let mut line = 0;
-        // SAFETY: the slice's pointer isn't null and has so many bytes, which nobody writes while they are borrowed. The handle and the
-        // line are places of this function's own.
-        match unsafe { bezglami_open(book.as_ptr(), book.len(), &mut ledger, &mut line) } {
-            BAD_BOOK => Err(Error::BadBook { line }),
+        let (mut line, mut why) = (0, 0);
+        // SAFETY: the slice's pointer isn't null and has so many bytes, which nobody writes while they are borrowed. The handle, the line
+        // and the cause are places of this function's own.
+        let outcome =
+            unsafe { bezglami_open(book.as_ptr(), book.len(), &mut ledger, &mut line, &mut why) };
+        match outcome {
+            BAD_BOOK => Err(Error::BadBook {
+                line,
+                why: cause(why),
+            }),
             outcome => done(outcome).map(|()| ledger),
         }
     }
 
-    /// The next caller of a ledger.
+    /// The next caller of a ledger. One that was being closed hands out none.
     pub(crate) fn next_caller(&mut self, calls: u32) -> Result<Handle, Error> {
         let mut caller = Handle::nothing();
         // SAFETY: the handles are two places, and each is lent to this call alone.
-        done(unsafe { bezglami_caller(self, calls, &mut caller) })?;
-        Ok(caller)
+        match unsafe { bezglami_caller(self, calls, &mut caller) } {
+            WRONG_HANDLE => Err(Error::NoCaller),
+            outcome => done(outcome).map(|()| caller),
+        }
+    }
+
+    /// Closes a ledger, and copies its report. Where there is no memory for the copy, the report stays, and the next call copies it.
+    pub(crate) fn close(&mut self) -> Result<Vec<u8>, Error> {
+        if self.report(&mut []) == 0 {
+            // SAFETY: the handle is lent to this call alone.
+            done(unsafe { bezglami_close(self) })?;
+        }
+        let length = self.report(&mut []);
+        let mut bytes = Vec::new();
+        bytes
+            .try_reserve_exact(length)
+            .map_err(|_| Error::NoMemory)?;
+        bytes.resize(length, 0);
+        self.report(&mut bytes);
+        Ok(bytes)
+    }
+
+    /// How long the report is that is held, and 0 where none is. It is written where there is room for it.
+    fn report(&mut self, bytes: &mut [u8]) -> usize {
+        // SAFETY: the handle is lent to this call alone. So are the bytes, whose pointer isn't null, also where there are none.
+        unsafe { bezglami_report(self, bytes.as_mut_ptr(), bytes.len()) }
     }
 
     /// A transfer by a caller.
@@ -160,6 +232,27 @@ impl Handle {
         // SAFETY: as in `transfer`.
         done(unsafe { bezglami_read(self, account, &mut answer) })?;
         Ok(answer.receipt())
+    }
+
+    /// Leaves a note of a caller.
+    pub(crate) fn note(&mut self, process: u32) -> Result<(), Error> {
+        // SAFETY: the handle is lent to this call alone.
+        done(unsafe { bezglami_note(self, process) })
+    }
+
+    /// Takes a note in.
+    pub(crate) fn learn(&mut self, process: u32) -> Result<(), Error> {
+        // SAFETY: the handle is lent to this call alone.
+        done(unsafe { bezglami_learn(self, process) })
+    }
+
+    /// Gives a caller back. The handle is left with nothing.
+    pub(crate) fn give_back(&mut self) {
+        // It is busy while a thread that closes the ledger just looks whether this caller is back.
+        // SAFETY: the handle is lent to this call alone.
+        while unsafe { bezglami_return(self) } == BUSY {
+            thread::yield_now();
+        }
     }
 
     /// The steps of all calls of a caller.
