@@ -10,16 +10,16 @@
  *   - one call at a time is given a handle; from one call to the next a handle may go to another thread, where a lock, a
  *     thread's start or join, or a sequentially consistent atomic orders the two. Different handles may be used at once,
  *     in any threads;
- *   - `answer`, `line` and `why` point to their types, `book` to `length` bytes, `targets` to `count` targets and `bytes` to
- *     `room` bytes that no other thread writes meanwhile; none of these is null, also where their number is 0, and what one
- *     call is given doesn't overlap;
+ *   - `answer`, `line` and `why` point to their types, and `bytes` to `room` bytes, that no other thread reads or writes
+ *     meanwhile; `book` points to `length` bytes and `targets` to `count` targets that no other thread writes meanwhile; none
+ *     of these is null, also where their number is 0, and what one call is given doesn't overlap;
  *   - malloc, realloc and free are one allocator's, which aligns a block to each power of two up to 16 that divides its
  *     size; no export is called from a signal handler or in the child of a fork of a process with threads.
  *
  * Costs: `bezglami_read`, `bezglami_transfer` and `bezglami_pay` take no memory, and take no more steps than the bound of the
  * call (README, "What needs agreement"). `bezglami_open`, `bezglami_caller` and `bezglami_close` take memory, in proportion to
- * the book, the calls that a caller has room for, and the calls that were made; `bezglami_report` copies. All others are constant
- * but `bezglami_free`. */
+ * the book, the calls that a caller has room for, and the calls that were made; `bezglami_report` copies. All others are constant,
+ * but that `bezglami_free` and `bezglami_return` free the board with the last that shares it. */
 #ifndef BEZGLAMI_H
 #define BEZGLAMI_H
 
@@ -41,7 +41,7 @@ typedef struct bezglami_handle {
 
 #define BEZGLAMI_NOTHING { NULL }
 
-/* What came of an export. Where it isn't BEZGLAMI_DONE, no handle and no answer has changed, but for what `bezglami_close` says.
+/* What came of an export. Where it isn't BEZGLAMI_DONE, nothing has changed that an export shows, but for what `bezglami_close` says.
  * `line` and `why` are those of the first fault of a bad book, and are to be read after BEZGLAMI_BAD_BOOK alone. */
 enum bezglami_outcome {
     BEZGLAMI_DONE = 0,
@@ -56,7 +56,8 @@ enum bezglami_outcome {
     BEZGLAMI_CALLERS_OUT = 9,  /* a caller of the ledger wasn't given back */
     BEZGLAMI_NO_PROCESS = 10,  /* the book has no process of this number */
     BEZGLAMI_NO_NOTE = 11,     /* the process has left no note */
-    BEZGLAMI_BUSY = 12         /* another thread is just reaching for the same note: ask again */
+    BEZGLAMI_BUSY = 12         /* another thread just reaches for the same note or caller: ask again. A thread that was stopped
+                                * there keeps it busy; no transfer, pay-out or read ever is */
 };
 
 /* A few words on an outcome, in English. */
@@ -88,7 +89,7 @@ enum bezglami_why {
     BEZGLAMI_WHY_NAME = 5,                /* the bytes are no name */
     BEZGLAMI_WHY_NAME_TWICE = 6,          /* a process or an account before it has this name */
     BEZGLAMI_WHY_UNKNOWN_OWNER = 7,       /* no process has this name */
-    BEZGLAMI_WHY_NO_PROCESS = 8,
+    BEZGLAMI_WHY_NO_PROCESS = 8,          /* the book has no process; the others below are limits of a book too */
     BEZGLAMI_WHY_TOO_MANY_PROCESSES = 9,
     BEZGLAMI_WHY_NO_ACCOUNT = 10,
     BEZGLAMI_WHY_TOO_MANY_ACCOUNTS = 11,
@@ -167,30 +168,34 @@ uint32_t bezglami_pay(bezglami_handle *caller, uint32_t from, const bezglami_tar
 /* Tells the balance of an account. */
 uint32_t bezglami_read(bezglami_handle *caller, uint32_t account, bezglami_answer *answer);
 
-/* How many steps all calls of the caller have made, and how many of them were exchanges. 0 of a handle that holds no caller. */
+/* How many steps all calls and notes of the caller have made, and how many of them were exchanges. 0 of a handle that holds no
+ * caller. */
 uint64_t bezglami_steps(bezglami_handle *caller);
 uint64_t bezglami_exchanges(bezglami_handle *caller);
 
-/* Leaves a note of all that the caller has seen, for the caller of another process, in place of one that it left there before.
+/* Leaves a note of all that the caller has seen, for the caller of a process, in place of one that it left there before.
  * It counts as one step and one exchange of the caller. Other outcomes: BEZGLAMI_NO_PROCESS, BEZGLAMI_BUSY. */
 uint32_t bezglami_note(bezglami_handle *caller, uint32_t process);
 
-/* Takes in the note that the caller of another process has left for this one, so that its later calls come after all that the
- * note has seen. A note is taken in once. It counts as one step and one exchange. Other outcomes: BEZGLAMI_NO_PROCESS,
+/* Takes in the note that the caller of a process has left for this one, so that its later calls come after all that the note has
+ * seen. A note is taken in once. It counts as one step and one exchange. Other outcomes: BEZGLAMI_NO_PROCESS,
  * BEZGLAMI_NO_NOTE, BEZGLAMI_BUSY. */
 uint32_t bezglami_learn(bezglami_handle *caller, uint32_t process);
 
-/* Gives the caller back to its ledger, with the receipts of its calls. Its handle is left with nothing. */
+/* Gives the caller back to its ledger, with the receipts of its calls. Its handle is left with nothing. Other outcomes:
+ * BEZGLAMI_WRONG_HANDLE, and BEZGLAMI_BUSY where a thread that closes the ledger just looks whether it is back. Where the ledger's
+ * handle was freed, the receipts are lost. */
 uint32_t bezglami_return(bezglami_handle *caller);
 
-/* Closes the ledger, whose callers were all given back, and makes its report: all calls in one legal order, the last balances and
- * the total, as the program's `run` prints it. From then on the handle holds the report. BEZGLAMI_CALLERS_OUT where a caller
- * wasn't given back, or was freed: a ledger of which a caller is lost can't be closed. BEZGLAMI_NO_MEMORY loses nothing: the
- * handle keeps the ledger with all receipts, hands out no caller any more, and may be closed again. */
+/* Closes the ledger and makes its report: all calls in one legal order, the last balances and the total, as the program's `run`
+ * prints it. All callers that were handed out have to be back. From then on the handle holds the report, with the receipts and
+ * records that it is of, until it is freed; to close it again is BEZGLAMI_DONE. BEZGLAMI_CALLERS_OUT where a caller isn't back, is
+ * just on its way, or was freed: a ledger of which a caller is lost can't be closed. BEZGLAMI_NO_MEMORY loses nothing: the handle
+ * keeps the ledger with all receipts and may be closed again, but `bezglami_caller` is BEZGLAMI_WRONG_HANDLE from then on. */
 uint32_t bezglami_close(bezglami_handle *ledger);
 
 /* How many bytes the report has that the handle holds, and 0 where it holds none. Where `bytes` has room for so many, they are
- * written there; where it hasn't, nothing is. */
+ * written there; where it hasn't, nothing is. To ask for the length alone give one byte's address and 0. */
 size_t bezglami_report(bezglami_handle *ledger, uint8_t *bytes, size_t room);
 
 /* Frees what the handle holds, whatever it is, and leaves it with nothing. The board of a ledger goes with the last of its
