@@ -40,6 +40,7 @@ fn is_call_on(call: &Call, accounts: u32) -> bool
 
 impl Caller {
     /// Makes a call, where its accounts are there and there is room for its receipt.
+    #[inline(always)]
     fn answer(&mut self, call: Call, answer: &mut Answer) -> Outcome
         ensures { CallerAnswers call self.old self.new answer.old answer.new result }
     {
@@ -57,6 +58,7 @@ impl Caller {
 
 impl Held {
     /// Makes a call by the caller that this is.
+    #[inline(always)]
     fn call(&mut self, call: Call, answer: &mut Answer) -> Outcome
         ensures { HandleAnswers call (Some self.old) (Some self.new) answer.old answer.new result }
     {
@@ -70,7 +72,9 @@ impl Held {
 }
 
 impl Handle {
-    /// Makes a call by the caller that the handle holds.
+    /// Makes a call by the caller that the handle holds. Each export knows the kind of its call, so that in its place less of this is
+    /// left.
+    #[inline(always)]
     pub(crate) fn call(&mut self, alloc: Global, call: Call, answer: &mut Answer) -> Outcome
         ensures { HandleAnswers call self.old.held self.new.held answer.old answer.new result }
     {
