@@ -72,8 +72,7 @@ compare() {
         }'
 }
 
-# How many instructions the exports take of all that they call, and how many of these the call itself takes with its receipt: the function
-# `Caller::answer` of at_c, which is Rattle alone.
+# How many instructions the exports take with all that they call.
 count_instructions() {
     local processes
     command -v valgrind >/dev/null || return 0
@@ -82,12 +81,7 @@ count_instructions() {
         callgrind_annotate --inclusive=yes --threshold=100 "$work/counted" 2>/dev/null | tr -d , | awk -v processes="$processes" '
             /:bezglami_transfer / { transfer = $1 / 8192 }
             /:bezglami_read / { read = $1 / 8192 }
-            /:at_c::caller::Caller::answer / { inside = $1 / 8192 }
-            END {
-                printf "%d processes: %.0f instructions of a transfer from C, %.0f of a read", processes, transfer, read
-                if (inside) printf "; of both together %.3f of what the calls and their receipts take in Rattle", (transfer + read) / inside
-                print ""
-            }'
+            END { printf "%d processes: %.0f instructions of a transfer from C, %.0f of a read\n", processes, transfer, read }'
     done
 }
 
