@@ -71,6 +71,7 @@ The asset transfer object: a payment ledger that no thread waits for. This folde
 | \`include/bezglami.h\` | the header of the library for C |
 | \`lib/libbezglami.a\`, \`lib/libbezglami.so\` | the library, static and shared |
 | \`bindings/c\`, \`bindings/rust\`, \`bindings/python\` | examples in C, a crate, and a module |
+| \`docs\` | guides to the bindings, and the forms of books, payments and reports; what they link to otherwise stands in the repository |
 | \`examples\` | books and payment files, with reports |
 | \`licences\` | the licences of what is linked |
 
@@ -79,6 +80,7 @@ Each of these runs in this folder:
 \`\`\`
 bin/at_program run examples/household/book.csv examples/household/ann.csv examples/household/bob.csv
 cc -std=c11 -pthread -Iinclude bindings/c/short.c lib/libbezglami.a -o short && ./short
+cc -std=c11 -pthread -Iinclude bindings/c/short.c -Llib -lbezglami -Wl,-rpath,"\$PWD/lib" -o shared && ./shared
 cc -std=c11 -pthread -Iinclude bindings/c/example.c lib/libbezglami.a -o example
 ./example examples/owners/book.csv examples/owners/pay0.csv examples/owners/pay1.csv
 (cd bindings/rust && cargo run --offline --example short)
@@ -94,10 +96,11 @@ END
 }
 
 rm -rf -- "$release" "$release.tar.gz"
-mkdir -p -- "$release/bin" "$release/include" "$release/licences"
+mkdir -p -- "$release/bin" "$release/docs" "$release/include" "$release/licences"
 "$root/bindings/libraries.sh" "$release/lib"
 cp -- "$root/crates/at_program/out/at_program" "$root/crates/at_showing/out/at_showing" "$release/bin/"
 cp -- "$root/bindings/c/bezglami.h" "$release/include/"
+for guide in bindings formats rust python; do cp -- "$root/docs/$guide.md" "$release/docs/"; done
 git -C "$root" ls-files bindings/c bindings/rust bindings/python examples | grep -v -e '\.h$' -e '/test\.c$' | (cd -- "$root" && tar -cf - -T -) | tar -xf - -C "$release"
 copy_licences
 write_readme

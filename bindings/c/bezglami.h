@@ -16,8 +16,8 @@
  *   - malloc, realloc and free are one allocator's, which aligns a block to each power of two up to 16 that divides its
  *     size; no export is called from a signal handler or in the child of a fork of a process with threads.
  *
- * Costs: `bezglami_read`, `bezglami_transfer` and `bezglami_pay` take no memory, and take no more steps than the bound of the
- * call (README, "What needs agreement"). `bezglami_open`, `bezglami_caller` and `bezglami_close` take memory, in proportion to
+ * Costs: `bezglami_read`, `bezglami_transfer` and `bezglami_pay` take no memory, and no more steps than a bound that the book
+ * alone sets, and seven for each payment of another process that they count for the first time. Each answer tells its steps. `bezglami_open`, `bezglami_caller` and `bezglami_close` take memory, in proportion to
  * the book, the calls that a caller has room for, and the calls that were made; `bezglami_report` copies. All others are constant,
  * but that `bezglami_free` and `bezglami_return` free the board with the last that shares it. */
 #ifndef BEZGLAMI_H
@@ -39,6 +39,7 @@ typedef struct bezglami_handle {
     void *at;
 } bezglami_handle;
 
+/* Initializes a handle; nothing else is assigned to one. Static memory, which is zero, holds nothing too. */
 #define BEZGLAMI_NOTHING { NULL }
 
 /* What came of an export. Where it isn't BEZGLAMI_DONE, nothing has changed that an export shows, but for what `bezglami_close` says.
@@ -51,11 +52,11 @@ enum bezglami_outcome {
     BEZGLAMI_BAD_BOOK = 4,     /* the bytes spell no book: `line` is that of the first fault, from 1, and `why` its cause */
     BEZGLAMI_NO_CALLER = 5,    /* all callers of the ledger were handed out */
     BEZGLAMI_NO_ACCOUNT = 6,   /* the call names an account that isn't there */
-    BEZGLAMI_NO_ROOM = 7,      /* there is no room for the receipt of the call */
+    BEZGLAMI_NO_ROOM = 7,      /* the caller has made as many calls as it has room for; one that is refused takes a receipt too */
     BEZGLAMI_NO_PAY_OUT = 8,   /* a pay-out has 1 to BEZGLAMI_TARGETS_MOST targets */
     BEZGLAMI_CALLERS_OUT = 9,  /* a caller of the ledger wasn't given back */
     BEZGLAMI_NO_PROCESS = 10,  /* the book has no process of this number */
-    BEZGLAMI_NO_NOTE = 11,     /* the process has left no note */
+    BEZGLAMI_NO_NOTE = 11,     /* no note of the process stands there for this caller: none was left, or it was taken in */
     BEZGLAMI_BUSY = 12         /* another thread just reaches for the same note or caller: ask again. A thread that was stopped
                                 * there keeps it busy; no transfer, pay-out or read ever is */
 };
@@ -70,7 +71,7 @@ static inline const char *bezglami_outcome_text(uint32_t outcome) {
     case BEZGLAMI_BAD_BOOK: return "bad book";
     case BEZGLAMI_NO_CALLER: return "no caller left";
     case BEZGLAMI_NO_ACCOUNT: return "no such account";
-    case BEZGLAMI_NO_ROOM: return "no room";
+    case BEZGLAMI_NO_ROOM: return "no room for a receipt";
     case BEZGLAMI_NO_PAY_OUT: return "no pay-out";
     case BEZGLAMI_CALLERS_OUT: return "a caller is out";
     case BEZGLAMI_NO_PROCESS: return "no such process";
@@ -125,13 +126,26 @@ static inline const char *bezglami_why_text(uint32_t why) {
     }
 }
 
+/* What the ledger replies to a call. */
 enum bezglami_reply {
-    BEZGLAMI_REPLY_DONE = 0,
-    BEZGLAMI_REPLY_SHORT = 1,
-    BEZGLAMI_REPLY_NOT_OWNER = 2,
-    BEZGLAMI_REPLY_FULL = 3,
-    BEZGLAMI_REPLY_BALANCE = 4
+    BEZGLAMI_REPLY_DONE = 0,      /* the amounts were moved */
+    BEZGLAMI_REPLY_SHORT = 1,     /* the balance doesn't cover them */
+    BEZGLAMI_REPLY_NOT_OWNER = 2, /* the process doesn't own the account */
+    BEZGLAMI_REPLY_FULL = 3,      /* the process has used up its room at the account, which the book sets */
+    BEZGLAMI_REPLY_BALANCE = 4    /* to a read */
 };
+
+/* A few words on a reply, as the report has them but for a balance. */
+static inline const char *bezglami_reply_text(uint32_t reply) {
+    switch (reply) {
+    case BEZGLAMI_REPLY_DONE: return "done";
+    case BEZGLAMI_REPLY_SHORT: return "short";
+    case BEZGLAMI_REPLY_NOT_OWNER: return "not-owner";
+    case BEZGLAMI_REPLY_FULL: return "full";
+    case BEZGLAMI_REPLY_BALANCE: return "balance";
+    default: return "unknown reply";
+    }
+}
 
 /* What a call answered: its reply, the balance that a read found and else 0, and the steps of this call, of which so many
  * were exchanges. */
@@ -150,14 +164,17 @@ typedef struct bezglami_target {
 
 #define BEZGLAMI_TARGETS_MOST 4
 
-/* Fills `ledger`, which holds nothing, with a ledger for the book that the bytes spell. */
+/* Fills `ledger`, which holds nothing, with a ledger for the book that the bytes spell, a CSV file as the programs read it; `length`
+ * is without a terminating 0. Other outcomes: BEZGLAMI_IN_USE, BEZGLAMI_BAD_BOOK, BEZGLAMI_NO_MEMORY. */
 uint32_t bezglami_open(const uint8_t *book, size_t length, bezglami_handle *ledger, uint32_t *line, uint32_t *why);
 
 /* Fills `caller`, which holds nothing, with the caller of the next process of the ledger: the first is that of process 0.
  * It has memory for so many receipts, one for each call. It is used in any thread, also after `ledger` was freed. */
 uint32_t bezglami_caller(bezglami_handle *ledger, uint32_t calls, bezglami_handle *caller);
 
-/* Moves the amount from one account to another. */
+/* Moves the amount from one account to another. Accounts are numbers from 0 in the book's order, also where the book names them.
+ * BEZGLAMI_DONE says that the call was made; whether it moved the amount, `answer.reply` tells. Other outcomes of the three calls:
+ * BEZGLAMI_WRONG_HANDLE, then BEZGLAMI_NO_ACCOUNT, then BEZGLAMI_NO_ROOM. */
 uint32_t bezglami_transfer(bezglami_handle *caller, uint32_t from, uint32_t to, uint64_t amount, bezglami_answer *answer);
 
 /* Moves each amount from one account to its target, or none of them. An account may stand among the targets twice. Where
@@ -177,25 +194,25 @@ uint64_t bezglami_exchanges(bezglami_handle *caller);
  * It counts as one step and one exchange of the caller. Other outcomes: BEZGLAMI_NO_PROCESS, BEZGLAMI_BUSY. */
 uint32_t bezglami_note(bezglami_handle *caller, uint32_t process);
 
-/* Takes in the note that the caller of a process has left for this one, so that its later calls come after all that the note has
- * seen. A note is taken in once. It counts as one step and one exchange. Other outcomes: BEZGLAMI_NO_PROCESS,
+/* Takes in the note that the caller of a process has left for this one: in the report its later calls stand after all that the note
+ * has seen, but that a later one which is answered not-owner or full may stand before. A note is taken in once. It counts as one step and one exchange. Other outcomes: BEZGLAMI_NO_PROCESS,
  * BEZGLAMI_NO_NOTE, BEZGLAMI_BUSY. */
 uint32_t bezglami_learn(bezglami_handle *caller, uint32_t process);
 
 /* Gives the caller back to its ledger, with the receipts of its calls. Its handle is left with nothing. Other outcomes:
- * BEZGLAMI_WRONG_HANDLE, and BEZGLAMI_BUSY where a thread that closes the ledger just looks whether it is back. Where the ledger's
- * handle was freed, the receipts are lost. */
+ * BEZGLAMI_WRONG_HANDLE, and BEZGLAMI_BUSY where a thread that closes the ledger just looks whether it is back, which none does
+ * where all threads are joined before. Where the ledger's handle was freed, the receipts are lost. */
 uint32_t bezglami_return(bezglami_handle *caller);
 
 /* Closes the ledger and makes its report: all calls in one legal order, the last balances and the total, as the program's `run`
- * prints it. All callers that were handed out have to be back. From then on the handle holds the report, with the receipts and
+ * prints it. All callers that were handed out have to be back, so join the threads first: to ask again and again may never end. From then on the handle holds the report, with the receipts and
  * records that it is of, until it is freed; to close it again is BEZGLAMI_DONE. BEZGLAMI_CALLERS_OUT where a caller isn't back, is
  * just on its way, or was freed: a ledger of which a caller is lost can't be closed. BEZGLAMI_NO_MEMORY loses nothing: the handle
  * keeps the ledger with all receipts and may be closed again, but `bezglami_caller` is BEZGLAMI_WRONG_HANDLE from then on. */
 uint32_t bezglami_close(bezglami_handle *ledger);
 
 /* How many bytes the report has that the handle holds, and 0 where it holds none. Where `bytes` has room for so many, they are
- * written there; where it hasn't, nothing is. To ask for the length alone give one byte's address and 0. */
+ * written there, and no 0 behind them; where it hasn't, nothing is. To ask for the length alone give one byte's address and 0. */
 size_t bezglami_report(bezglami_handle *ledger, uint8_t *bytes, size_t room);
 
 /* Frees what the handle holds, whatever it is, and leaves it with nothing. The board of a ledger goes with the last of its

@@ -1,8 +1,8 @@
 /* Makes the calls of payment files at once, by a thread for each process of a book on one ledger, where no thread waits for another, and
- * prints the report. Accounts are numbers here, so the book is of version 1.
+ * prints the report. It reads accounts as numbers, so the book is of version 1. In a release:
  *
- *   cc -std=c11 -pthread example.c libat_c.a liblibc_c.a -o example
- *   ./example ../../examples/owners/book.csv ../../examples/owners/pay0.csv ../../examples/owners/pay1.csv >report */
+ *   cc -std=c11 -pthread -Iinclude bindings/c/example.c lib/libbezglami.a -o example
+ *   ./example examples/owners/book.csv examples/owners/pay0.csv examples/owners/pay1.csv >report */
 #include "bezglami.h"
 
 #include <inttypes.h>
