@@ -39,8 +39,9 @@ pub record IsEnded (e : EndedTerms) : Type 0 where
   pub named : AreNamesOf e.closed.book e.names
   pub are : All (AreReceipts (length e.closed.book.accounts)) e.closed.closing.receipts
 
--- this very ledger was closed, with these passes and receipts
+-- this very ledger was closed, with these passes and the receipts of all their calls
 pub record EndsAs (g : GatheredTerms) (e : EndedTerms) : Type 0 where
+  pub accounted : AreAccountedFor g.ledger g.passes g.receipts
   pub board_is : e.closed.id ≡ g.ledger.id
   pub book_is : e.closed.book ≡ g.ledger.book
   pub names_are : e.names ≡ g.names

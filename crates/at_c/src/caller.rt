@@ -149,14 +149,14 @@ impl Caller {
         self.pass.exchanges()
     }
 
-    /// Leaves a note of what the caller has seen for the caller of another process. Takes no memory.
+    /// Leaves a note of what the caller has seen for the caller of a process. Takes no memory.
     pub(crate) fn note(&mut self, process: u32) -> Outcome
         ensures { CallerNotes process self.old self.new result }
     {
         self.shared.note(&mut self.pass, process)
     }
 
-    /// Takes in what the caller of another process has left for this one. Takes no memory.
+    /// Takes in what the caller of a process has left for this one. Takes no memory.
     pub(crate) fn learn(&mut self, process: u32) -> Outcome
         ensures { CallerLearns process self.old self.new result }
     {

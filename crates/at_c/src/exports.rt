@@ -98,7 +98,7 @@ pub extern "C" fn bezglami_read(
     caller.call(alloc, Call::Read { account }, answer).number()
 }
 
-/// Leaves a note of what the caller has seen for the caller of another process. Takes no memory and waits for no thread.
+/// Leaves a note of what the caller has seen for the caller of a process. Takes no memory and waits for no thread.
 #[unsafe(no_mangle)]
 pub extern "C" fn bezglami_note(alloc: Global, caller: &mut Handle, process: u32) -> u32
     ensures { (outcome : Outcome) × (result ≡ outcome_number outcome)
@@ -107,7 +107,7 @@ pub extern "C" fn bezglami_note(alloc: Global, caller: &mut Handle, process: u32
     caller.note(alloc, process).number()
 }
 
-/// Takes in the note that the caller of another process has left for this one, which is then there no more. Takes no memory and waits for
+/// Takes in the note that the caller of a process has left for this one, which is then there no more. Takes no memory and waits for
 /// no thread.
 #[unsafe(no_mangle)]
 pub extern "C" fn bezglami_learn(alloc: Global, caller: &mut Handle, process: u32) -> u32
