@@ -22,8 +22,8 @@ here=$(cd -- "$(dirname -- "$0")" && pwd)
 work=$(mktemp -d)
 trap 'rm -rf -- "$work"' EXIT
 plain=$work/built/release/plain
-# What the C library's allocator is told, of both programs, where a figure says "with the settings": large pages.
-settings=glibc.malloc.hugetlb=1
+# What the C library's allocator is told, of both programs, where a figure says "with the settings": what `./bezglami` tells it.
+settings=$(sed -n 's/^allocator=//p' "$here/../bezglami")
 tunables=
 unset GLIBC_TUNABLES
 
@@ -242,15 +242,21 @@ compare() {
     echo "$1: $(cat "$work/accepted") calls, a report of $(wc -c <"$work/$(basename -- "$proved").report") bytes"
 }
 
-# Runs a book by both programs in turns.
+# Runs a book by both programs in turns, without the settings and with them.
 run_named() {
-    local turn
+    local turn set
     payments_of 16 "$2"
     for ((turn = 0; turn < turns; turn++)); do
-        keep_best "proved $1" "$proved" run "$2/book.csv" "${payments[@]}"
-        keep_best "plain $1" "$plain" run "$2/book.csv" "${payments[@]}"
+        for set in "" " set"; do
+            tunables=${set:+$settings}
+            keep_best "proved $1$set" "$proved" run "$2/book.csv" "${payments[@]}"
+            keep_best "plain $1$set" "$plain" run "$2/book.csv" "${payments[@]}"
+        done
     done
-    echo "$1: proved $(milliseconds "proved $1"), plain $(milliseconds "plain $1"), proved to plain $(ratio "proved $1" "plain $1")"
+    tunables=
+    for set in "" " set"; do
+        echo "$1${set:+, with the settings}: proved $(milliseconds "proved $1$set"), plain $(milliseconds "plain $1$set"), proved to plain $(ratio "proved $1$set" "plain $1$set")"
+    done
 }
 
 # How long the parts of one run take by the clock, if perf is there. It looks ten times a millisecond which function
@@ -305,13 +311,16 @@ take_turns() {
     done
 }
 
-# The same of both programs with the settings, for 16 processes.
+# The same of both programs with the settings.
 take_set_turn() {
-    local word
+    local word n
     tunables=$settings
-    for word in run check; do
-        keep_best "proved $word set" "$proved" "$word" "$work/input16/book.csv" "${payments[@]}"
-        keep_best "plain $word set" "$plain" "$word" "$work/input16/book.csv" "${payments[@]}"
+    for n in 8 16; do
+        payments_of "$n" "$work/input$n"
+        for word in run check; do
+            keep_best "proved $word $n set" "$proved" "$word" "$work/input$n/book.csv" "${payments[@]}"
+            keep_best "plain $word $n set" "$plain" "$word" "$work/input$n/book.csv" "${payments[@]}"
+        done
     done
     tunables=
 }
@@ -433,12 +442,16 @@ for n in 8 16; do
     echo "$n processes, check: proved $(milliseconds "proved check $n"), plain $(milliseconds "plain check $n"), records alone $(milliseconds "plain records $n")"
 done
 for word in run check; do
-    echo "16 processes, $word, with the settings: proved $(milliseconds "proved $word set"), plain $(milliseconds "plain $word set"), proved to plain $(ratio "proved $word set" "plain $word set")"
+    for n in 8 16; do
+        echo "$n processes, $word, with the settings: proved $(milliseconds "proved $word $n set"), plain $(milliseconds "plain $word $n set"), proved to plain $(ratio "proved $word $n set" "plain $word $n set")"
+    done
+    echo "$word, 16 processes to 8, with the settings: $(ratio "proved $word 16 set" "proved $word 8 set")"
 done
 echo "run, proved to plain: $(ratio "proved run 16" "plain run 16")"
 echo "check, proved to plain: $(ratio "proved check 16" "plain check 16")"
 echo "check, proved to records alone: $(ratio "proved check 16" "plain records 16")"
 echo "run, all calls to half: $(ratio "proved all calls" "proved half the calls")"
+echo "run, all calls to half, with the settings: $(ratio "proved all calls set" "proved half the calls set")"
 echo "run, 16 processes to 8: $(ratio "proved run 16" "proved run 8")"
 echo "check, 16 processes to 8: $(ratio "proved check 16" "proved check 8")"
 for calls in 6144 12288; do

@@ -8,10 +8,12 @@ use std::marker::Model;
 /// The most counts of a list.
 pub const COUNTS_MAX: u32 = 16;
 
-/// One to sixteen counts, one for each process. It takes no memory.
+/// One to sixteen counts below 2^16, one for each process. It takes no memory.
+///
+/// No log has as many as 2^16 records, so a count takes two bytes: each receipt of a read holds a whole list of them.
 #[derive(Debug, Drop)]
 pub struct Counts {
-    list: [u32; 16],
+    list: [u16; 16],
     processes: u32,
 }
 
@@ -39,7 +41,7 @@ impl Counts {
     }
 
     /// The counts as a slice.
-    fn entries(&self) -> &[u32]
+    fn entries(&self) -> &[u16]
         ensures { result.now ≡ self.now }
     {
         &self.list[..self.processes as usize]
@@ -58,22 +60,23 @@ impl Counts {
         requires { p < length self.now }
         ensures { result ≡ slice_index self.now p }
     {
-        self.list[p as usize]
+        u32::from(self.list[p as usize])
     }
 
     /// Makes `c` the count of process `p`.
     pub fn set(&mut self, p: u32, c: u32)
-        requires { p < length self.old }
+        requires process { p < length self.old }
+        requires small { c < 2 ^ 16 }
         ensures { self.new ≡ slice_set self.old p c }
     {
-        self.list[p as usize] = c;
+        self.list[p as usize] = c as u16;
     }
 
     pub fn sum(&self) -> u32
         requires { sum self.now < 2 ^ 32 }
         ensures { result ≡ sum self.now }
     {
-        self.entries().iter().sum()
+        self.total() as u32
     }
 
     /// The sum, which always fits 64 bits.

@@ -1,6 +1,6 @@
 //! A step: a load of a length.
 
-ghost use Rattle.std.specs.Prelude.{◌≡◌, ◌+◌, ◌<◌, length};
+ghost use Rattle.std.specs.Prelude.{◌≡◌, ◌+◌, ◌^◌, ◌<◌, length};
 ghost use Rattle.at_board.specs.Counting.{raised};
 ghost use Rattle.at_board.specs.Knowledge.Seats.{IsKept, IsOf};
 ghost use Rattle.at_board.specs.Steps.LoadLength.{LoadsLength};
@@ -15,6 +15,7 @@ impl Board {
         requires board { IsOf seat.old self.now }
         requires process { p < self.now.book.processes }
         ensures told { LoadsLength self.now.book seat.old.knows seat.new.knows p result }
+        ensures small { result < 2 ^ 16 }
         ensures seat { IsKept seat.new.knows }
         ensures board { seat.new.board ≡ seat.old.board }
         ensures steps { seat.new.steps ≡ raised seat.old.steps 1 }

@@ -1,5 +1,6 @@
 pub mod Kept
 mod Lines
+mod Near
 mod Places
 pub mod Sharing
 mod Walks

@@ -4,6 +4,7 @@ pub mod Exports
 pub mod Given
 pub mod Handles
 pub mod Ledgers
+pub mod Near
 pub mod Notes
 pub mod Shared
 pub mod Why

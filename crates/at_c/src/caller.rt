@@ -1,11 +1,11 @@
 //! Callers: a pass with its ledger and the receipts of its calls.
 
-ghost use Rattle.std.specs.Prelude.{◌≡◌, ℕ, ◌<◌, ◌^◌, [], length, IfErr};
+ghost use Rattle.std.specs.Prelude.{◌≡◌, ℕ, ◌<◌, ◌≤◌, ◌^◌, [], length, IfErr};
 ghost use Rattle.std.specs.Arc.{arc_value};
 ghost use Rattle.std.specs.Vec.{vec_capacity};
 ghost use Rattle.at_ledger.specs.Call.{IsCallOn};
-ghost use Rattle.at_object.specs.Calls.{CallMade, StaysWithin};
-ghost use Rattle.at_object.specs.Passes.{IsNewPass, IsPassOf, one_more_call};
+ghost use Rattle.at_ledger.specs.Limits.{most_accounts};
+ghost use Rattle.at_object.specs.Passes.{IsNewPass};
 ghost use Rattle.at_c.specs.Callers.{CallerLearns, CallerNotes, MakesCall};
 
 use crate::given::Given;
@@ -57,23 +57,6 @@ pub(crate) struct Called {
     pub(crate) exchanges: u64,
 }
 
-/// Makes a call on the ledger, as `Ledger::call` does. An export knows the kind of its call, so that in its place one arm is left.
-#[inline(always)]
-fn receipt_of(ledger: &Ledger, pass: &mut Pass, call: Call) -> Receipt
-    requires pass { IsPassOf pass.old ledger.now }
-    requires accounts { IsCallOn (length ledger.now.book.accounts) call }
-    ensures made { CallMade ledger.now.book pass.old pass.new call result }
-    ensures within { StaysWithin ledger.now.book pass.old pass.new call result }
-    ensures pass { IsPassOf pass.new ledger.now }
-    ensures calls { pass.new.calls ≡ one_more_call pass.old.calls }
-{
-    match call {
-        Call::Transfer { from, to, amount } => ledger.transfer(pass, from, to, amount),
-        Call::Read { account } => ledger.read(pass, account),
-        Call::Pay { from, targets } => ledger.pay(pass, from, targets),
-    }
-}
-
 impl Caller {
     /// The caller of a new pass. The memory of its receipts was taken before.
     pub(crate) fn new(shared: Arc<Shared>, pass: Pass, receipts: Vec<Receipt>) -> Caller
@@ -111,9 +94,12 @@ impl Caller {
 
     /// How many accounts the book has.
     pub(crate) fn accounts(&self) -> u32
-        ensures { result ≡ length self.now.shared.ledger.book.accounts }
+        ensures count { result ≡ length self.now.shared.ledger.book.accounts }
+        ensures few { result ≤ most_accounts }
     {
-        self.shared.ledger.book().accounts()
+        let book = self.shared.ledger.book();
+        book.known();
+        book.accounts()
     }
 
     /// Makes a call. Takes no memory.
@@ -125,7 +111,7 @@ impl Caller {
     {
         let steps = self.pass.steps();
         let exchanges = self.pass.exchanges();
-        let receipt = receipt_of(&self.shared.ledger, &mut self.pass, call);
+        let receipt = self.shared.ledger.call(&mut self.pass, call);
         let reply = receipt.reply;
         self.receipts.push_reserved(receipt);
         Called {

@@ -1,7 +1,10 @@
 //! Calls of a caller, as exports make them.
 
-ghost use Rattle.std.specs.Prelude.{◌≡◌, false, length, IsTrue, Some};
+ghost use Rattle.std.specs.Prelude.{◌≡◌, ◌≤◌, false, length, IsTrue, Some};
 ghost use Rattle.at_ledger.specs.Call.{AreTargetsOn, IsCallOn};
+ghost use Rattle.at_ledger.specs.Limits.{most_accounts};
+ghost use Rattle.at_c.specs.Callers.{OwnCallerTerms};
+ghost use Rattle.at_c.specs.declared.held.Held.{Held};
 ghost use Rattle.at_c.specs.Exports.{CallerAnswers, HandleAnswers, HandlePays};
 
 use crate::caller::Caller;
@@ -42,7 +45,8 @@ impl Caller {
     /// Makes a call, where its accounts are there and there is room for its receipt.
     #[inline(always)]
     fn answer(&mut self, call: Call, answer: &mut Answer) -> Outcome
-        ensures { CallerAnswers call self.old self.new answer.old answer.new result }
+        ensures answers { CallerAnswers call self.old self.new answer.old answer.new result }
+        ensures few { length self.old.shared.ledger.book.accounts ≤ most_accounts }
     {
         if !is_call_on(&call, self.accounts()) {
             return Outcome::NoAccount;
@@ -60,7 +64,10 @@ impl Held {
     /// Makes a call by the caller that this is.
     #[inline(always)]
     fn call(&mut self, call: Call, answer: &mut Answer) -> Outcome
-        ensures { HandleAnswers call (Some self.old) (Some self.new) answer.old answer.new result }
+        ensures answers { HandleAnswers call (Some self.old) (Some self.new) answer.old answer.new
+            result }
+        ensures few { (c : OwnCallerTerms) → self.old ≡ Held.Caller c
+            → length c.shared.ledger.book.accounts ≤ most_accounts }
     {
         match self {
             Held::Caller(caller) => caller.answer(call, answer),
@@ -76,7 +83,10 @@ impl Handle {
     /// left.
     #[inline(always)]
     pub(crate) fn call(&mut self, alloc: Global, call: Call, answer: &mut Answer) -> Outcome
-        ensures { HandleAnswers call self.old.held self.new.held answer.old answer.new result }
+        ensures answers { HandleAnswers call self.old.held self.new.held answer.old answer.new
+            result }
+        ensures few { (c : OwnCallerTerms) → self.old.held ≡ Some (Held.Caller c)
+            → length c.shared.ledger.book.accounts ≤ most_accounts }
     {
         let Some(mut held) = self.take(alloc) else {
             return Outcome::WrongHandle;

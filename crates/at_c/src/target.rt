@@ -1,7 +1,8 @@
 //! The targets of a pay-out, as C has them.
 
-ghost use Rattle.std.specs.Prelude.{◌≡◌, None, IfSome};
-ghost use Rattle.at_c.specs.Exports.{IsPayOut, pairs_of};
+ghost use Rattle.std.specs.Prelude.{◌≡◌, ◌^◌, ◌<◌, None, IfSome};
+ghost use Rattle.at_c.specs.Exports.{IsPayOut};
+ghost use Rattle.at_c.specs.Near.{near_account, near_pairs_of};
 
 use at_ledger::{TARGETS_MAX, Targets};
 
@@ -13,9 +14,18 @@ pub struct Target {
     pub amount: u64,
 }
 
-/// The targets of a pay-out, if they are neither none nor too many.
+/// The account, or one that no book has where it is too far for targets to hold.
+fn near_account(account: u32) -> u32
+    ensures near { result ≡ near_account account }
+    ensures small { result < 2 ^ 16 }
+{
+    account.min(u32::from(u16::MAX))
+}
+
+/// The targets of a pay-out, if they are neither none nor too many. In place of accounts that are too far for targets to hold they
+/// have one that no book has either.
 pub(crate) fn targets_of(targets: &[Target]) -> Option<Targets>
-    ensures pairs { IfSome result (λ all. all ≡ pairs_of targets.now) }
+    ensures pairs { IfSome result (λ all. all ≡ near_pairs_of targets.now) }
     ensures some { IfSome result (λ _. IsPayOut targets.now) }
     ensures none { result ≡ None → ¬ IsPayOut targets.now }
 {
@@ -23,9 +33,9 @@ pub(crate) fn targets_of(targets: &[Target]) -> Option<Targets>
     if others.len() >= TARGETS_MAX {
         return None;
     }
-    let mut all = Targets::one(first.account, first.amount);
+    let mut all = Targets::one(near_account(first.account), first.amount);
     for target in others {
-        all.push(target.account, target.amount);
+        all.push(near_account(target.account), target.amount);
     }
     Some(all)
 }

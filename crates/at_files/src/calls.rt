@@ -1,7 +1,7 @@
 //! The call that one record of a payment file spells.
 
-ghost use Rattle.std.specs.Prelude.{◌≡◌, ◌+◌, ◌*◌, ◌≤◌, ◌<◌, true, drop, length};
-ghost use Rattle.at_ledger.specs.Limits.{most_targets};
+ghost use Rattle.std.specs.Prelude.{◌≡◌, ◌+◌, ◌*◌, ◌≤◌, ◌<◌, true, drop, length, IfSome};
+ghost use Rattle.at_ledger.specs.Limits.{most_accounts, most_targets};
 ghost use Rattle.at_files.specs.Names.{position_of};
 ghost use Rattle.at_files.specs.Records.{field_of, number_at};
 ghost use Rattle.at_files.specs.Payments.{call_of, has_amounts, is_pay, named_call_of, named_pay, named_read, named_transfer, plain_call_of, read_of, target_of, targets_spelled, transfer_of};
@@ -132,9 +132,10 @@ fn has_amounts(fields: &Record<'_>) -> bool
 /// A target of a pay-out, from 0, if its account and its amount are there.
 fn target_of(names: &Names, fields: &Record<'_>, i: usize) -> Option<(u32, u64)>
     requires { i < most_targets }
-    ensures { result ≡ target_of
+    ensures target { result ≡ target_of
         (position_of names.now.accounts (field_of fields.now (2 * i + 2)))
         (number_at fields.now (2 * i + 3)) }
+    ensures account { IfSome result (λ target. target.0 < most_accounts) }
 {
     match (
         names.find(field_of(fields, 2 * i + 2)),

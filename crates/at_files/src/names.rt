@@ -1,6 +1,7 @@
 //! The names of a book's processes and accounts.
 
-ghost use Rattle.std.specs.Prelude.{◌≡◌, ◌⊎◌, ◌<◌, Contains, IfNone, IfOk, IfSome, Some, decimal, length, slice_get};
+ghost use Rattle.std.specs.Prelude.{◌≡◌, ◌⊎◌, ◌<◌, ◌≤◌, Contains, IfNone, IfOk, IfSome, Some, decimal, length, slice_get};
+ghost use Rattle.at_ledger.specs.Limits.{most_accounts};
 ghost use Rattle.at_files.specs.Names.{AreNamesOf, IsNameList, account_name, decimals_below, position_of, plain_names, process_name};
 
 use crate::NoMemory;
@@ -80,6 +81,13 @@ impl Names {
         })
     }
 
+    /// Tells a proof what all names keep. It does nothing when it runs.
+    pub fn known(&self)
+        ensures few_accounts { length self.now.accounts ≤ most_accounts }
+    {
+        let _ = &self.version;
+    }
+
     /// The version of the book that gives the names.
     pub fn version(&self) -> u32
         ensures version { result ≡ self.now.version }
@@ -119,6 +127,7 @@ impl Names {
         ensures found { IfSome result
             (λ account. slice_get self.now.accounts account ≡ Some name.now) }
         ensures none { IfNone result (¬ (Contains self.now.accounts name.now)) }
+        ensures small { IfSome result (λ account. account < most_accounts) }
     {
         match self.accounts.position(name) {
             Some(position) => Some(position as u32),

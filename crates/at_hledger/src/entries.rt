@@ -155,6 +155,7 @@ fn push_posted(out: &mut Vec<u8>, names: &Names, line: &Line) -> Result<(), NoMe
     ensures { OnOk result
         (out.new.items ≡ out.old.items ++ posted_text names.now line.now line.now.call) }
 {
+    names.known();
     match &line.call {
         Call::Transfer { from, to, amount } => {
             let targets = Targets::one(*to, *amount);

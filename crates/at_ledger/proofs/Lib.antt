@@ -8,3 +8,4 @@ pub mod FileLists
 pub mod Made
 pub mod Continuing
 pub mod TargetLists
+pub mod Calls

@@ -1,7 +1,7 @@
 //! Calls, their replies, and the lines of a journal.
 
-ghost use Rattle.std.specs.Prelude.{◌≡◌};
-ghost use Rattle.at_ledger.specs.Call.{first_account, payout_of};
+ghost use Rattle.std.specs.Prelude.{◌≡◌, ◌^◌};
+ghost use Rattle.at_ledger.specs.Call.{IsCallOn, first_account, payout_of};
 
 use crate::targets::Targets;
 
@@ -48,6 +48,7 @@ impl Call {
 
     /// The source and the targets of a payment, and nothing of a read. A transfer has one target. Takes no memory.
     pub fn payout(&self) -> Option<(u32, Targets)>
+        requires { IsCallOn (2 ^ 16) self.now }
         ensures { result ≡ payout_of self.now }
     {
         match self {

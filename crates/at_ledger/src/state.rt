@@ -67,6 +67,7 @@ impl State {
         ensures reply { result ≡ (step self.old process call.now).reply }
         ensures book { self.new.book ≡ self.old.book }
     {
+        self.book.known();
         match call.payout() {
             Some((from, targets)) => self.pay(process, from, &targets),
             None => Reply::Balance(self.balance(call.first_account())),

@@ -10,11 +10,12 @@ pub const TARGETS_MAX: usize = 4;
 
 /// One to four accounts with an amount for each. An account may stand in it twice.
 ///
-/// Accounts and amounts stand apart, since a pair of both would have four bytes that say nothing.
+/// Accounts and amounts stand apart, since a pair of both would have six bytes that say nothing. A book has fewer than 2^16 accounts,
+/// so the number of one takes two bytes.
 #[derive(Debug, Drop)]
 pub struct Targets {
     amounts: [u64; TARGETS_MAX],
-    accounts: [u32; TARGETS_MAX],
+    accounts: [u16; TARGETS_MAX],
     count: u32,
 }
 
@@ -35,23 +36,25 @@ impl Targets {
 
     /// The one target of a transfer.
     pub fn one(to: u32, amount: u64) -> Targets
+        requires { to < 2 ^ 16 }
         ensures { result ≡ (to, amount) ∷ [] }
     {
         Targets {
             amounts: [amount, 0, 0, 0],
-            accounts: [to, 0, 0, 0],
+            accounts: [to as u16, 0, 0, 0],
             count: 1,
         }
     }
 
     /// Adds a target after the others.
     pub fn push(&mut self, to: u32, amount: u64)
-        requires { length self.old < most_targets }
+        requires room { length self.old < most_targets }
+        requires account { to < 2 ^ 16 }
         ensures { self.new ≡ self.old ++ (to, amount) ∷ [] }
     {
         let i = self.count as usize;
         self.amounts[i] = amount;
-        self.accounts[i] = to;
+        self.accounts[i] = to as u16;
         self.count += 1;
     }
 
@@ -70,7 +73,7 @@ impl Targets {
         requires { i < length self.now }
         ensures { result ≡ (target_at self.now i).0 }
     {
-        self.accounts[i as usize]
+        u32::from(self.accounts[i as usize])
     }
 
     /// The amount for a target.

@@ -149,7 +149,7 @@ module _ (v : Knowledge) (counts : List ℕ) (t : TotalSums) (p : ℕ) (l : Load
         so.loading_so.1,
         count_of-IsCatchingUp v.book v.seen counts t.upto t p so.loading_so.0 so.catching,
         so.kept.history.room p so.loading_so.0,
-        log_room_of-le v.book p so.kept.book.begun so.loading_so.0,
+        log_room_of-le v.book p so.kept.book.begun,
       )
 
   pub MayCount-IsCatchingUpSo : (e : Entry) → IsEntryOf l.knows l.process l.number e → MayCount t v.book v.seen p e

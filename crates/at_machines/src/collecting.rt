@@ -1,6 +1,6 @@
 //! A collect, a load a turn.
 
-ghost use Rattle.std.specs.Prelude.{◌≡◌, ◌+◌, ◌<◌, ◌↔◌, IfSome, IsSome};
+ghost use Rattle.std.specs.Prelude.{◌≡◌, ◌+◌, ◌^◌, ◌<◌, ◌↔◌, IfSome, IsSome};
 ghost use Rattle.at_board.specs.Counting.{raised};
 ghost use Rattle.at_board.specs.Knowledge.Overviews.{IsOverviewOf};
 ghost use Rattle.at_board.specs.Knowledge.Seats.{IsOf};
@@ -109,6 +109,7 @@ fn load_after(board: &Board, seat: &mut BoardSeat, overview: &mut Overview, proc
     requires overview { IsOverviewOf overview.old board.now }
     requires process { process < board.now.book.processes }
     ensures told { LoadsLength board.now.book seat.old.knows seat.new.knows process result }
+    ensures small { result < 2 ^ 16 }
     ensures more { IsPrefix overview.old.seen seat.new.knows.seen }
     ensures board { seat.new.board ≡ seat.old.board }
     ensures steps { seat.new.steps ≡ raised seat.old.steps 1 }

@@ -14,6 +14,10 @@ use at_log::Receipt;
 impl Ledger {
     /// Makes a call: `transfer`, `pay` and `read` are its three cases. What it leaves of the pass, and what it may take, is said by
     /// the two records of the first two clauses. Takes no memory.
+    ///
+    /// It stands in the place of each call of it: whoever knows the kind of a call, as an export of the library for C does, is left
+    /// with one of the three cases.
+    #[inline(always)]
     pub fn call(&self, pass: &mut Pass, call: Call) -> Receipt
         requires pass { IsPassOf pass.old self.now }
         requires accounts { IsCallOn (length self.now.book.accounts) call }

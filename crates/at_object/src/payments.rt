@@ -26,6 +26,7 @@ impl Ledger {
         ensures pass { IsPassOf pass.new self.now }
         ensures calls { pass.new.calls ≡ one_more_call pass.old.calls }
     {
+        self.book().known();
         let (reply, at) = self.pay_out(pass, from, &Targets::one(to, amount));
         let call = Call::Transfer { from, to, amount };
         Receipt { call, reply, at }

@@ -63,7 +63,8 @@ fn widen_all(ranges: &mut [Range], state: &State, targets: &Targets)
 }
 
 /// The ranges of the accounts that the call names, and their balances in them.
-fn widen_named(ranges: &mut [Range], state: &State, call: &Call)
+fn widen_named(book: &Book, ranges: &mut [Range], state: &State, call: &Call)
+    requires book { state.now.book ≡ book.now }
     requires call_in { IsCallOn (length state.now.book.accounts) call.now }
     requires accounts { length ranges.old ≡ length state.now.book.accounts }
     ensures len { length ranges.new ≡ length ranges.old }
@@ -73,6 +74,7 @@ fn widen_named(ranges: &mut [Range], state: &State, call: &Call)
     ensures named { (account : ℕ) → Names call.now account → range_in ranges.new account
         ≡ range_with (range_in ranges.old account) (balance_of state.now account) }
 {
+    book.known();
     if let Some((source, targets)) = call.payout() {
         widen(ranges, state, source);
         widen_all(ranges, state, &targets);
@@ -92,7 +94,7 @@ fn play(alloc: Global, book: &Book, process: u32, file: &[Call]) -> Result<Alone
     let mut ranges = openings(alloc, book)?;
     for call in file {
         replies.push(state.step(process, call))?;
-        widen_named(ranges.as_mut_slice(), &state, call);
+        widen_named(book, ranges.as_mut_slice(), &state, call);
     }
     Ok(Alone { replies, ranges })
 }

@@ -28,6 +28,7 @@ fn take(book: &Book, process: u32, call: &Call, left: &mut [u64]) -> bool
         → AreTaken book.now process (call.now ∷ []) left.old left.new }
     ensures short { result ≡ false → AreShort book.now process (call.now ∷ []) left.old }
 {
+    book.known();
     let Some((source, targets)) = call.payout() else {
         return true;
     };

@@ -1,6 +1,6 @@
 //! What the stages of a walk stand on.
 
-ghost use Rattle.std.specs.Prelude.{◌≡◌, ◌<◌, [], All, IfOk, None, Some, length, slice_get, slice_index_or, take};
+ghost use Rattle.std.specs.Prelude.{◌≡◌, ◌^◌, ◌<◌, ◌≤◌, [], All, IfOk, None, Some, length, slice_get, slice_index_or, take};
 ghost use Rattle.at_ledger.specs.Files.{IsPlayable, contents_of};
 ghost use Rattle.at_ledger.specs.Limits.{most_calls};
 ghost use Rattle.at_ledger.specs.Call.{IsCallOn, first_account};
@@ -135,7 +135,8 @@ impl<'a> Ground<'a> {
 
 /// For each call how many payments from the account that it names first stand before it.
 fn count_before(alloc: Global, accounts: u32, file: &[Call]) -> Result<Vec<u32>, NoMemory>
-    requires { IsPlayable accounts file.now }
+    requires small { accounts ≤ 2 ^ 16 }
+    requires playable { IsPlayable accounts file.now }
     ensures { IfOk result (λ before. AreCountedBefore file.now before.items) }
 {
     let mut counts = vec![in alloc; 0u32; accounts as usize]?;
@@ -156,7 +157,8 @@ fn count_all_before(
     accounts: u32,
     files: &[Vec<Call>],
 ) -> Result<Vec<Vec<u32>>, NoMemory>
-    requires { All (IsPlayable accounts) (contents_of files.now) }
+    requires small { accounts ≤ 2 ^ 16 }
+    requires playable { All (IsPlayable accounts) (contents_of files.now) }
     ensures { IfOk result
         (λ before. AreAllCountedBefore (contents_of files.now) (contents_of before.items)) }
 {

@@ -92,6 +92,7 @@ impl Stage {
         ensures { (l : LedgerState) → HasNumbers ground.now self.now l
             → result ≡ (step l process call.now).reply }
     {
+        let _known = ground.book();
         match call.payout() {
             Some((from, targets)) => self.reply_to_pay(ground, process, from, &targets),
             None => Reply::Balance(self.balance(ground, call.first_account())),
@@ -190,6 +191,7 @@ impl Stage {
         ensures made { self.new.made ≡ self.old.made }
         ensures standing { IsStanding ground.now self.new }
     {
+        let _known = ground.book();
         if let Some((from, targets)) = call.payout() {
             self.pay(ground, process, from, &targets);
         }

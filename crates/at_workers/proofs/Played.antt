@@ -1,10 +1,9 @@
 -- A job whose first calls were made: how one call more keeps it, and what stands when all were made.
-use Rattle.std.proofs.Common.{◌≡◌, ℕ, ◌+◌, ◌<◌, List, ◌∷◌, [], ◌++◌, length, take, refl, sym, ap, subst, ◌∙◌, arith, length-append, Option, Vec}
-use Rattle.std.proofs.lemmas.List.{append_assoc, length-map, map-append, take_all, take_more}
+use Rattle.std.proofs.Common.{◌≡◌, ℕ, ◌+◌, ◌<◌, List, ◌∷◌, [], ◌++◌, length, get_or, set, take, refl, sym, ap, subst, ◌∙◌, arith, length-append, Option, Vec}
+use Rattle.std.proofs.lemmas.List.{get_or-map, length-map, length-take, map-append, take_all, take_more, take_more_set}
 use Rattle.std.specs.Global.{Global}
 use Rattle.std.specs.Option.{is_some}
-use Rattle.std.proofs.lemmas.List.Elements.{All-head, All-tail}
-use Rattle.std.proofs.Math.Seq.{get_or-append_seam}
+use Rattle.std.proofs.Math.Seq.{map-set_same}
 use Rattle.std.specs.Vec.{vec_capacity}
 use Rattle.std.specs.Prelude.{◌^◌, slice_index_or, All, IfSome}
 use Rattle.at_ledger.specs.Book.{BookTerms}
@@ -31,23 +30,15 @@ Stands-made before after earlier receipts r stands told made =
     let with : List Receipt → Type 0 = λ list. Stands after list in
     subst with (sym made) (told earlier stands)
 
--- the call that is made next moves from those to come to those made
-pub calls_of-moved : (earlier : List Receipt) (r : Receipt) (call : Call) (rest : List Call) → r.call ≡ call
-    → calls_of (earlier ++ r ∷ []) ++ rest ≡ calls_of earlier ++ call ∷ rest
-calls_of-moved earlier r call rest same =
-    ap (λ xs. xs ++ rest) (map-append (λ (x : Receipt). x.call) earlier (r ∷ []))
-    ∙ (append_assoc (calls_of earlier) (r.call ∷ []) rest ∙ ap (λ c. calls_of earlier ++ c ∷ rest) same)
-
--- the next of the calls to come names accounts as they all do
-next-All : {X : Type 0} (P : X → Type 0) (xs : List X) (x : X) (ys : List X) → All P (xs ++ x ∷ ys) → P x
-next-All P [] x ys all = All-head P x ys all
-next-All P (y ∷ xs) x ys all = next-All P xs x ys (All-tail P y (xs ++ x ∷ ys) all)
-
-pub IsCallOn-next : (ledger : BoardTerms) (pass : PassTerms) (earlier calls rest : List Call) (call : Call) → IsPassOf pass ledger
-    → All (IsCallOn (length pass.knows.book.accounts)) (earlier ++ calls) → calls ≡ call ∷ rest → IsCallOn (length ledger.book.accounts) call
-IsCallOn-next ledger pass earlier calls rest call of all first =
-    let on : BookTerms → Type 0 = λ b. IsCallOn (length b.accounts) call in
-    subst on of.book (next-All (IsCallOn (length pass.knows.book.accounts)) earlier call rest (rw first at all))
+-- the call that is made next names accounts as all do
+pub IsCallOn-next : (ledger : BoardTerms) (pass : PassTerms) (list : List Receipt) (n : ℕ) (waits : Receipt) → IsPassOf pass ledger
+    → All (IsCallOn (length pass.knows.book.accounts)) (calls_of list) → n < length list → waits ≡ get_or list n waits
+    → IsCallOn (length ledger.book.accounts) waits.call
+IsCallOn-next ledger pass list n waits of all within is =
+    let on : BookTerms → Type 0 = λ b. IsCallOn (length b.accounts) waits.call in
+    let here : get_or (calls_of list) n waits.call ≡ waits.call =
+    get_or-map (λ (r : Receipt). r.call) list n waits waits.call within ∙ ap (λ (r : Receipt). r.call) (sym is) in
+    subst on of.book (subst (IsCallOn (length pass.knows.book.accounts)) here (all n waits.call (omega (arith, within, length-map list (λ (r : Receipt). r.call)))))
 
 -- one more cost is noted
 pub HasCosts-noted : (earlier : List Receipt) (r : Receipt) (room : ℕ) (before after : Vec CostTerms Global) (cost : CostTerms)
@@ -58,62 +49,62 @@ HasCosts-noted earlier r room before after cost has noted same = record {
   fits = omega (arith, has.fits, same);
 }
 
--- the call `call` was made with a pass that has these receipts of earlier ones, and these calls to come
-module _ (ledger : BoardTerms) (before after : PassTerms) (earlier : List Receipt) (r : Receipt) (calls rest : List Call) (call : Call)
-    (costs costs_now : Option (List CostTerms)) (first : calls ≡ call ∷ rest) (called : IsCalled ledger before after call r) where
+-- the next call of the list, which waits at its place, was made with a pass that has the receipts of the first n
+module _ (ledger : BoardTerms) (before after : PassTerms) (list : List Receipt) (n : ℕ) (waits r : Receipt)
+    (costs costs_now : Option (List CostTerms)) (within : n < length list) (is : waits ≡ get_or list n waits)
+    (called : IsCalled ledger before after waits.call r) where
   abbrev pub job_before : JobTerms
-  job_before = record { pass = before; calls = calls_of earlier ++ calls; receipts = earlier; costs = costs }
+  job_before = record { pass = before; calls = calls_of list; receipts = take n list; costs = costs }
 
   abbrev pub job_after : JobTerms
-  job_after = record { pass = after; calls = calls_of (earlier ++ r ∷ []) ++ rest; receipts = earlier ++ r ∷ []; costs = costs_now }
+  job_after = record { pass = after; calls = calls_of (set list n r); receipts = take (n + 1) (set list n r); costs = costs_now }
 
-  same : r.call ≡ call
-  same = call-CallMade ledger.book before after call r called.made
+  same : r.call ≡ waits.call
+  same = call-CallMade ledger.book before after waits.call r called.made
 
-  moved : calls_of (earlier ++ r ∷ []) ++ rest ≡ calls_of earlier ++ calls
-  moved = calls_of-moved earlier r call rest same ∙ ap (λ xs. calls_of earlier ++ xs) (sym first)
+  unmoved : calls_of (set list n r) ≡ calls_of list
+  unmoved = map-set_same (λ (x : Receipt). x.call) list n r waits (same ∙ ap (λ (x : Receipt). x.call) is)
 
-  count : length (earlier ++ r ∷ []) ≡ length earlier + 1
-  count = length-append earlier (r ∷ [])
+  one_more : take (n + 1) (set list n r) ≡ take n list ++ r ∷ []
+  one_more = take_more_set list n r within
 
-  long : length (calls_of earlier) ≡ length earlier
-  long = length-map earlier (λ (x : Receipt). x.call)
+  count : length (take (n + 1) (set list n r)) ≡ n + 1
+  count = omega (arith, ap length one_more, length-append (take n list) (r ∷ []), length-take n list, within)
 
-  all : length (calls_of earlier ++ calls) ≡ length earlier + (length rest + 1)
-  all = omega (arith, length-append (calls_of earlier) calls, long, ap length first)
+  long : length (calls_of list) ≡ length list
+  long = length-map list (λ (x : Receipt). x.call)
 
   -- what the type of a job keeps
-  pub IsJob-called : (notes notes_now : Option (Vec CostTerms Global)) (room capacity : ℕ) → IsPassOf before ledger → IsJob job_before room notes
-      → capacity ≡ room → IfSome notes_now (HasCosts (earlier ++ r ∷ []) (length (calls_of earlier ++ calls)))
-      → IsJob job_after capacity notes_now
-  IsJob-called notes notes_now room capacity was kept same_room noted =
-      let on : BookTerms → Type 0 = λ b. All (IsCallOn (length b.accounts)) (calls_of earlier ++ calls) in
-      let more : length (calls_of (earlier ++ r ∷ []) ++ rest) ≡ length (calls_of earlier ++ calls) = ap length moved in
+  pub IsJob-called : (notes notes_now : Option (Vec CostTerms Global)) → IsPassOf before ledger → IsJob job_before n notes
+      → IfSome notes_now (HasCosts (take n list ++ r ∷ []) (length (calls_of list))) → IsJob job_after (n + 1) notes_now
+  IsJob-called notes notes_now was kept noted =
+      let on : BookTerms → Type 0 = λ b. All (IsCallOn (length b.accounts)) (calls_of list) in
+      let more : length (calls_of (set list n r)) ≡ length (calls_of list) = ap length unmoved in
       record {
-        calls_on = rw moved (subst on (was.book ∙ sym called.pass.book) kept.calls_on);
+        calls_on = rw unmoved (subst on (was.book ∙ sym called.pass.book) kept.calls_on);
         few = omega (arith, more, kept.few);
-        stands = stands-CallMade ledger.book before after call r called.made earlier kept.stands;
-        counted = omega (arith, called.calls, count, kept.counted, kept.few, all);
-        within = omega (arith, count, more, all);
-        fits = omega (arith, kept.fits, same_room, more);
-        costs_fit = rw moved noted;
+        stands = rw one_more (stands-CallMade ledger.book before after waits.call r called.made (take n list) kept.stands);
+        counted = omega (arith, called.calls, count, kept.counted, kept.made_are, kept.few, long, within);
+        made_are = count;
+        within = omega (arith, count, more, long, within);
+        costs_fit = rw (unmoved, one_more) noted;
       }
 
   -- what is left of the job
-  pub MakesNext-called : before.calls ≡ length earlier → length (calls_of earlier ++ calls) < 2 ^ 32
+  pub MakesNext-called : before.calls ≡ length (take n list) → length (calls_of list) < 2 ^ 32
       → costs_now ≡ costs_with (cost_of before after) costs → MakesNext ledger job_before job_after
   MakesNext-called counted few noted = record {
     receipt = r;
-    call_is = λ d. same ∙ (sym (get_or-append_seam (calls_of earlier) call rest d)
-        ∙ (ap (λ n. slice_index_or (calls_of earlier ++ call ∷ rest) n d) long
-        ∙ ap (λ xs. slice_index_or (calls_of earlier ++ xs) (length earlier) d) (sym first)));
+    call_is = λ d. same ∙ ap (λ (x : Receipt). x.call) is
+        ∙ sym (get_or-map (λ (x : Receipt). x.call) list n waits d within)
+        ∙ ap (λ m. slice_index_or (calls_of list) m d) (omega (arith, length-take n list, within));
     made = subst (λ c. CallMade ledger.book before after c r) (sym same) called.made;
     within = subst (λ c. StaysWithin ledger.book before after c r) (sym same) called.within;
-    receipts_are = refl;
+    receipts_are = one_more;
     costs_are = noted;
-    calls_are = moved;
+    calls_are = unmoved;
     of_ledger = called.pass;
-    counted = omega (arith, called.calls, counted, count, few, all);
+    counted = omega (arith, called.calls, counted, count, few, long, length-take n list, within);
   }
 
 -- so many calls of the job were made, the first ones

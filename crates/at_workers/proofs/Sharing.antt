@@ -2,7 +2,7 @@
 use denote.Param.Send.{IsSend, sendable, view_send}
 use denote.Param.SendFields.{declared_send, variants_send}
 use Rattle.std.proofs.Crossing.{crosses}
-use Rattle.at_log.proofs.Sharing.{call_send, receipt_send}
+use Rattle.at_log.proofs.Sharing.{receipt_send}
 use Rattle.at_object.proofs.Sharing.{pass_send}
 use Rattle.at_workers.specs.contracts.cost.CallCost as cost
 use Rattle.at_workers.specs.contracts.job.Job as job
@@ -11,7 +11,7 @@ cost_send : IsSend cost.the_row
 cost_send = search (sendable, crosses) depth 20
 
 inside_send : IsSend job.TheInside.the_row
-inside_send = search (sendable, crosses, declared_send, pass_send, call_send, receipt_send, cost_send) depth 20
+inside_send = search (sendable, crosses, declared_send, pass_send, receipt_send, cost_send) depth 20
 
 pub job_send : IsSend job.the_row
 job_send = view_send job.TheInside.the_row _ _ _ _ inside_send

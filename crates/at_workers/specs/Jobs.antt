@@ -25,15 +25,15 @@ pub record HasCosts (receipts : List Receipt) (room : ℕ) (costs : Vec CostTerm
   pub count : length costs.items ≡ length receipts
   pub fits : room ≤ vec_capacity costs
 
--- the calls name accounts of the book, and are numbered by 32 bits. The receipts stand with the pass, which has counted as many
--- calls, and there is room for one receipt of each call, and for one cost, where costs are noted
-pub record IsJob (job : JobTerms) (room : ℕ) (costs : Option (Vec CostTerms Global)) : Type 0 where
+-- the calls name accounts of the book, and are numbered by 32 bits. So many of them were made: their receipts stand with the pass,
+-- which has counted as many calls. There is room for the cost of each call, where costs are noted
+pub record IsJob (job : JobTerms) (made : ℕ) (costs : Option (Vec CostTerms Global)) : Type 0 where
   pub calls_on : All (IsCallOn (length job.pass.knows.book.accounts)) job.calls
   pub few : length job.calls < 2 ^ 32
   pub stands : Stands job.pass job.receipts
   pub counted : job.pass.calls ≡ length job.receipts
+  pub made_are : length job.receipts ≡ made
   pub within : length job.receipts ≤ length job.calls
-  pub fits : length job.calls ≤ room
   pub costs_fit : IfSome costs (HasCosts job.receipts (length job.calls))
 
 -- the job can be run on the ledger: its pass is of it, and no call was made yet

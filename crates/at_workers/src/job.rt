@@ -1,37 +1,39 @@
 //! Jobs: a pass with the calls to make and their receipts.
 
-ghost use Rattle.std.specs.Prelude.{◌≡◌, ◌^◌, ◌<◌, ◌++◌, [], ◌∷◌, IfErr, IfOk, IfSome, length, All, None, Some};
+ghost use Rattle.std.specs.Prelude.{◌≡◌, ◌^◌, ◌<◌, ◌≤◌, ◌++◌, [], ◌∷◌, IfErr, IfOk, IfSome, length, All, None, Some};
 ghost use Rattle.std.specs.Option.{option_map};
 ghost use Rattle.std.specs.Vec.{vec_capacity};
 ghost use Rattle.at_ledger.specs.Call.{IsCallOn};
+ghost use Rattle.at_log.specs.Receipts.{calls_of};
 ghost use Rattle.at_object.specs.Passes.{IsPassOf, Stands};
 ghost use Rattle.at_workers.specs.Costs.{IsCalled, cost_of};
 ghost use Rattle.at_workers.specs.Jobs.{MakesNext};
 
 use crate::cost::CallCost;
 use crate::gate::Gate;
-use at_ledger::Call;
-use at_log::Receipt;
+use at_ledger::{Call, Reply};
+use at_log::{At, Receipt};
 use at_object::{Ledger, Pass};
 use std::alloc::Global;
-use std::collections::VecDeque;
 use std::marker::Model;
 
 /// A pass, the calls to make with it, the receipts of those that were made, and what these cost, where it is to note that. It has the
-/// memory for the receipts of all calls, and for their costs. Each call is moved into its receipt.
+/// memory for the receipts of all calls, and for their costs.
+///
+/// Each call waits where its receipt is to be, so no call is in memory twice.
 #[derive(Drop)]
 pub struct Job {
     pass: Pass,
-    /// Those that weren't made yet.
-    calls: VecDeque<Call>,
+    /// One for each call: its receipt, or what stands in the place of that until the call is made.
     receipts: Vec<Receipt>,
+    /// How many calls were made, the first ones.
+    made: usize,
     costs: Option<Vec<CallCost>>,
 }
 
 impl Model for Job {
-    ghost use Rattle.std.specs.Prelude.{◌++◌};
+    ghost use Rattle.std.specs.Prelude.{take};
     ghost use Rattle.std.specs.Option.{option_map};
-    ghost use Rattle.std.specs.Vec.{vec_capacity};
     ghost use Rattle.at_log.specs.Receipts.{calls_of};
     ghost use Rattle.at_workers.specs.Jobs.{IsJob, JobTerms};
 
@@ -39,18 +41,18 @@ impl Model for Job {
 
     ghost view = { λ j. record {
       pass = j.pass;
-      calls = calls_of j.receipts.items ++ j.calls.items;
-      receipts = j.receipts.items;
+      calls = calls_of j.receipts.items;
+      receipts = take j.made j.receipts.items;
       costs = option_map (λ v. v.items) j.costs;
     } };
 
     ghost invariant = { λ j. IsJob (record {
       pass = j.pass;
-      calls = calls_of j.receipts.items ++ j.calls.items;
-      receipts = j.receipts.items;
+      calls = calls_of j.receipts.items;
+      receipts = take j.made j.receipts.items;
       costs = option_map (λ v. v.items) j.costs;
     })
-        (vec_capacity j.receipts) j.costs };
+        j.made j.costs };
 }
 
 /// There was no memory for the receipts or the costs. The pass and the calls come back as they were.
@@ -58,6 +60,28 @@ impl Model for Job {
 pub struct JobRefused {
     pub pass: Pass,
     pub calls: Vec<Call>,
+}
+
+/// What stands in the place of the receipt of a call that isn't made yet.
+fn unmade(call: Call) -> Receipt
+    ensures { result.call ≡ call }
+{
+    Receipt {
+        call,
+        reply: Reply::Full,
+        at: At::Previous,
+    }
+}
+
+/// Moves each call to where its receipt is to be. The list has room for all of them.
+fn lay_out(receipts: &mut Vec<Receipt>, calls: Vec<Call>)
+    requires empty { receipts.old.items ≡ [] }
+    requires room { length calls.items ≤ vec_capacity receipts.old }
+    ensures { calls_of receipts.new.items ≡ calls.items }
+{
+    for call in calls {
+        receipts.push_reserved(unmade(call));
+    }
 }
 
 impl Job {
@@ -75,15 +99,16 @@ impl Job {
         }) }
         ensures refused { IfErr result (λ r. (r.pass ≡ pass) × (r.calls.items ≡ calls.items)) }
     {
-        match Vec::with_capacity(alloc, calls.len()) {
-            Ok(receipts) => Ok(Job {
-                pass,
-                calls: VecDeque::from(calls),
-                receipts,
-                costs: None,
-            }),
-            Err(_) => Err(JobRefused { pass, calls }),
-        }
+        let Ok(mut receipts) = Vec::with_capacity(alloc, calls.len()) else {
+            return Err(JobRefused { pass, calls });
+        };
+        lay_out(&mut receipts, calls);
+        Ok(Job {
+            pass,
+            receipts,
+            made: 0,
+            costs: None,
+        })
     }
 
     /// A job that notes what each of its calls costs, and of which no call is made yet. Takes the memory of all its receipts and costs
@@ -119,10 +144,11 @@ impl Job {
     {
         let Job {
             pass,
-            calls: _,
-            receipts,
+            mut receipts,
+            made,
             costs,
         } = self;
+        receipts.truncate(made);
         (pass, receipts, costs)
     }
 
@@ -133,7 +159,7 @@ impl Job {
         ensures counted { self.now.pass.calls ≡ length self.now.receipts }
         ensures costed { IfSome self.now.costs (λ list. length list ≡ length self.now.receipts) }
     {
-        self.receipts.len() + self.calls.len()
+        self.receipts.len()
     }
 
     /// Makes the next call, which the gate is told of.
@@ -142,16 +168,15 @@ impl Job {
         requires more { length self.old.receipts < length self.old.calls }
         ensures { MakesNext ledger.now self.old self.new }
     {
-        let Some(call) = self.calls.pop_front() else {
-            // A call is left.
-            unreachable!()
-        };
-        let line = self.receipts.len() as u32 + 1;
+        let i = self.made;
+        let call = self.receipts[i].call.copy();
+        let line = i as u32 + 1;
         let receipt = match &mut self.costs {
             None => call_told(ledger, gate, &mut self.pass, line, call),
             Some(costs) => call_noted(ledger, gate, &mut self.pass, line, call, costs),
         };
-        self.receipts.push_reserved(receipt);
+        self.receipts[i] = receipt;
+        self.made += 1;
     }
 }
 

@@ -181,8 +181,8 @@ IsSeat-step v u w q process k published seat first parts same own kept =
     ∙ (ap (λ (t : Part). t.published) (own_part-with_part u q (omega (arith, ap length parts, seat.one_part))) ∙ own)) kept
 
 -- a process has few records
-pub count_of-IsHistory : (b : BookTerms) (list : List Publication) (p : ℕ) → IsBegun b → p < b.processes → IsHistory b list → count_of p list < 2 ^ 32
-count_of-IsHistory b list p begun within history = omega (arith, history.room p within, log_room_of-le b p begun within)
+pub count_of-IsHistory : (b : BookTerms) (list : List Publication) (p : ℕ) → IsBegun b → p < b.processes → IsHistory b list → count_of p list < 2 ^ 16
+count_of-IsHistory b list p begun within history = omega (arith, history.room p within, log_room_of-le b p begun)
 
 -- the address of the seat's next record, by the seat's fields
 pub next_record : (v : Knowledge) (process k j : ℕ) → IsSeat v process k → record_word process k j ≡ record_word v.first (own_part v).published j

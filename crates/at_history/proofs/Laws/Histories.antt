@@ -185,7 +185,7 @@ number-is_settled b xs m a slot number history settled =
     (subst (λ (y : Publication). settles a slot number y.entry ≡ true) here found.4)
 
 -- so no more rounds name a slot than there is room for
-named-le : (b : BookTerms) (xs : List Publication) (m a slot : ℕ) → IsHistory b xs → m ≤ length xs → named a slot (take m xs) ≤ b.request_room
+pub named-le : (b : BookTerms) (xs : List Publication) (m a slot : ℕ) → IsHistory b xs → m ≤ length xs → named a slot (take m xs) ≤ b.request_room
 named-le b xs m a slot history within =
     elim (cases_lt b.request_room (named a slot (take m xs))) as (λ _. named a slot (take m xs) ≤ b.request_room) [
       | inl past ↦

@@ -24,6 +24,14 @@ rounds_room-slots_of request_room t = rounds_cases (is_shared t) (length t.owner
     rounds_cases true k q = refl
     rounds_cases false k q = omega arith
 
+-- a process has at most all rounds of an account
+rounds_room_of-le : (request_room p : ℕ) (t : AccountTerms) → rounds_room_of request_room p t ≤ rounds_room request_room t
+rounds_room_of-le request_room p t = rounds_cases (is_some (position (λ o. o == p) t.owners)) (rounds_room request_room t)
+  where
+    rounds_cases : (owns : Bool) (r : ℕ) → cond owns r 0 ≤ r
+    rounds_cases true r = omega arith
+    rounds_cases false r = omega arith
+
 -- a number in a row counts once
 one_of_range : (owner r a n : ℕ) → (owner < a → sum_by (λ p. cond (owner == p) r 0) (range_with_len a n) ≡ 0) × (sum_by (λ p. cond (owner == p) r 0) (range_with_len a n) ≤ r)
 one_of_range owner r a zero = (λ _. refl, omega arith)
@@ -122,13 +130,7 @@ length-ArePublishedBy b list begun known room =
     )
 
 -- the log of one process
-pub log_room_of-le : (b : BookTerms) (p : ℕ) → IsBegun b → p < b.processes → log_room_of b p ≤ 131072
-log_room_of-le b p begun within =
-    let range = range_with_len 0 b.processes in
-    let here : get_or range p 0 ≡ p = get_or-range_with_len 0 b.processes p 0 within ∙ omega arith in
-    omega (
-      arith,
-      sum-log_room_of b begun,
-      ap (log_room_of b) here,
-      get_or-le-sum_by (log_room_of b) range p 0 (omega (arith, length-range_with_len 0 b.processes)),
-    )
+pub log_room_of-le : (b : BookTerms) (p : ℕ) → IsBegun b → log_room_of b p ≤ 12288
+log_room_of-le b p begun =
+    let rounds = sum_by-le-sum_by (rounds_room_of b.request_room p) (rounds_room b.request_room) b.accounts (λ t. rounds_room_of-le b.request_room p t) in
+    omega (arith, rounds, begun.rounds, begun.own_room)

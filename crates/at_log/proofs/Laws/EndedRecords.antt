@@ -50,7 +50,7 @@ ended_word-view e seats p i q ended known within =
 
 -- a count of a view is small
 pub small-ended_word : (e : EndTerms) (p i q : ℕ) → ((seats : List SeatTerms) × IsEnd e seats) → IsBook e.book → p < e.book.processes
-    → i < length (records_of e p) → q < e.book.processes → ended_word e p i (RECORD_WORDS + q) < 2 ^ 32
+    → i < length (records_of e p) → q < e.book.processes → ended_word e p i (RECORD_WORDS + q) < 2 ^ 16
 small-ended_word e p i q end book known within inside =
     omega (
       arith,

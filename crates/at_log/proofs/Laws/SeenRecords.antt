@@ -21,7 +21,7 @@ use Rattle.at_log.specs.Loading.{IsViewOf}
 -- the view of a record of a history
 pub record IsShownRecord (b : BookTerms) (x : Publication) : Type 0 where
   pub sized : length x.view ≡ b.processes
-  pub small : (q : ℕ) → q < b.processes → get_or x.view q 0 ≤ 131072
+  pub small : (q : ℕ) → q < b.processes → get_or x.view q 0 ≤ 12288
 
 IsShownRecord-at : (b : BookTerms) (list : List Publication) (m : ℕ) → IsBegun b → IsHistory b list → m < length list
     → IsShownRecord b (publication_at list m)
@@ -36,7 +36,7 @@ IsShownRecord-at b list m begun history within =
         count_of-take-le q (place x.view) (take m list),
         count_of-take-le q m list,
         history.room q known,
-        log_room_of-le b q begun known,
+        log_room_of-le b q begun,
       );
     }
 
@@ -77,7 +77,7 @@ IsViewOf-IsLoaded b v p i view q begun history sees sized all loaded =
 
 -- a count of a view is small
 pub small-IsRecordWord : (b : BookTerms) (v : Knowledge) (p i q w : ℕ) → IsBegun b → IsHistory b v.seen → SeesRecord v p i → q < b.processes
-    → IsRecordWord v p i (RECORD_WORDS + q) w → w < 2 ^ 32
+    → IsRecordWord v p i (RECORD_WORDS + q) w → w < 2 ^ 16
 small-IsRecordWord b v p i q w begun history sees known word =
     let x : Publication = publication_at (publications_of p v.seen) i in
     let shown = IsShownRecord-IsHistory b v.seen p i begun history sees in

@@ -1,4 +1,4 @@
-use Rattle.std.proofs.Common.{◌≡◌, ◌∙◌, ◌<◌, [], get_or, length, arith}
+use Rattle.std.proofs.Common.{◌≡◌, ◌∙◌, ◌^◌, ◌<◌, [], get_or, length, arith}
 use Rattle.std.proofs.lemmas.List.{length-set}
 use Rattle.at_ledger.specs.Files.{contents_of}
 use Rattle.at_ledger.proofs.FileLists.{get_or-contents_of, length-contents_of}
@@ -6,11 +6,18 @@ use Rattle.at_commands.proofs.Laws.Deliveries.{counted_all, counted_next}
 use Rattle.at_loading.proofs.Laws.FilesLoaded.{same_length}
 use Rattle.at_commands.proofs.delivering.counts_of.Goals as goal
 
-pub overflow_cast-len : goal.overflow_cast-len
-overflow_cast-len c =
+-- a process has few messages
+small : (c : goal.After-len) → c.len.result < 2 ^ 16
+small c =
     let file = get_or-contents_of c.args.files.now c.loop-p.p c.index-files-p.result c.loop-p-test.true c.index-files-p.is in
     let few = c.requires.each c.loop-p.p [] (omega (arith, c.loop-p-test.true, length-contents_of c.args.files.now)) in
     omega (arith, c.len.ensures, c.index-files-p.result.ok, same_length _ _ file, few)
+
+pub overflow_cast-len : goal.overflow_cast-len
+overflow_cast-len c = omega (arith, small c)
+
+pub set-requires-clause-small : goal.set-requires-clause-small
+set-requires-clause-small c = small c
 
 pub loop-p-preserved : goal.loop-p-preserved
 loop-p-preserved c =

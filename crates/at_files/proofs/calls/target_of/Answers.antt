@@ -2,5 +2,5 @@ use Rattle.std.proofs.Common.{arith}
 use Rattle.std.proofs.lemmas.Grind.{common_steps}
 use Rattle.at_files.proofs.calls.target_of.Goals as goal
 
-pub returns-in-Some-Some : goal.returns-in-Some-Some
-returns-in-Some-Some c = grind (arith, common_steps)
+pub returns-in-Some-Some-clause-target : goal.returns-in-Some-Some-clause-target
+returns-in-Some-Some-clause-target c = grind (arith, common_steps)

@@ -11,6 +11,15 @@ overflow_cast-count c =
           c.requires.record (omega (arith, c.loop-q-test.true, c.requires.processes)),
     )
 
+pub set-requires-clause-small : goal.set-requires-clause-small
+set-requires-clause-small c =
+    omega (
+      arith,
+      c.record_word-count.ensures,
+      small-ended_word c.args.end.now c.args.p c.args.i c.loop-q.q c.requires.published c.requires.book (omega (arith, c.requires.process, c.requires.processes))
+          c.requires.record (omega (arith, c.loop-q-test.true, c.requires.processes)),
+    )
+
 pub returns : goal.returns
 returns c =
     IsEndedView-IsCounted c.args.end.now c.args.p c.args.i c.loop-q.view c.loop-q.q c.requires.book (omega (arith, c.requires.process, c.requires.processes))

@@ -1,4 +1,4 @@
-use Rattle.std.proofs.Common.{◌≡◌, ◌+◌, ◌<◌, length, sym, ap, subst, ◌∙◌, arith}
+use Rattle.std.proofs.Common.{◌≡◌, ◌+◌, ◌^◌, ◌<◌, length, sym, ap, subst, ◌∙◌, arith}
 use Rattle.std.proofs.lemmas.List.{length-set}
 use Rattle.at_ledger.specs.Book.{BookTerms, IsBook}
 use Rattle.at_board.specs.Knowledge.Records.{IsRecordWord}
@@ -25,15 +25,18 @@ word c =
     subst (λ (s : SeatTerms). IsRecordWord s.knows c.args.p c.args.i (RECORD_WORDS + c.loop-q.q) c.load_record_word-count.result) c.loop-q.invariant.same
     c.load_record_word-count.ensures.word
 
+-- a count of a view is that of few records
+small : (c : After-load_record_word-count) → c.load_record_word-count.result < 2 ^ 16
+small c =
+    let before : After-processes-processes = (goal.at.After-load_record_word-count c).After-processes-processes in
+    small-IsRecordWord c.args.board.now.book c.args.seat.now.knows c.args.p c.args.i c.loop-q.q c.load_record_word-count.result (book before).begun
+    (history before) c.requires.record (omega (arith, c.loop-q-test.true, count before)) (word c)
+
 pub overflow_cast-count : goal.overflow_cast-count
-overflow_cast-count c =
-    let read : After-load_record_word-count = (goal.at.overflow_cast-count c).After-load_record_word-count in
-    let before : After-processes-processes = (goal.at.After-load_record_word-count read).After-processes-processes in
-    omega (
-      arith,
-      small-IsRecordWord c.args.board.now.book c.args.seat.now.knows c.args.p c.args.i c.loop-q.q c.load_record_word-count.result (book before).begun
-          (history before) c.requires.record (omega (arith, c.loop-q-test.true, count before)) (word read),
-    )
+overflow_cast-count c = omega (arith, small (goal.at.overflow_cast-count c).After-load_record_word-count)
+
+pub set-requires-clause-small : goal.set-requires-clause-small
+set-requires-clause-small c = small (goal.at.set-requires-clause-small c).After-load_record_word-count
 
 pub loop-q-preserved : goal.loop-q-preserved
 loop-q-preserved c =

@@ -86,3 +86,9 @@ pub returns : goal.returns
 returns c =
     let all : c.loop-call.call-index ≡ length c.args.file.now = let past = c.loop-call-test.false in omega arith in
     subst (λ (n : ℕ). IsAloneTo c.args.book.now c.args.process c.args.file.now n c.loop-call.replies.items c.loop-call.ranges.items) all c.loop-call.invariant.1
+
+pub widen_named-requires-clause-book : goal.widen_named-requires-clause-book
+widen_named-requires-clause-book c =
+    let inside = c.loop-call-test.true in
+    let alone = alone-along c.args.book.now c.args.process c.args.file.now c.loop-call.call-index c.requires.covered c.requires.calls (omega arith) in
+    c.step.ensures.book ∙ alone-book c.args.book.now c.args.process c.args.file.now c.loop-call.call-index c.loop-call.state alone c.loop-call.invariant.0

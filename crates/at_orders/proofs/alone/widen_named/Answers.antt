@@ -1,6 +1,8 @@
 use Rattle.std.proofs.lemmas.Grind.{common_steps}
-use Rattle.std.proofs.Common.{⊎_elim, ◌<◌, length, get_or, sym, ◌∙◌, arith}
+use Rattle.std.proofs.Common.{⊎_elim, ◌<◌, length, get_or, sym, ◌∙◌, arith, ◌^◌, ap}
 use Rattle.at_orders.proofs.Playing.{names-none, names-pays, source-in, widened-both, widened-more, widened-source}
+use Rattle.at_ledger.proofs.Calls.{IsCallOn-more}
+use Rattle.at_ledger.specs.Book.{BookTerms}
 use Rattle.at_orders.proofs.alone.widen_named.Goals as goal
 
 -- the source is an account
@@ -35,3 +37,6 @@ returns-in_default-clause-others c = grind (arith, common_steps)
 
 pub widen-requires-clause-accounts : goal.widen-requires-clause-accounts
 widen-requires-clause-accounts c = grind (arith, common_steps)
+
+pub payout-requires : goal.payout-requires
+payout-requires c = IsCallOn-more (length c.args.state.now.book.accounts) (2 ^ 16) c.args.call.now (omega (arith, ap (λ (b : BookTerms). length b.accounts) c.requires.book, c.known.ensures.checked.begun.few_accounts)) c.requires.call_in

@@ -1,5 +1,6 @@
-use Rattle.std.proofs.Common.{arith}
+use Rattle.std.proofs.Common.{arith, ◌^◌, length}
 use Rattle.std.proofs.lemmas.Grind.{common_steps}
+use Rattle.at_ledger.proofs.Calls.{IsCallOn-more}
 use Rattle.at_orders.proofs.covered.take.Goals as goal
 
 pub bounds-left-source-2 : goal.bounds-left-source-2
@@ -43,3 +44,6 @@ offset_bounds-left-source c = grind (arith, common_steps)
 
 pub returns-clause-len : goal.returns-clause-len
 returns-clause-len c = grind (arith, common_steps)
+
+pub payout-requires : goal.payout-requires
+payout-requires c = IsCallOn-more (length c.args.book.now.accounts) (2 ^ 16) c.args.call.now (omega (arith, c.known.ensures.checked.begun.few_accounts)) c.requires.call_in

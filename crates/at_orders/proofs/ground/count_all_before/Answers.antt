@@ -12,7 +12,10 @@ count_before-requires c =
     let i : ℕ = c.loop-file.file-index in
     let size = length-contents_of c.args.files.now in
     let within = c.loop-file-test.true in
-    subst (IsPlayable c.args.accounts) (get_or-contents_of c.args.files.now i c.file-item.result within c.file-item.is ∙ sym c.as_slice.ensures.value) (c.requires i [] (omega arith))
+    record {
+      small = c.requires.small;
+      playable = subst (IsPlayable c.args.accounts) (get_or-contents_of c.args.files.now i c.file-item.result within c.file-item.is ∙ sym c.as_slice.ensures.value) (c.requires.playable i [] (omega arith));
+    }
 
 pub loop-file-preserved : goal.loop-file-preserved
 loop-file-preserved c =

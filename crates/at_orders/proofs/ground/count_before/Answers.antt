@@ -1,10 +1,11 @@
-use Rattle.std.proofs.Common.{◌≡◌, ℕ, ◌+◌, ◌<◌, ◌∷◌, [], List, get_or, length, take, sym, ap, subst, ◌∙◌, arith}
+use Rattle.std.proofs.Common.{◌≡◌, ℕ, ◌+◌, ◌^◌, ◌<◌, ◌∷◌, [], List, get_or, length, take, sym, ap, subst, ◌∙◌, arith}
 use Rattle.std.proofs.lemmas.List.{length-append, length-set}
 use Rattle.std.proofs.lemmas.Grind.{get_or_default_zero, common_steps}
 use Rattle.std.proofs.lemmas.Option.{slice_get_within}
 use Rattle.std.specs.Prelude.{is_some}
 use Rattle.at_ledger.specs.Call.{IsCallOn}
 use Rattle.at_ledger.specs.declared.call.Call.{Call}
+use Rattle.at_ledger.proofs.Calls.{IsCallOn-more}
 use Rattle.at_orders.specs.Stages.{payments_from}
 use Rattle.at_orders.proofs.Counting.{before-more, counts-payment, counts-read, payments_from-few}
 use Rattle.at_orders.proofs.Placing.{first-known}
@@ -15,9 +16,9 @@ pub overflow_add-index_mut : goal.overflow_add-index_mut
 overflow_add-index_mut c =
     let a : ℕ = c.first_account-account.result in
     let few = payments_from-few a c.args.file.now c.loop-call.call-index in
-    let calls = c.requires.few in
+    let calls = c.requires.playable.few in
     let within = c.loop-call-test.true in
-    let known : a < c.args.accounts = first-known c.args.accounts c.call-item.result a c.first_account-account.ensures (subst (IsCallOn c.args.accounts) (sym c.call-item.is) (c.requires.known c.loop-call.call-index c.call-item.result within)) in
+    let known : a < c.args.accounts = first-known c.args.accounts c.call-item.result a c.first_account-account.ensures (subst (IsCallOn c.args.accounts) (sym c.call-item.is) (c.requires.playable.known c.loop-call.call-index c.call-item.result within)) in
     let accounts = c.loop-call.invariant.accounts in
     let value = c.index_mut.ensures.value ∙ get_or_default_zero c.loop-call.counts.items a c.index_mut.result.now (omega arith) in
     let count = c.loop-call.invariant.counts a known in
@@ -35,7 +36,7 @@ loop-call-preserved c =
     let first = c.first_account-account.ensures in
     let paid = c.is_some.ensures in
     let payout = c.payout.ensures in
-    let known : account < c.args.accounts = first-known c.args.accounts call account first (subst (IsCallOn c.args.accounts) (sym call_is) (c.requires.known i call within)) in
+    let known : account < c.args.accounts = first-known c.args.accounts call account first (subst (IsCallOn c.args.accounts) (sym call_is) (c.requires.playable.known i call within)) in
     let inside : account < length c.loop-call.counts.items = omega arith in
     record {
       accounts = elim c.if-is_some.branch [
@@ -77,12 +78,17 @@ offset_bounds-file-call-index c = grind (arith, common_steps)
 
 pub index-requires : goal.index-requires
 index-requires c =
-    let known = first-known c.args.accounts c.call-item.result c.first_account-account.result c.first_account-account.ensures (subst (IsCallOn c.args.accounts) (sym c.call-item.is) (c.requires.known c.loop-call.call-index c.call-item.result c.loop-call-test.true)) in
+    let known = first-known c.args.accounts c.call-item.result c.first_account-account.result c.first_account-account.ensures (subst (IsCallOn c.args.accounts) (sym c.call-item.is) (c.requires.playable.known c.loop-call.call-index c.call-item.result c.loop-call-test.true)) in
     let accounts = c.loop-call.invariant.accounts in
     omega arith
 
 pub index_mut-requires : goal.index_mut-requires
 index_mut-requires c =
-    let known = first-known c.args.accounts c.call-item.result c.first_account-account.result c.first_account-account.ensures (subst (IsCallOn c.args.accounts) (sym c.call-item.is) (c.requires.known c.loop-call.call-index c.call-item.result c.loop-call-test.true)) in
+    let known = first-known c.args.accounts c.call-item.result c.first_account-account.result c.first_account-account.ensures (subst (IsCallOn c.args.accounts) (sym c.call-item.is) (c.requires.playable.known c.loop-call.call-index c.call-item.result c.loop-call-test.true)) in
     let accounts = c.loop-call.invariant.accounts in
     omega arith
+
+pub payout-requires : goal.payout-requires
+payout-requires c =
+    IsCallOn-more c.args.accounts (2 ^ 16) c.call-item.result c.requires.small
+    (subst (IsCallOn c.args.accounts) (sym c.call-item.is) (c.requires.playable.known c.loop-call.call-index c.call-item.result c.loop-call-test.true))

@@ -67,3 +67,13 @@ returns-clause-steps c = grind (arith, common_steps)
 
 pub returns-clause-exchanges : goal.returns-clause-exchanges
 returns-clause-exchanges c = grind (arith, common_steps)
+
+pub returns-clause-small : goal.returns-clause-small
+returns-clause-small c =
+    let after : After-load-length = (goal.at.returns-clause-small c).After-load-length in
+    let loaded = told after (within after) in
+    omega (
+      arith,
+      loaded.counted,
+      count_of-IsHistory c.seat.inside.seat.me.0.book c.load-length.new.seat.me.0.seen c.args.p c.seat.invariant.1.book.begun (within after) loaded.history,
+    )

@@ -68,7 +68,7 @@ overflow_add-seat c =
       arith,
       seat.published_is,
       room (goal.at.overflow_add-seat c).After-from,
-      log_room_of-le v.book v.first seat.book.begun seat.known,
+      log_room_of-le v.book v.first seat.book.begun,
     )
 
 pub invariant_of-seat : goal.invariant_of-seat

@@ -43,7 +43,7 @@ overflow_cast-result c =
     let b : BookTerms = c.self.inside.book in
     let p = c.args.p in
     let before : After-word = (goal.at.overflow_cast-result c).After-word in
-    omega (arith, read before, c.self.invariant.0.room p (known before), log_room_of-le b p c.self.invariant.0.book.begun (known before))
+    omega (arith, read before, c.self.invariant.0.room p (known before), log_room_of-le b p c.self.invariant.0.book.begun)
 
 pub returns : goal.returns
 returns c =

@@ -1,5 +1,6 @@
-use Rattle.std.proofs.Common.{◌≡◌, ℕ, ◌+◌, List, get_or, set, sym, ap, subst, ◌∙◌}
+use Rattle.std.proofs.Common.{◌≡◌, ℕ, ◌+◌, List, get_or, set, sym, ap, subst, ◌∙◌, arith}
 use Rattle.at_ledger.specs.Book.{BookTerms}
+use Rattle.at_history.proofs.Laws.Rooms.{log_room_of-le}
 use Rattle.at_history.specs.declared.publication.Publication.{Publication}
 use Rattle.at_fold.specs.HasCounted.{HasCounted}
 use Rattle.at_fold.specs.Sums.{AccountSums, TotalSums}
@@ -45,3 +46,14 @@ returns-clause-counted c = λ b seen may.
           (sym upto) (sym (ap (λ (s : TotalSums). s.accounts) mid))
           (HasCounted-repeat t b seen p c.args.entry.now may (sym c.is_new.ensures ∙ w.if-is_new.false))
     ]
+
+pub set-requires-clause-small : goal.set-requires-clause-small
+set-requires-clause-small c =
+    let may = c.requires.next.2 in
+    omega (
+      arith,
+      c.requires.upto,
+      may.next.within,
+      may.history.room c.args.process may.next.process,
+      log_room_of-le c.requires.next.0 c.args.process may.counts.book.begun,
+    )

@@ -14,4 +14,4 @@ returns c =
     let own = c.self.inside in
     let counted = length-zip_front own.count own.accounts own.amounts (omega arith) (omega arith) in
     let read = target_at-zip_front own.count own.accounts own.amounts c.args.i (omega (arith, ap length c.self.view_is)) (omega arith) (omega arith) in
-    ap (λ t. t.0) (sym read) ∙ ap (λ l. (target_at l c.args.i).0) c.self.view_is
+    c.from.ensures ∙ ap (λ t. t.0) (sym read) ∙ ap (λ l. (target_at l c.args.i).0) c.self.view_is

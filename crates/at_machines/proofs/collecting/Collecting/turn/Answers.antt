@@ -103,8 +103,8 @@ returns-then-self-processes-clause-load c = grind (arith, common_steps)
 pub returns-clause-load : goal.returns-clause-load
 returns-clause-load c = grind (arith, common_steps)
 
-pub set-requires : goal.set-requires
-set-requires c = grind (arith, common_steps)
+pub set-requires-clause-process : goal.set-requires-clause-process
+set-requires-clause-process c = grind (arith, common_steps)
 
 pub overflow_add-self : goal.overflow_add-self
 overflow_add-self c = grind (arith, common_steps)

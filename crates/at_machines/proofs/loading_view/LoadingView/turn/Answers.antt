@@ -1,4 +1,4 @@
-use Rattle.std.proofs.Common.{◌≡◌, ◌+◌, ◌<◌, length, set, ap, subst, sym, ◌∙◌, arith}
+use Rattle.std.proofs.Common.{◌≡◌, ◌+◌, ◌<◌, length, set, ap, subst, sym, ◌∙◌, arith, ◌^◌}
 use Rattle.std.proofs.lemmas.Grind.{common_steps}
 use Rattle.std.proofs.lemmas.List.{length-set}
 use Rattle.at_ledger.specs.Book.{BookTerms}
@@ -33,16 +33,19 @@ book c = ap (λ (v : Knowledge). v.book) (sym c.requires.mark) ∙ c.requires.bo
 seat : (c : After-load_record_word-count) → IsKept c.args.self.now.knows
 seat c = subst IsKept c.requires.mark c.known-2.ensures.seat
 
-pub overflow_cast-count : goal.overflow_cast-count
-overflow_cast-count c =
-    let read = (goal.at.overflow_cast-count c).After-load_record_word-count in
+-- a count of a view is that of few records
+small : (c : After-load_record_word-count) → c.load_record_word-count.result < 2 ^ 16
+small c =
     let before : LoadingTerms = c.args.self.now in
-    let kept = seat read in
-    omega (
-      arith,
-      small-IsRecordWord before.knows.book before.knows before.process before.number before.loaded c.load_record_word-count.result kept.book.begun kept.history
-          (so_far read).record_seen (omega (arith, c.requires.left, ap (λ (t : BookTerms). t.processes) (book read))) (word read),
-    )
+    let kept = seat c in
+    small-IsRecordWord before.knows.book before.knows before.process before.number before.loaded c.load_record_word-count.result kept.book.begun kept.history
+    (so_far c).record_seen (omega (arith, c.requires.left, ap (λ (t : BookTerms). t.processes) (book c))) (word c)
+
+pub overflow_cast-count : goal.overflow_cast-count
+overflow_cast-count c = omega (arith, small (goal.at.overflow_cast-count c).After-load_record_word-count)
+
+pub set-requires-clause-small : goal.set-requires-clause-small
+set-requires-clause-small c = small (goal.at.set-requires-clause-small c).After-load_record_word-count
 
 -- the load after the step
 kept : (c : After-load_record_word-count)
@@ -67,8 +70,8 @@ returns-clause-view c =
     c.copy.ensures ∙ (c.set.ensures ∙ (ap (λ q. set c.self.inside.view q w) loaded
     ∙ IsViewOf-IsLoadingSo (loading_after before) (set c.self.inside.view before.loaded w) (seat read) sized all (kept read)))
 
-pub set-requires : goal.set-requires
-set-requires c = grind (arith, common_steps)
+pub set-requires-clause-process : goal.set-requires-clause-process
+set-requires-clause-process c = grind (arith, common_steps)
 
 pub returns-clause-after : goal.returns-clause-after
 returns-clause-after c = grind (arith, common_steps)

@@ -1,6 +1,7 @@
 use Rattle.std.proofs.lemmas.Grind.{common_steps}
-use Rattle.std.proofs.Common.{◌<◌, length, sym, ◌∙◌, arith}
+use Rattle.std.proofs.Common.{◌<◌, length, sym, ◌∙◌, arith, ◌^◌}
 use Rattle.at_orders.proofs.Requests.{made-read, made-step}
+use Rattle.at_ledger.proofs.Calls.{IsCallOn-more}
 use Rattle.at_orders.proofs.stage.Stage.make.Goals as goal
 
 pub returns-in_default-clause-ledger : goal.returns-in_default-clause-ledger
@@ -23,3 +24,6 @@ pay-requires-clause-next c = grind (arith, common_steps)
 
 pub pay-requires-clause-source_in : goal.pay-requires-clause-source_in
 pay-requires-clause-source_in c = grind (arith, common_steps)
+
+pub payout-requires : goal.payout-requires
+payout-requires c = IsCallOn-more (length c.args.ground.now.book.accounts) (2 ^ 16) c.args.call.now (omega (arith, c.book-known.ensures.known.book.begun.few_accounts)) c.requires.call_in

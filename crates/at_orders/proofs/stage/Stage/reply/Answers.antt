@@ -1,5 +1,6 @@
-use Rattle.std.proofs.Common.{arith}
+use Rattle.std.proofs.Common.{arith, ◌^◌, length}
 use Rattle.std.proofs.lemmas.Grind.{common_steps}
+use Rattle.at_ledger.proofs.Calls.{IsCallOn-more}
 use Rattle.at_orders.proofs.stage.Stage.reply.Goals as goal
 
 pub reply_to_pay-requires-clause-next : goal.reply_to_pay-requires-clause-next
@@ -10,3 +11,6 @@ reply_to_pay-requires-clause-source_in c = grind (arith, common_steps)
 
 pub returns-in-None : goal.returns-in-None
 returns-in-None c = grind (arith, common_steps)
+
+pub payout-requires : goal.payout-requires
+payout-requires c = IsCallOn-more (length c.args.ground.now.book.accounts) (2 ^ 16) c.args.call.now (omega (arith, c.book-known.ensures.known.book.begun.few_accounts)) c.requires.call_in
