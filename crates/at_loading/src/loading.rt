@@ -18,6 +18,10 @@ use at_ledger::{Book, Call};
 use at_report::{Status, UsageFault};
 use std::alloc::Global;
 
+/// The bytes for which a file's memory is asked at once; a longer file's grows. Room that nothing comes to lie in costs nothing, since no
+/// byte of it is touched.
+const USUAL_ROOM: usize = 524_288;
+
 /// A book with its names, and what the file of each process gave.
 #[derive(Drop)]
 pub struct Loaded<T> {
@@ -50,7 +54,9 @@ pub fn fetch_file<F: Shelf>(
     ensures file { (file : ℕ) → result ≡ Err (Status.ReadFault file) → file ≡ number }
     ensures numbered { (files : ℕ) → number ≤ files → IfErr result (HasFileNumbers files) }
 {
-    let mut bytes = Vec::new(alloc);
+    let Ok(mut bytes) = Vec::with_capacity(alloc, USUAL_ROOM) else {
+        return Err(Status::NoMemory);
+    };
     match fetch(shelf, name, &mut bytes) {
         Ok(()) => Ok(bytes),
         Err(FetchError::Failed) => Err(Status::ReadFault { file: number }),

@@ -3,9 +3,9 @@ use Rattle.std.proofs.lemmas.Grind.{common_steps}
 use Rattle.at_loading.proofs.Laws.MayRefuse.{long-read_fault, made-refused, memory-read_fault, read_fault-file}
 use Rattle.at_loading.proofs.loading.fetch_file.Goals as goal
 
-pub returns-in-Ok : goal.returns-in-Ok
-returns-in-Ok g c =
-    let fetches = c.in-Ok.ensures in
+pub returns-in-Ok-fetch : goal.returns-in-Ok-fetch
+returns-in-Ok-fetch g c =
+    let fetches = c.in-Ok-fetch.ensures in
     record {
       files = fetches.files;
       later = fetches.later;
