@@ -1,5 +1,6 @@
 pub mod Laws
 pub mod JobsMade
+pub mod JobsAsked
 pub mod JobsRun
 pub mod JobsNoting
 pub mod NodesGiven

@@ -2,6 +2,7 @@ pub mod Outcome
 pub mod Writing
 pub mod Generator
 pub mod Running
+pub mod Asking
 pub mod Answer
 pub mod Made
 pub mod Agreed

@@ -1,6 +1,7 @@
 //! Making the calls of the files on a new ledger, at once, and closing it: with its journal, or with what each call cost.
 
-ghost use Rattle.std.specs.Prelude.{◌≡◌, ◌<◌, ◌^◌, ◌++◌, [], length, map, true, All, IfOk, None, OnOk, Some, if◌then◌else◌};
+ghost use Rattle.std.specs.Prelude.{◌≡◌, ◌<◌, ◌^◌, ◌++◌, [], length, map, true, All, IfOk, None, Ok, OnOk, Some, if◌then◌else◌};
+ghost use Rattle.at_commands.specs.Asking.{AreAsked, MayBeAsked, job_asked};
 ghost use Rattle.std.specs.Option.{option_map, option_to_list};
 ghost use Rattle.at_ledger.specs.Files.{IsPlayable, contents_of};
 ghost use Rattle.at_ledger.specs.Call.{IsCallOn};
@@ -16,7 +17,7 @@ use at_log::Receipt;
 use at_object::{Closed, Ledger, NoMemory, Pass};
 use at_workers::{CallCost, Gate, Job, JobRefused, run_all};
 use std::alloc::{AllocError, Global};
-use std::thread::Threads;
+use std::thread::{Threads, map_vec};
 
 /// A job for the calls with the pass, which notes what they cost where it is to.
 fn job_for(alloc: Global, pass: Pass, calls: Vec<Call>, notes: bool) -> Result<Job, JobRefused>
@@ -38,8 +39,52 @@ fn job_for(alloc: Global, pass: Pass, calls: Vec<Call>, notes: bool) -> Result<J
     }
 }
 
-/// A job for each process: its pass, and the calls of its file. Each notes what its calls cost, or none does.
-fn jobs_for(
+/// A new pass, and the calls to make with it.
+#[derive(Drop)]
+struct Asked {
+    pass: Pass,
+    calls: Vec<Call>,
+}
+
+/// Each pass with the calls of its process's file.
+fn asked_of(
+    alloc: Global,
+    passes: Vec<Pass>,
+    files: Vec<Vec<Call>>,
+) -> Result<Vec<Asked>, NoMemory>
+    requires { length passes.items ≡ length files.items }
+    ensures { IfOk result (λ r. AreAsked passes.items (contents_of files.items) r.items) }
+{
+    let mut asked = Vec::with_capacity(alloc, files.len())?;
+    let mut others = passes.into_iter();
+    for calls in files {
+        let Some(pass) = others.next() else {
+            // There is a pass for each file.
+            unreachable!()
+        };
+        asked.push(Asked { pass, calls })?;
+    }
+    Ok(asked)
+}
+
+/// The jobs, if all of them were made.
+fn all_made(alloc: Global, made: Vec<Result<Job, JobRefused>>) -> Result<Vec<Job>, NoMemory>
+    ensures { IfOk result (λ jobs. made.items ≡ map Ok jobs.items) }
+{
+    let mut jobs = Vec::with_capacity(alloc, made.len())?;
+    for one in made {
+        let Ok(job) = one else {
+            return Err(AllocError);
+        };
+        jobs.push(job)?;
+    }
+    Ok(jobs)
+}
+
+/// A job for each process: its pass, and the calls of its file. Each notes what its calls cost, or none does. They are made by a thread
+/// each, since a job moves its calls to where their receipts are to be.
+fn jobs_for<R: Threads + Sync>(
+    rt: &R,
     alloc: Global,
     ledger: &Ledger,
     passes: Vec<Pass>,
@@ -52,19 +97,19 @@ fn jobs_for(
     ensures { IfOk result
         (λ jobs. AreJobsFor ledger.now (contents_of files.items) notes jobs.items) }
 {
-    let mut jobs = Vec::with_capacity(alloc, ledger.book().processes() as usize)?;
-    let mut others = passes.into_iter();
-    for calls in files {
-        let Some(pass) = others.next() else {
-            // There is a pass for each file.
-            unreachable!()
-        };
-        let Ok(job) = job_for(alloc, pass, calls, notes) else {
-            return Err(AllocError);
-        };
-        jobs.push(job)?;
-    }
-    Ok(jobs)
+    let asked = asked_of(alloc, passes, files)?;
+    let made = map_vec(
+        rt,
+        asked,
+        &move |one: Asked| -> Result<Job, JobRefused>
+            requires { MayBeAsked one }
+            ensures { IfOk result (λ job. job ≡ job_asked notes one) }
+        {
+            let Asked { pass, calls } = one;
+            job_for(alloc, pass, calls, notes)
+        },
+    )?;
+    all_made(alloc, made)
 }
 
 /// Adds the costs that a job has noted.
@@ -132,7 +177,7 @@ fn make_calls<R: Threads + Sync, G: Gate + Sync>(
     ensures costs { notes ≡ true → IfOk result
         (λ r. AreCosts ledger.now.book (lists_in r.receipts.items) (lists_in r.costs.items)) }
 {
-    let mut jobs = jobs_for(alloc, ledger, passes, files, notes)?;
+    let mut jobs = jobs_for(rt, alloc, ledger, passes, files, notes)?;
     run_all(rt, ledger, jobs.as_mut_slice(), gate);
     taken_apart(alloc, jobs)
 }
