@@ -86,12 +86,12 @@ AreJobsFor-asked ledger passes files notes asked made jobs new are all long each
     sym (length-map {A = JobTerms} {B = Result JobTerms JobRefused} jobs Ok) ∙ (sym (ap (length {A = Result JobTerms JobRefused}) all) ∙ long) in
     let same : jobs ≡ map (job_asked notes) asked =
     same_jobs notes asked jobs count (λ i d within.
-        let one = each i (Ok d) within in
-        let here : get_or made i (Ok d) ≡ Ok (get_or jobs i d) =
-        ap (λ (l : List (Result JobTerms JobRefused)). get_or l i (Ok d)) all ∙ get_or-map Ok jobs i d (Ok d) (omega (arith, within, count)) in
-        let met : get_or jobs i d ≡ job_asked notes one.0 =
-        subst (λ (r : Result JobTerms JobRefused). IfOk r (λ j. j ≡ job_asked notes one.0)) here one.2 in
-        met ∙ sym (get_or-map (job_asked notes) asked i one.0 d within ∙ ap (job_asked notes) (one.1 one.0))) in
+    let one = each i (Ok d) within in
+    let here : get_or made i (Ok d) ≡ Ok (get_or jobs i d) =
+    ap (λ (l : List (Result JobTerms JobRefused)). get_or l i (Ok d)) all ∙ get_or-map Ok jobs i d (Ok d) (omega (arith, within, count)) in
+    let met : get_or jobs i d ≡ job_asked notes one.0 =
+    subst (λ (r : Result JobTerms JobRefused). IfOk r (λ j. j ≡ job_asked notes one.0)) here one.2 in
+    met ∙ sym (get_or-map (job_asked notes) asked i one.0 d within ∙ ap (job_asked notes) (one.1 one.0))) in
     AreJobsFor-made ledger passes files notes jobs new
     (sym are.passes_are ∙ (sym (passes_in-asked notes asked) ∙ sym (ap passes_in same)))
     (sym are.files_are ∙ (sym (files_of-asked notes asked) ∙ sym (ap files_of same)))

@@ -11,7 +11,7 @@ ghost use Rattle.at_object.specs.Passes.{AreNewPasses, Stands};
 ghost use Rattle.at_commands.specs.Running.{AreCosts, AreJobsFor, HasNewPasses, IsClosedAfter, IsPlayed, IsPlayedInOrder, IsPlayedNoting, costs_in};
 ghost use Rattle.at_workers.specs.Jobs.{JobTerms};
 
-use at_journal::{CallAt, journal, journal_calls};
+use at_journal::{CallAt, journal, journal_calls_by_threads};
 use at_ledger::{Book, Call, Line};
 use at_log::Receipt;
 use at_object::{Closed, Ledger, NoMemory, Pass};
@@ -47,11 +47,7 @@ struct Asked {
 }
 
 /// Each pass with the calls of its process's file.
-fn asked_of(
-    alloc: Global,
-    passes: Vec<Pass>,
-    files: Vec<Vec<Call>>,
-) -> Result<Vec<Asked>, NoMemory>
+fn asked_of(alloc: Global, passes: Vec<Pass>, files: Vec<Vec<Call>>) -> Result<Vec<Asked>, NoMemory>
     requires { length passes.items ≡ length files.items }
     ensures { IfOk result (λ r. AreAsked passes.items (contents_of files.items) r.items) }
 {
@@ -268,7 +264,7 @@ pub(crate) fn play_in_order<R: Threads + Sync, G: Gate + Sync>(
 {
     book.known();
     let (closed, _costs) = closed_on(rt, alloc, opened, files, false, gate)?;
-    let calls = journal_calls(alloc, closed.book(), closed.closing())?;
+    let calls = journal_calls_by_threads(rt, alloc, closed.book(), closed.closing())?;
     Ok((closed, calls))
 }
 

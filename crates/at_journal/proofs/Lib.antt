@@ -28,3 +28,5 @@ pub mod LinePairs
 pub mod PlacedKeys
 pub mod Choosing
 pub mod TimedOrder
+-- the calls of each process with their keys, made one by one
+mod KeyedByThreads

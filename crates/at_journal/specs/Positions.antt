@@ -1,12 +1,14 @@
 -- Where the records of a closing stand in the order of its publications.
-use Rattle.std.specs.Prelude.{◌≡◌, ℕ, ◌<◌, ◌==◌, ◌++◌, List, [], ◌∷◌, length, filter, slice_index, slice_index_or, slice_set, ⊤, if◌then◌else◌, true}
+use Rattle.std.specs.Prelude.{◌≡◌, ℕ, ◌^◌, ◌<◌, ◌≤◌, ◌==◌, ◌++◌, List, [], ◌∷◌, length, filter, slice_index, slice_index_or, slice_set, ⊤, if◌then◌else◌, true}
 use Rattle.std.specs.List.{range_with_len}
 use Rattle.at_history.specs.Publications.{count_of}
 use Rattle.at_history.specs.Rounds.{rounds}
 use Rattle.at_history.specs.declared.publication.Entry.{Entry}
 use Rattle.at_history.specs.declared.publication.Entry.TheVariants.{Own, Round}
 use Rattle.at_history.specs.declared.publication.Publication.{Publication}
-use Rattle.at_log.specs.Receipts.{is_success}
+use Rattle.at_log.specs.ClosingTerms.{ClosingTerms, receipts_of}
+use Rattle.at_log.specs.JournalOrder.{journal_order}
+use Rattle.at_log.specs.Receipts.{is_success, receipt_at}
 use Rattle.at_ledger.specs.Call.{first_account}
 use Rattle.at_log.specs.Told.{own_position, round_position}
 use Rattle.at_log.specs.declared.receipt.At.{At}
@@ -57,3 +59,13 @@ pub record HasStarts (process : ℕ) (list : List Publication) (own : List ℕ) 
       × slice_index (slice_index_or starts (first_account r.call) []) round ≡ round_position (first_account r.call) round list
   pub round_within : (round place : ℕ) → r.at ≡ At.Round round place → is_success r.reply ≡ true
       → round_position (first_account r.call) round list < length list
+
+-- the calls of a process can be given their keys, by where the records of each process stand and where rounds begin
+pub record MayBeKeyed (c : ClosingTerms) (process : ℕ) (own starts : List (List ℕ)) : Type 0 where
+  pub small_process : process < 2 ^ 32
+  pub known : process < length c.receipts
+  pub owned : process < length own
+  pub few : length (receipts_of c process) < 2 ^ 32
+  pub found : (i : ℕ) → i < length (receipts_of c process)
+      → HasStarts process (journal_order c) (slice_index_or own process []) starts (receipt_at (receipts_of c process) i)
+  pub small : length (journal_order c) ≤ 2 ^ 36

@@ -7,6 +7,7 @@
 //! `Ordered`, how the lines come about.
 #![tactic(auto)]
 
+mod by_threads;
 mod calls;
 mod fronts;
 mod keyed;
@@ -23,6 +24,7 @@ ghost use Rattle.at_log.specs.JournalOrder.{journal_lines, journal_order};
 ghost use Rattle.at_journal.specs.Calls.{calls_in};
 ghost use Rattle.at_journal.specs.Linearizable.{AreTimed, CallTimes, IsLinearizable};
 
+pub use crate::by_threads::journal_calls_by_threads;
 pub use crate::calls::journal_calls;
 pub use crate::keyed::CallAt;
 use crate::lines::lines;

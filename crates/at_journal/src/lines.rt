@@ -69,7 +69,7 @@ fn key_of(
 }
 
 /// Adds the calls of a process with their keys. `own` has where its records stand, and `starts` where rounds begin.
-fn push_calls(
+pub(crate) fn push_calls(
     all: &mut Vec<Keyed>,
     closing: &Closing,
     p: u32,
@@ -98,7 +98,7 @@ fn push_calls(
 }
 
 /// How many receipts all processes have together.
-fn count_receipts(closing: &Closing) -> usize {
+pub(crate) fn count_receipts(closing: &Closing) -> usize {
     let mut count = 0usize;
     for p in 0..closing.processes() {
         count = count.saturating_add(closing.receipts(p).len());

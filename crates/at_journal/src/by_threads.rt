@@ -1,0 +1,130 @@
+//! The calls of a closing in the order of the journal, where each process's get their keys by a thread of their own.
+//!
+//! Most of the time goes to reading receipts that other threads have written. They are read where they lie, and by as many threads as
+//! there are processes.
+
+ghost use Rattle.std.specs.Prelude.{◌≡◌, ◌^◌, ◌<◌, ◌≤◌, length, map, All, IfOk, Ok};
+ghost use Rattle.std.specs.List.{flat_map};
+ghost use Rattle.at_log.specs.ClosingTerms.{receipts_of};
+ghost use Rattle.at_log.specs.Coherent.{Coherent};
+ghost use Rattle.at_log.specs.JournalOrder.{journal_lines, journal_order};
+ghost use Rattle.at_log.specs.Told.{keys_of};
+ghost use Rattle.at_journal.specs.Calls.{AreCallsOf, line_at};
+ghost use Rattle.at_journal.specs.Order.{AreRecords, published_in};
+ghost use Rattle.at_journal.specs.Ordered.{all_keyed, all_keys, keyed_of};
+ghost use Rattle.at_journal.specs.Positions.{HasRoundPositions, MayBeKeyed};
+
+use crate::NoMemory;
+use crate::calls::{in_key_order, publications};
+use crate::keyed::{CallAt, Keyed};
+use crate::lines::{count_receipts, push_calls};
+use crate::order::Numbered;
+use crate::positions::{own_positions, round_positions};
+use at_ledger::Book;
+use at_log::Closing;
+use std::alloc::Global;
+use std::thread::{Threads, map_indices};
+
+/// The calls of a process with their keys.
+fn calls_of_process(
+    alloc: Global,
+    closing: &Closing,
+    p: u32,
+    own: &[Vec<u64>],
+    starts: &[Vec<u64>],
+) -> Result<Vec<Keyed>, NoMemory>
+    requires { MayBeKeyed closing.now p (map (λ v. v.items) own.now) (map (λ v. v.items) starts.now) }
+    ensures { IfOk result (λ all. all.items
+        ≡ keyed_of p (keys_of p (journal_order closing.now) (receipts_of closing.now p))) }
+{
+    let mut all = Vec::with_capacity(alloc, closing.receipts(p).len())?;
+    push_calls(&mut all, closing, p, own[p as usize].as_slice(), starts)?;
+    Ok(all)
+}
+
+/// The lists, if all of them were made.
+fn all_done(
+    alloc: Global,
+    made: Vec<Result<Vec<Keyed>, NoMemory>>,
+) -> Result<Vec<Vec<Keyed>>, NoMemory>
+    ensures { IfOk result (λ lists. made.items ≡ map Ok lists.items) }
+{
+    let mut lists = Vec::with_capacity(alloc, made.len())?;
+    for one in made {
+        lists.push(one?)?;
+    }
+    Ok(lists)
+}
+
+/// The calls of all lists, which are so many, one list after another.
+fn joined(alloc: Global, lists: Vec<Vec<Keyed>>, count: usize) -> Result<Vec<Keyed>, NoMemory>
+    ensures { IfOk result (λ all. all.items ≡ flat_map (λ v. v.items) lists.items) }
+{
+    let mut all = Vec::with_capacity(alloc, count)?;
+    for mut list in lists {
+        all.append(&mut list)?;
+    }
+    Ok(all)
+}
+
+/// All calls with their keys, process by process.
+fn keyed_by_threads<R: Threads + Sync>(
+    rt: &R,
+    alloc: Global,
+    book: &Book,
+    closing: &Closing,
+    order: &[Numbered],
+    starts: &[Vec<u64>],
+) -> Result<Vec<Keyed>, NoMemory>
+    requires coherent { Coherent book.now closing.now }
+    requires order { published_in closing.now order.now ≡ journal_order closing.now }
+    requires records { AreRecords closing.now order.now }
+    requires starts { HasRoundPositions (length book.now.accounts) (journal_order closing.now)
+        (journal_order closing.now) (map (λ v. v.items) starts.now) }
+    requires small { length (journal_order closing.now) ≤ 2 ^ 36 }
+    requires few { All (λ receipts. length receipts < 2 ^ 32) closing.now.receipts }
+    ensures { IfOk result (λ all. all.items ≡ all_keyed (all_keys closing.now)) }
+{
+    let rows = own_positions(alloc, closing.processes(), order)?;
+    let own = rows.as_slice();
+    let made = map_indices(
+        rt,
+        alloc,
+        closing.processes() as usize,
+        &|p: usize| -> Result<Vec<Keyed>, NoMemory>
+            requires { MayBeKeyed closing.now p (map (λ v. v.items) own.now) (map (λ v. v.items) starts.now) }
+            ensures { IfOk result (λ all. all.items
+                ≡ keyed_of p (keys_of p (journal_order closing.entry.now)
+                (receipts_of closing.entry.now p))) }
+        { calls_of_process(alloc, closing, p as u32, own, starts) },
+    )?;
+    let lists = all_done(alloc, made)?;
+    joined(alloc, lists, count_receipts(closing))
+}
+
+/// The calls of a closing as `journal_calls` has them, in the same order. A thread gives each process's their keys, where threads can be
+/// had.
+pub fn journal_calls_by_threads<R: Threads + Sync>(
+    rt: &R,
+    alloc: Global,
+    book: &Book,
+    closing: &Closing,
+) -> Result<Vec<CallAt>, NoMemory>
+    requires coherent { Coherent book.now closing.now }
+    requires few { All (λ receipts. length receipts < 2 ^ 32) closing.now.receipts }
+    ensures calls { IfOk result (λ calls. AreCallsOf closing.now calls.items) }
+    ensures lines { IfOk result
+        (λ calls. map (line_at closing.now) calls.items ≡ journal_lines closing.now) }
+{
+    let order = publications(alloc, book, closing)?;
+    let starts = round_positions(alloc, book, closing, order.as_slice())?;
+    let all = keyed_by_threads(
+        rt,
+        alloc,
+        book,
+        closing,
+        order.as_slice(),
+        starts.as_slice(),
+    )?;
+    in_key_order(alloc, book, closing, all.as_slice())
+}
