@@ -119,12 +119,15 @@ Contains-swapped xs ys x there =
     ]
 
 -- the views of the records, the fronts of the receipts, and the lengths of the logs, which count all
+pub AreHeld-views_first : (c : ClosingTerms) (fronts : List (Option (List ℕ))) → AreByPlace (sum (log_lengths c)) (record_views c ++ receipt_fronts c) fronts
+    → AreHeld c fronts
+AreHeld-views_first c fronts so = AreByPlace-beyond (sum (log_lengths c)) (record_views c ++ receipt_fronts c) fronts (log_lengths c) so (omega arith)
+
+-- in whichever order
 pub AreHeld-by_place : (c : ClosingTerms) (fronts : List (Option (List ℕ))) → AreByPlace (sum (log_lengths c)) (receipt_fronts c ++ record_views c) fronts → AreHeld c fronts
 AreHeld-by_place c fronts so =
-    let total = sum (log_lengths c) in
-    let swapped : AreByPlace total (record_views c ++ receipt_fronts c) fronts = record {
+    AreHeld-views_first c fronts (record {
       sized = so.sized;
       held = λ k view is. (Contains-swapped (receipt_fronts c) (record_views c) view (so.held k view is).0, (so.held k view is).1);
       all = λ view there. so.all view (Contains-swapped (record_views c) (receipt_fronts c) view there);
-    } in
-    AreByPlace-beyond total (record_views c ++ receipt_fronts c) fronts (log_lengths c) swapped (omega arith)
+    })

@@ -14,6 +14,18 @@ use Rattle.at_journal.specs.Ordered.{all_keyed, all_keys, keyed_of}
 use Rattle.at_journal.specs.declared.keyed.Keyed.{Keyed}
 use Rattle.at_journal.proofs.LineOrder.{get_or-all_keys, length-all_keys}
 
+-- what holds of a list that was made holds of it among all of them
+pub done-at : {T : Type 0} (made : List (Result (Vec T Global) AllocError)) (lists : List (Vec T Global)) (holds : List T → Type 0) (p : ℕ) → made ≡ map Ok lists
+    → p < length made → ((d : Result (Vec T Global) AllocError) → IfOk (get_or made p d) (λ v. holds v.items)) → holds (get_or (map (λ v. v.items) lists) p [])
+done-at {T} made [] holds p all within met = absurd (omega (arith, within, ap (length {A = Result (Vec T Global) AllocError}) all))
+done-at {T} made (v ∷ lists) holds p all within met =
+    let count : length (v ∷ lists) ≡ length made =
+    sym (length-map {A = Vec T Global} {B = Result (Vec T Global) AllocError} (v ∷ lists) Ok) ∙ sym (ap (length {A = Result (Vec T Global) AllocError}) all) in
+    let here : get_or made p (Ok v) ≡ Ok (get_or (v ∷ lists) p v) =
+    ap (λ (l : List (Result (Vec T Global) AllocError)). get_or l p (Ok v)) all ∙ get_or-map Ok (v ∷ lists) p v (Ok v) (omega (arith, within, count)) in
+    subst holds (sym (get_or-map (λ (w : Vec T Global). w.items) (v ∷ lists) p v [] (omega (arith, within, count))))
+    (subst (λ (r : Result (Vec T Global) AllocError). IfOk r (λ w. holds w.items)) here (met (Ok v)))
+
 -- those of a process
 abbrev keyed_at : ClosingTerms → ℕ → List Keyed
 keyed_at c p = keyed_of p (get_or (all_keys c) p [])

@@ -30,3 +30,5 @@ pub mod Choosing
 pub mod TimedOrder
 -- the calls of each process with their keys, made one by one
 mod KeyedByThreads
+-- fronts by their places and calls
+mod NamedFronts

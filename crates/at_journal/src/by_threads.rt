@@ -3,9 +3,12 @@
 //! Most of the time goes to reading receipts that other threads have written. They are read where they lie, and by as many threads as
 //! there are processes.
 
-ghost use Rattle.std.specs.Prelude.{◌≡◌, ◌^◌, ◌<◌, ◌≤◌, length, map, All, IfOk, Ok};
-ghost use Rattle.std.specs.List.{flat_map};
-ghost use Rattle.at_log.specs.ClosingTerms.{receipts_of};
+ghost use Rattle.std.specs.Prelude.{◌≡◌, ◌^◌, ◌<◌, ◌≤◌, length, map, sum, All, IfOk, Ok};
+ghost use Rattle.std.specs.List.{filter_map, flat_map};
+ghost use Rattle.std.specs.Option.{option_copied};
+ghost use Rattle.at_log.specs.ClosingTerms.{log_lengths, receipts_of};
+ghost use Rattle.at_log.specs.HeldFronts.{front_at};
+ghost use Rattle.at_journal.specs.Held.{AreAdded, AreHeld, AreNamed, NameFronts};
 ghost use Rattle.at_log.specs.Coherent.{Coherent};
 ghost use Rattle.at_log.specs.JournalOrder.{journal_lines, journal_order};
 ghost use Rattle.at_log.specs.Told.{keys_of};
@@ -15,15 +18,78 @@ ghost use Rattle.at_journal.specs.Ordered.{all_keyed, all_keys, keyed_of};
 ghost use Rattle.at_journal.specs.Positions.{HasRoundPositions, MayBeKeyed};
 
 use crate::NoMemory;
-use crate::calls::{in_key_order, publications};
+use crate::calls::in_key_order;
+use crate::fronts::put_all_views;
 use crate::keyed::{CallAt, Keyed};
 use crate::lines::{count_receipts, push_calls};
-use crate::order::Numbered;
+use crate::named_fronts::{FrontAt, fronts_named, put_all_named};
+use crate::order::{Numbered, order_of, total_of};
 use crate::positions::{own_positions, round_positions};
+use at_base::Counts;
 use at_ledger::Book;
 use at_log::Closing;
 use std::alloc::Global;
 use std::thread::{Threads, map_indices};
+
+/// Puts the fronts that each list names at their places, unless one is held there.
+fn put_lists<'c>(fronts: &mut Vec<Option<&'c Counts>>, closing: &'c Closing, lists: &[Vec<FrontAt>])
+    requires { AreNamed closing.now (map (λ v. v.items) lists.now) }
+    ensures { AreAdded
+        (flat_map (λ receipts. filter_map (λ r. front_at r.at) receipts) closing.now.receipts)
+        (map option_copied fronts.old.items) (map option_copied fronts.new.items) }
+{
+    for p in 0..closing.processes() {
+        put_all_named(fronts, closing.receipts(p), lists[p as usize].as_slice());
+    }
+}
+
+/// The held fronts by their places. A thread looks at each process's receipts, and most of their places are those of a record's view.
+fn held_by_threads<'c, R: Threads + Sync>(
+    rt: &R,
+    alloc: Global,
+    closing: &'c Closing,
+    total: u64,
+) -> Result<Vec<Option<&'c Counts>>, NoMemory>
+    requires total { total ≡ sum (log_lengths closing.now) }
+    requires few { All (λ receipts. length receipts < 2 ^ 32) closing.now.receipts }
+    ensures { IfOk result (λ fronts. AreHeld closing.now (map option_copied fronts.items)) }
+{
+    let made = map_indices(
+        rt,
+        alloc,
+        closing.processes() as usize,
+        &|p: usize| -> Result<Vec<FrontAt>, NoMemory>
+            requires { (p < 2 ^ 32) × (p < length closing.now.receipts)
+                × (length (receipts_of closing.now p) < 2 ^ 32) }
+            ensures { IfOk result (λ list. NameFronts (receipts_of closing.entry.now p) list.items) }
+        { fronts_named(alloc, closing.receipts(p as u32)) },
+    )?;
+    let lists = all_done(alloc, made)?;
+    let mut fronts = Vec::new(alloc);
+    fronts.resize(total as usize, None)?;
+    put_all_views(&mut fronts, closing);
+    put_lists(&mut fronts, closing, lists.as_slice());
+    Ok(fronts)
+}
+
+/// The publications in their order.
+fn publications_by_threads<R: Threads + Sync>(
+    rt: &R,
+    alloc: Global,
+    book: &Book,
+    closing: &Closing,
+) -> Result<Vec<Numbered>, NoMemory>
+    requires coherent { Coherent book.now closing.now }
+    requires few { All (λ receipts. length receipts < 2 ^ 32) closing.now.receipts }
+    ensures order { IfOk result (λ order. published_in closing.now order.items
+        ≡ journal_order closing.now) }
+    ensures records { IfOk result (λ order. AreRecords closing.now order.items) }
+    ensures small { length (journal_order closing.now) ≤ 2 ^ 36 }
+{
+    let total = total_of(closing);
+    let fronts = held_by_threads(rt, alloc, closing, total)?;
+    order_of(alloc, closing, fronts.as_slice())
+}
 
 /// The calls of a process with their keys.
 fn calls_of_process(
@@ -43,10 +109,10 @@ fn calls_of_process(
 }
 
 /// The lists, if all of them were made.
-fn all_done(
+fn all_done<T: Drop>(
     alloc: Global,
-    made: Vec<Result<Vec<Keyed>, NoMemory>>,
-) -> Result<Vec<Vec<Keyed>>, NoMemory>
+    made: Vec<Result<Vec<T>, NoMemory>>,
+) -> Result<Vec<Vec<T>>, NoMemory>
     ensures { IfOk result (λ lists. made.items ≡ map Ok lists.items) }
 {
     let mut lists = Vec::with_capacity(alloc, made.len())?;
@@ -116,7 +182,7 @@ pub fn journal_calls_by_threads<R: Threads + Sync>(
     ensures lines { IfOk result
         (λ calls. map (line_at closing.now) calls.items ≡ journal_lines closing.now) }
 {
-    let order = publications(alloc, book, closing)?;
+    let order = publications_by_threads(rt, alloc, book, closing)?;
     let starts = round_positions(alloc, book, closing, order.as_slice())?;
     let all = keyed_by_threads(
         rt,

@@ -34,7 +34,7 @@ fn put_views<'c>(fronts: &mut Vec<Option<&'c Counts>>, log: &'c [Record])
 }
 
 /// Puts the front at which a receipt stands at its place, if it stands at one.
-fn put_front_at<'c>(fronts: &mut Vec<Option<&'c Counts>>, at: &'c At)
+pub(crate) fn put_front_at<'c>(fronts: &mut Vec<Option<&'c Counts>>, at: &'c At)
     ensures { AreAdded (cons_option (front_at at.now) []) (map option_copied fronts.old.items)
         (map option_copied fronts.new.items) }
 {
@@ -55,7 +55,7 @@ fn put_fronts<'c>(fronts: &mut Vec<Option<&'c Counts>>, receipts: &'c [Receipt])
 }
 
 /// Puts the views of all logs at their places.
-fn put_all_views<'c>(fronts: &mut Vec<Option<&'c Counts>>, closing: &'c Closing)
+pub(crate) fn put_all_views<'c>(fronts: &mut Vec<Option<&'c Counts>>, closing: &'c Closing)
     ensures { AreAdded (flat_map (λ log. map (λ x. x.view) log) closing.now.logs)
         (map option_copied fronts.old.items) (map option_copied fronts.new.items) }
 {

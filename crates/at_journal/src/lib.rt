@@ -12,6 +12,7 @@ mod calls;
 mod fronts;
 mod keyed;
 mod lines;
+mod named_fronts;
 mod order;
 mod positions;
 

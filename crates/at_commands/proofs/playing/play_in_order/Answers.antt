@@ -6,10 +6,10 @@ use Rattle.at_commands.proofs.JobsRun.{few-calls_in}
 use Rattle.at_commands.proofs.playing.play_in_order.Goals as goal
 
 pub journal_calls_by_threads-requires-clause-coherent : goal.journal_calls_by_threads-requires-clause-coherent
-journal_calls_by_threads-requires-clause-coherent g c = rw (c.book.ensures, c.closing.ensures.closing) c.in_ok-closed.ensures.closed.coherent
+journal_calls_by_threads-requires-clause-coherent g c κs lives = rw (c.book.ensures, c.closing.ensures.closing) c.in_ok-closed.ensures.closed.coherent
 
 pub journal_calls_by_threads-requires-clause-few : goal.journal_calls_by_threads-requires-clause-few
-journal_calls_by_threads-requires-clause-few g c =
+journal_calls_by_threads-requires-clause-few g c κs lives =
     let run = rw c.requires.opened.book_is at c.in_ok-closed.ensures.closed in
     rw c.closing.ensures.closing (few-calls_in (length c.args.book.now.accounts) c.in_ok-closed.closed.closing (rw run.calls_are c.requires.known))
 
