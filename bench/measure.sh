@@ -290,7 +290,7 @@ count_instructions() {
     payments_of 16 "$work/input16"
     valgrind --tool=callgrind --callgrind-out-file="$work/calls" "$proved" run "$work/input16/book.csv" "${payments[@]}" >/dev/null 2>&1
     callgrind_annotate --inclusive=yes --threshold=100 "$work/calls" >"$work/counted" 2>/dev/null
-    for part in "reading at_loading::loading::load::" "running std::thread::fork::chunks_from::" "journal at_journal::calls::journal_calls" "lines at_report::lines::push_line_at"; do
+    for part in "reading at_files::payments::read_payments" "running std::thread::fork::chunks_from::" "order at_journal::order::order_of" "keys at_journal::lines::push_calls" "lines at_report::lines::push_line_at"; do
         echo "instructions of run, ${part% *}: $(grep -m 1 -F -- "${part#* }" "$work/counted" | grep -o '[0-9.]*%' | head -n 1)"
     done
 }
