@@ -9,10 +9,11 @@ book = b"book,2\nprocesses,ann,bob\nlimits,9,9\naccount,joint,300,ann bob\naccou
 def pay(caller):
     with caller:
         receipt = caller.transfer(0, 1, 200)
-        print(caller.process, "was answered", receipt.reply.name, file=sys.stderr)
+        return caller.process, receipt.reply.name
 
 
 with bezglami.Ledger(book) as ledger:
     with ThreadPoolExecutor() as threads:
-        list(threads.map(pay, ledger.callers(calls=9)))
+        for process, reply in threads.map(pay, ledger.callers(calls=9)):
+            print(process, "was answered", reply, file=sys.stderr)
     print(ledger.close(), end="")
