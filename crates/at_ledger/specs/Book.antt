@@ -1,6 +1,7 @@
 -- A checked book: its processes, its accounts in order, and the room that each process has.
 use Rattle.std.specs.Prelude.{◌≡◌, ℕ, ◌+◌, ◌^◌, ◌<◌, ◌≤◌, Bool, List, length, All, sum_by, slice_index_or, Some}
-use Rattle.at_ledger.specs.Account.{AccountTerms, no_account, is_owner_in, rounds_room, rounds_room_of, slot_in, slots_of, IsRisingFrom}
+use Rattle.std.specs.List.{list_any}
+use Rattle.at_ledger.specs.Account.{AccountTerms, no_account, is_owner_in, is_single, rounds_room, rounds_room_of, slot_in, slots_of, IsRisingFrom}
 use Rattle.at_ledger.specs.Limits.{most_accounts, most_own_room, most_owners, most_processes, most_request_room, most_rounds}
 
 -- own_room counts the successful transfers from single accounts that each process has,
@@ -28,6 +29,14 @@ pub record HasSlot (b : BookTerms) (process a slot : ℕ) : Type 0 where
 -- the sum of the openings
 abbrev pub total_of : BookTerms → ℕ
 total_of b = sum_by (λ t. t.opening) b.accounts
+
+-- some account has one owner
+abbrev pub has_single : BookTerms → Bool
+has_single b = list_any is_single b.accounts
+
+-- the book with the least own room that a book has
+abbrev pub with_least_own_room : BookTerms → BookTerms
+with_least_own_room b = record b { own_room = 1 }
 
 -- the rounds of all accounts together
 abbrev pub rounds_of : BookTerms → ℕ

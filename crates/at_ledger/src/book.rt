@@ -42,7 +42,7 @@ impl Model for Book {
 
 impl Book {
     ghost use Rattle.at_ledger.specs.Account.{is_shared, is_single, slot_in, slots_of};
-    ghost use Rattle.at_ledger.specs.Book.{IsBook, account_of, is_owner, log_room_of};
+    ghost use Rattle.at_ledger.specs.Book.{IsBook, account_of, has_single, is_owner, log_room_of, with_least_own_room};
     ghost use Rattle.at_ledger.specs.Draft.{book_fault, book_of};
 
     /// Checks a draft and copies it. A refusal names the first fault: the limits, then the accounts in
@@ -200,6 +200,22 @@ impl Book {
         ensures { result ≡ is_single (account_of self.now account) }
     {
         self.accounts[account as usize].is_single()
+    }
+
+    /// Whether some account has one owner. Where none has, no process uses any of its own room.
+    pub fn has_single(&self) -> bool
+        ensures { result ≡ has_single self.now }
+    {
+        self.accounts.iter().any(|account| account.is_single())
+    }
+
+    /// The same book with the least own room, in memory of its own.
+    pub fn with_least_own_room(&self, alloc: Global) -> Result<Book, NoMemory>
+        ensures { IfOk result (λ b. b ≡ with_least_own_room self.now) }
+    {
+        let mut book = self.copy(alloc)?;
+        book.own_room = 1;
+        Ok(book)
     }
 
     /// The same book, in memory of its own.
