@@ -1,5 +1,5 @@
 -- A checked book: its processes, its accounts in order, and the room that each process has.
-use Rattle.std.specs.Prelude.{◌≡◌, ℕ, ◌+◌, ◌^◌, ◌<◌, ◌≤◌, Bool, List, length, All, sum_by, slice_index_or, Some}
+use Rattle.std.specs.Prelude.{◌≡◌, ℕ, ◌+◌, ◌^◌, ◌<◌, ◌≤◌, Bool, List, length, All, sum_by, slice_index_or, Some, if◌then◌else◌}
 use Rattle.std.specs.List.{list_any}
 use Rattle.at_ledger.specs.Account.{AccountTerms, no_account, is_owner_in, is_single, rounds_room, rounds_room_of, slot_in, slots_of, IsRisingFrom}
 use Rattle.at_ledger.specs.Limits.{most_accounts, most_own_room, most_owners, most_processes, most_request_room, most_rounds}
@@ -34,9 +34,9 @@ total_of b = sum_by (λ t. t.opening) b.accounts
 abbrev pub has_single : BookTerms → Bool
 has_single b = list_any is_single b.accounts
 
--- the book with the least own room that a book has
-abbrev pub with_least_own_room : BookTerms → BookTerms
-with_least_own_room b = record b { own_room = 1 }
+-- the book with the own room that can be used: the least that a book has, where no account has one owner
+abbrev pub with_usable_room : BookTerms → BookTerms
+with_usable_room b = record b { own_room = if has_single b then b.own_room else 1 }
 
 -- the rounds of all accounts together
 abbrev pub rounds_of : BookTerms → ℕ

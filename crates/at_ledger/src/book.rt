@@ -42,7 +42,7 @@ impl Model for Book {
 
 impl Book {
     ghost use Rattle.at_ledger.specs.Account.{is_shared, is_single, slot_in, slots_of};
-    ghost use Rattle.at_ledger.specs.Book.{IsBook, account_of, has_single, is_owner, log_room_of, with_least_own_room};
+    ghost use Rattle.at_ledger.specs.Book.{IsBook, account_of, has_single, is_owner, log_room_of, with_usable_room};
     ghost use Rattle.at_ledger.specs.Draft.{book_fault, book_of};
 
     /// Checks a draft and copies it. A refusal names the first fault: the limits, then the accounts in
@@ -202,19 +202,22 @@ impl Book {
         self.accounts[account as usize].is_single()
     }
 
-    /// Whether some account has one owner. Where none has, no process uses any of its own room.
-    pub fn has_single(&self) -> bool
+    /// Whether some account has one owner.
+    fn has_single(&self) -> bool
         ensures { result ≡ has_single self.now }
     {
         self.accounts.iter().any(|account| account.is_single())
     }
 
-    /// The same book with the least own room, in memory of its own.
-    pub fn with_least_own_room(&self, alloc: Global) -> Result<Book, NoMemory>
-        ensures { IfOk result (λ b. b ≡ with_least_own_room self.now) }
+    /// The same book with the own room that can be used, in memory of its own. Where no account has one owner no process uses any, and a
+    /// book has at least 1.
+    pub fn with_usable_room(&self, alloc: Global) -> Result<Book, NoMemory>
+        ensures { IfOk result (λ b. b ≡ with_usable_room self.now) }
     {
         let mut book = self.copy(alloc)?;
-        book.own_room = 1;
+        if !self.has_single() {
+            book.own_room = 1;
+        }
         Ok(book)
     }
 
