@@ -1,5 +1,5 @@
 -- Where the records of a closing stand in the order of its publications.
-use Rattle.std.specs.Prelude.{◌≡◌, ℕ, ◌^◌, ◌<◌, ◌≤◌, ◌==◌, ◌++◌, List, [], ◌∷◌, length, filter, slice_index, slice_index_or, slice_set, ⊤, if◌then◌else◌, true}
+use Rattle.std.specs.Prelude.{◌≡◌, ℕ, ◌^◌, ◌<◌, ◌≤◌, ◌==◌, ◌++◌, List, [], ◌∷◌, length, filter, slice_index, slice_index_or, slice_set, All, ⊤, if◌then◌else◌, true}
 use Rattle.std.specs.List.{range_with_len}
 use Rattle.at_history.specs.Publications.{count_of}
 use Rattle.at_history.specs.Rounds.{rounds}
@@ -7,13 +7,15 @@ use Rattle.at_history.specs.declared.publication.Entry.{Entry}
 use Rattle.at_history.specs.declared.publication.Entry.TheVariants.{Own, Round}
 use Rattle.at_history.specs.declared.publication.Publication.{Publication}
 use Rattle.at_log.specs.ClosingTerms.{ClosingTerms, receipts_of}
+use Rattle.at_log.specs.Coherent.{Coherent}
 use Rattle.at_log.specs.JournalOrder.{journal_order}
 use Rattle.at_log.specs.Receipts.{is_success, receipt_at}
+use Rattle.at_ledger.specs.Book.{BookTerms}
 use Rattle.at_ledger.specs.Call.{first_account}
 use Rattle.at_log.specs.Told.{own_position, round_position}
 use Rattle.at_log.specs.declared.receipt.At.{At}
 use Rattle.at_log.specs.declared.receipt.Receipt.{Receipt}
-use Rattle.at_journal.specs.Order.{no_number}
+use Rattle.at_journal.specs.Order.{AreRecords, no_number, published_in}
 use Rattle.at_journal.specs.declared.order.Numbered.{Numbered}
 
 -- where those of a process stand
@@ -69,3 +71,12 @@ pub record MayBeKeyed (c : ClosingTerms) (process : ℕ) (own starts : List (Lis
   pub found : (i : ℕ) → i < length (receipts_of c process)
       → HasStarts process (journal_order c) (slice_index_or own process []) starts (receipt_at (receipts_of c process) i)
   pub small : length (journal_order c) ≤ 2 ^ 36
+
+-- all calls of a closing can be given their keys: these are its records in the order of its publications, and so rounds begin in it
+pub record MayAllBeKeyed (b : BookTerms) (c : ClosingTerms) (order : List Numbered) (starts : List (List ℕ)) : Type 0 where
+  pub coherent : Coherent b c
+  pub records : AreRecords c order
+  pub order_is : published_in c order ≡ journal_order c
+  pub starts_are : HasRoundPositions (length b.accounts) (journal_order c) (journal_order c) starts
+  pub small : length (journal_order c) ≤ 2 ^ 36
+  pub few : All (λ receipts. length receipts < 2 ^ 32) c.receipts

@@ -15,7 +15,7 @@ ghost use Rattle.at_log.specs.Told.{keys_of};
 ghost use Rattle.at_journal.specs.Calls.{AreCallsOf, line_at};
 ghost use Rattle.at_journal.specs.Order.{AreRecords, published_in};
 ghost use Rattle.at_journal.specs.Ordered.{all_keyed, all_keys, keyed_of};
-ghost use Rattle.at_journal.specs.Positions.{HasRoundPositions, MayBeKeyed};
+ghost use Rattle.at_journal.specs.Positions.{MayAllBeKeyed, MayBeKeyed};
 
 use crate::NoMemory;
 use crate::calls::in_key_order;
@@ -142,13 +142,7 @@ fn keyed_by_threads<R: Threads + Sync>(
     order: &[Numbered],
     starts: &[Vec<u64>],
 ) -> Result<Vec<Keyed>, NoMemory>
-    requires coherent { Coherent book.now closing.now }
-    requires order { published_in closing.now order.now ≡ journal_order closing.now }
-    requires records { AreRecords closing.now order.now }
-    requires starts { HasRoundPositions (length book.now.accounts) (journal_order closing.now)
-        (journal_order closing.now) (map (λ v. v.items) starts.now) }
-    requires small { length (journal_order closing.now) ≤ 2 ^ 36 }
-    requires few { All (λ receipts. length receipts < 2 ^ 32) closing.now.receipts }
+    requires { MayAllBeKeyed book.now closing.now order.now (map (λ v. v.items) starts.now) }
     ensures { IfOk result (λ all. all.items ≡ all_keyed (all_keys closing.now)) }
 {
     let rows = own_positions(alloc, closing.processes(), order)?;

@@ -2,14 +2,12 @@
 
 ghost use Rattle.std.specs.Prelude.{◌≡◌, ℕ, ◌+◌, ◌*◌, ◌++◌, ◌^◌, ◌<◌, ◌≤◌, [], length, map, slice_index, slice_index_or, All, IfOk, OnOk};
 ghost use Rattle.at_log.specs.ClosingTerms.{receipts_of};
-ghost use Rattle.at_log.specs.Coherent.{Coherent};
 ghost use Rattle.at_log.specs.JournalOrder.{journal_order};
 ghost use Rattle.at_log.specs.Receipts.{is_success, receipt_at};
 ghost use Rattle.at_log.specs.Told.{key_of, keys_of};
 ghost use Rattle.at_journal.specs.Calls.{AreCallsOf, line_at};
-ghost use Rattle.at_journal.specs.Order.{AreRecords, published_in};
 ghost use Rattle.at_journal.specs.Ordered.{all_keyed, all_keys, keyed_of};
-ghost use Rattle.at_journal.specs.Positions.{HasStarts, HasRoundPositions};
+ghost use Rattle.at_journal.specs.Positions.{HasStarts, MayAllBeKeyed};
 
 use crate::NoMemory;
 use crate::keyed::{CallAt, Keyed};
@@ -114,13 +112,7 @@ pub(crate) fn keyed_calls(
     order: &[Numbered],
     starts: &[Vec<u64>],
 ) -> Result<Vec<Keyed>, NoMemory>
-    requires coherent { Coherent book.now closing.now }
-    requires order { published_in closing.now order.now ≡ journal_order closing.now }
-    requires records { AreRecords closing.now order.now }
-    requires starts { HasRoundPositions (length book.now.accounts) (journal_order closing.now)
-        (journal_order closing.now) (map (λ v. v.items) starts.now) }
-    requires small { length (journal_order closing.now) ≤ 2 ^ 36 }
-    requires few { All (λ receipts. length receipts < 2 ^ 32) closing.now.receipts }
+    requires { MayAllBeKeyed book.now closing.now order.now (map (λ v. v.items) starts.now) }
     ensures { IfOk result (λ all. all.items ≡ all_keyed (all_keys closing.now)) }
 {
     let mut all = Vec::with_capacity(alloc, count_receipts(closing))?;

@@ -1,6 +1,7 @@
 //! Closed ledgers.
 
 ghost use Rattle.std.specs.Prelude.{◌≡◌};
+ghost use Rattle.at_ledger.specs.Book.{with_usable_room};
 ghost use Rattle.at_log.specs.Coherent.{Coherent};
 
 use crate::ledger::Ledger;
@@ -9,7 +10,8 @@ use at_log::Closing;
 use std::marker::Model;
 use std::snapshot::Snapshot;
 
-/// What a ledger leaves when it is closed: its book, and its closing, which is coherent. Only `Ledger::close` makes one.
+/// What a ledger leaves when it is closed: its book, and its closing, which is coherent. Only `Ledger::close` makes one, and `of_whole_book`
+/// changes no more of it than the own room of the book.
 #[derive(Drop)]
 pub struct Closed {
     pub(crate) book: Book,
@@ -38,7 +40,29 @@ impl Closed {
         &self.closing
     }
 
-    /// The book that the ledger was made for.
+    /// The same of the whole book, where the ledger was made for this with the own room that can be used alone. On both each call is
+    /// answered the same.
+    pub fn of_whole_book(self, book: Book) -> Closed
+        requires { self.book ≡ with_usable_room book }
+        ensures id { result.id ≡ self.id }
+        ensures book { result.book ≡ book }
+        ensures closing { result.closing ≡ self.closing }
+        ensures coherent { Coherent result.book result.closing }
+    {
+        let Closed {
+            book: _,
+            closing,
+            ledger,
+        } = self;
+        book.known();
+        Closed {
+            book,
+            closing,
+            ledger,
+        }
+    }
+
+    /// The book that the ledger was made for, or the whole of it that `of_whole_book` was given.
     pub fn book(&self) -> &Book
         ensures { result.now ≡ self.now.book }
     {

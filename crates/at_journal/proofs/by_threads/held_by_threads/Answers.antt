@@ -1,4 +1,4 @@
-use Rattle.std.proofs.Common.{◌≡◌, ◌++◌, ◌-◌, [], List, Vec, arith, length, map, refl, replicate, subst, sum, sym, take, ap, ◌∙◌, Result, Ok}
+use Rattle.std.proofs.Common.{◌≡◌, ◌++◌, ◌-◌, [], List, Vec, arith, length, map, refl, replicate, subst, sym, take, ap, ◌∙◌, Result, Ok}
 use Rattle.std.proofs.Math.Seq.{take-nil}
 use Rattle.std.proofs.lemmas.List.{length-map}
 use Rattle.std.specs.Global.{Global}

@@ -1,5 +1,4 @@
-use Rattle.std.proofs.Common.{◌≡◌, ◌<◌, [], ap, arith, get_or, length, map, subst, sym, ◌∙◌, List, Vec, ℕ}
-use Rattle.std.proofs.lemmas.List.{length-map}
+use Rattle.std.proofs.Common.{◌≡◌, ◌<◌, [], arith, get_or, length, map, subst, sym, ◌∙◌, List, Vec, ℕ}
 use Rattle.std.proofs.lemmas.Result.{IfOk-weaker}
 use Rattle.std.specs.Global.{Global}
 use Rattle.std.specs.List.{flat_map}
@@ -25,7 +24,7 @@ map_indices-requires-after_bounds g c κs lives = λ p within.
       found = λ i inside.
           HasStarts-receipt c.args.book.now closing p (get_or (map (λ v. v.items) rows) p []) starts c.requires.coherent
           (subst (HasOwnPositions p (journal_order closing)) (sym (c.in_ok-rows.ensures.each p (omega (arith, known, c.processes.ensures.receipts))))
-          (HasOwnPositions-positions_of p closing c.args.order.now (journal_order closing) c.requires.order c.requires.records)) c.requires.starts i
+          (HasOwnPositions-positions_of p closing c.args.order.now (journal_order closing) c.requires.order_is c.requires.records)) c.requires.starts_are i
           (omega (arith, known, c.requires.coherent.receipts)) inside;
       small = c.requires.small;
     } in

@@ -32,9 +32,9 @@ push_calls-requires-clause-starts c =
     ∙ (sym (ap (λ v. v.items) c.index.ensures) ∙ sym c.as_slice.ensures.value) in
     let own : HasOwnPositions p (journal_order closing) c.as_slice.result.now =
     subst (HasOwnPositions p (journal_order closing)) (sym (c.in_ok-own.ensures.each p known) ∙ row)
-    (HasOwnPositions-positions_of p closing c.args.order.now (journal_order closing) c.requires.order c.requires.records) in
+    (HasOwnPositions-positions_of p closing c.args.order.now (journal_order closing) c.requires.order_is c.requires.records) in
     λ i within.
-    HasStarts-receipt c.args.book.now closing p c.as_slice.result.now (map (λ v. v.items) c.args.starts.now) c.requires.coherent own c.requires.starts i
+    HasStarts-receipt c.args.book.now closing p c.as_slice.result.now (map (λ v. v.items) c.args.starts.now) c.requires.coherent own c.requires.starts_are i
     (omega (arith, c.processes-p-end.ensures)) within
 
 pub loop-p-preserved : goal.loop-p-preserved

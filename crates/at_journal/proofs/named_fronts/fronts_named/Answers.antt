@@ -1,4 +1,4 @@
-use Rattle.std.proofs.Common.{◌≡◌, ◌+◌, List, arith, sym, subst}
+use Rattle.std.proofs.Common.{◌+◌, List, arith, sym, subst}
 use Rattle.at_journal.specs.declared.named_fronts.FrontAt.{FrontAt}
 use Rattle.at_journal.proofs.NamedFronts.{NameFirst, NameFirst-more}
 use Rattle.at_journal.proofs.named_fronts.fronts_named.Goals as goal
