@@ -4,7 +4,7 @@ use Rattle.std.specs.Option.{is_some, option_to_list}
 use Rattle.at_board.specs.Knowledge.Seats.{BoardTerms}
 use Rattle.at_journal.specs.Calls.{AreCallsOf, calls_in, line_at}
 use Rattle.at_journal.specs.declared.keyed.CallAt.{CallAt}
-use Rattle.at_ledger.specs.Book.{BookTerms, total_of}
+use Rattle.at_ledger.specs.Book.{BookTerms, total_of, with_usable_room}
 use Rattle.at_ledger.specs.Call.{IsLineOn}
 use Rattle.at_ledger.specs.Run.{Legal, Whole, last_state}
 use Rattle.at_ledger.specs.declared.call.Call.{Call}
@@ -17,9 +17,9 @@ use Rattle.at_object.specs.Passes.{AreNewPasses, IsNewPass, PassTerms}
 use Rattle.at_workers.specs.Costs.{CostTerms, TakeCalls}
 use Rattle.at_workers.specs.Jobs.{IsReady, JobTerms}
 
--- this is a ledger of the book, and there is a new pass on it for each process
+-- this is a ledger of the book with the own room that can be used, and there is a new pass on it for each process
 pub record HasNewPasses (b : BookTerms) (ledger : BoardTerms) (passes : List PassTerms) : Type 0 where
-  pub book_is : ledger.book ≡ b
+  pub book_is : ledger.book ≡ with_usable_room b
   pub passes_are : AreNewPasses ledger passes
 
 -- the calls of the files were made on the closed ledger, and no others: it has a receipt for each call of each process's file, in the

@@ -17,6 +17,15 @@ use at_report::Status;
 use std::alloc::Global;
 use std::thread::{Threads, join_mut};
 
+/// A new ledger of the book with its passes. A board takes memory for all room that its book has, so the ledger is made for the own room
+/// that can be used.
+fn open(alloc: Global, book: &Book) -> Result<(Ledger, Vec<Pass>), NoMemory>
+    ensures { IfOk result (λ r. HasNewPasses book.now r.0 r.1.items) }
+{
+    let usable = book.with_usable_room(alloc)?;
+    Ledger::new(alloc, &usable)
+}
+
 /// A new ledger of the book with its passes, and the calls of the payment files, each of which may be refused. The files are read in
 /// this thread, and the ledger is made in another, or after them where no thread can be had.
 pub(crate) fn open_and_load<R: Threads, F: Shelf>(
@@ -55,7 +64,7 @@ pub(crate) fn open_and_load<R: Threads, F: Shelf>(
 {
     join_mut(
         rt,
-        &mut move || Ledger::new(alloc, book),
+        &mut move || open(alloc, book),
         &mut || load_payments(alloc, book, names, form, shelf),
     )
 }

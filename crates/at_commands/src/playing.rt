@@ -247,6 +247,24 @@ pub fn play<R: Threads + Sync, G: Gate + Sync>(
     Ok((closed, lines))
 }
 
+/// Makes the calls of each file on this new ledger of the book, and closes it.
+fn closed_opened<R: Threads + Sync, G: Gate + Sync>(
+    rt: &R,
+    alloc: Global,
+    book: &Book,
+    opened: (Ledger, Vec<Pass>),
+    files: Vec<Vec<Call>>,
+    gate: &G,
+) -> Result<Closed, NoMemory>
+    requires opened { HasNewPasses book.now opened.0 opened.1.items }
+    requires count { length files.items ≡ book.now.processes }
+    requires known { All (IsPlayable (length book.now.accounts)) (contents_of files.items) }
+    ensures { IfOk result (λ closed. IsClosedAfter book.now (contents_of files.items) closed) }
+{
+    let (closed, _costs) = closed_on(rt, alloc, opened, files, false, gate)?;
+    Ok(closed.of_whole_book(book.copy(alloc)?))
+}
+
 /// Makes the calls of each file on this new ledger of the book as `play` does. What is left are the closed ledger, and its calls in the
 /// order of its journal.
 pub(crate) fn play_in_order<R: Threads + Sync, G: Gate + Sync>(
@@ -263,7 +281,7 @@ pub(crate) fn play_in_order<R: Threads + Sync, G: Gate + Sync>(
     ensures { IfOk result (λ r. IsPlayedInOrder book.now (contents_of files.items) r.0 r.1.items) }
 {
     book.known();
-    let (closed, _costs) = closed_on(rt, alloc, opened, files, false, gate)?;
+    let closed = closed_opened(rt, alloc, book, opened, files, gate)?;
     let calls = journal_calls_by_threads(rt, alloc, closed.book(), closed.closing())?;
     Ok((closed, calls))
 }

@@ -30,15 +30,32 @@ Stands-made before after earlier receipts r stands told made =
     let with : List Receipt → Type 0 = λ list. Stands after list in
     subst with (sym made) (told earlier stands)
 
--- the call that is made next names accounts as all do
-pub IsCallOn-next : (ledger : BoardTerms) (pass : PassTerms) (list : List Receipt) (n : ℕ) (waits : Receipt) → IsPassOf pass ledger
-    → All (IsCallOn (length pass.knows.book.accounts)) (calls_of list) → n < length list → waits ≡ get_or list n waits
-    → IsCallOn (length ledger.book.accounts) waits.call
-IsCallOn-next ledger pass list n waits of all within is =
-    let on : BookTerms → Type 0 = λ b. IsCallOn (length b.accounts) waits.call in
-    let here : get_or (calls_of list) n waits.call ≡ waits.call =
-    get_or-map (λ (r : Receipt). r.call) list n waits waits.call within ∙ ap (λ (r : Receipt). r.call) (sym is) in
-    subst on of.book (subst (IsCallOn (length pass.knows.book.accounts)) here (all n waits.call (omega (arith, within, length-map list (λ (r : Receipt). r.call)))))
+-- a job whose first n calls were made, seen as its callers see it, of which others are left
+module _ (ledger : BoardTerms) (pass : PassTerms) (list : List Receipt) (n : ℕ) (costs : Option (List CostTerms)) (job : JobTerms)
+    (is : record { pass = pass; calls = calls_of list; receipts = take n list; costs = costs } ≡ job)
+    (more : length job.receipts < length job.calls) (made : length (take n list) ≡ n) where
+  -- the next one waits in the list
+  pub next-within : n < length list
+  next-within =
+      omega (
+        arith,
+        more,
+        ap (λ (t : JobTerms). length t.receipts) is,
+        ap (λ (t : JobTerms). length t.calls) is,
+        made,
+        length-map list (λ (r : Receipt). r.call),
+      )
+
+  -- and names accounts as all do
+  pub IsCallOn-next : (waits : Receipt) → IsPassOf job.pass ledger → All (IsCallOn (length pass.knows.book.accounts)) (calls_of list)
+      → waits ≡ get_or list n waits → IsCallOn (length ledger.book.accounts) waits.call
+  IsCallOn-next waits of all at =
+      let was : IsPassOf pass ledger = subst (λ (t : JobTerms). IsPassOf t.pass ledger) (sym is) of in
+      let on : BookTerms → Type 0 = λ b. IsCallOn (length b.accounts) waits.call in
+      let here : get_or (calls_of list) n waits.call ≡ waits.call =
+      get_or-map (λ (r : Receipt). r.call) list n waits waits.call next-within ∙ ap (λ (r : Receipt). r.call) (sym at) in
+      subst on was.book
+      (subst (IsCallOn (length pass.knows.book.accounts)) here (all n waits.call (omega (arith, next-within, length-map list (λ (r : Receipt). r.call)))))
 
 -- one more cost is noted
 pub HasCosts-noted : (earlier : List Receipt) (r : Receipt) (room : ℕ) (before after : Vec CostTerms Global) (cost : CostTerms)

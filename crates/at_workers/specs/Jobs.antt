@@ -1,5 +1,5 @@
 -- Jobs as callers see them, what the type of a job keeps, and what running it leaves.
-use Rattle.std.specs.Prelude.{◌≡◌, ℕ, ◌^◌, ◌<◌, ◌≤◌, ◌++◌, Bool, List, [], ◌∷◌, length, slice_index_or, All, IfSome, Option, Vec}
+use Rattle.std.specs.Prelude.{◌≡◌, ℕ, ◌^◌, ◌<◌, ◌≤◌, ◌++◌, List, [], ◌∷◌, length, slice_index_or, All, IfSome, Option, Vec}
 use Rattle.std.specs.Global.{Global}
 use Rattle.std.specs.Option.{is_some}
 use Rattle.std.specs.Vec.{vec_capacity}

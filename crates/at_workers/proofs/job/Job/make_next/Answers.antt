@@ -1,48 +1,29 @@
-use Rattle.std.proofs.Common.{◌≡◌, ◌<◌, ◌++◌, ◌∷◌, [], ap, length, refl, set, subst, sym, take, List, Option, Some, None, ◌+◌, arith}
+use Rattle.std.proofs.Common.{◌≡◌, ◌++◌, ◌∷◌, [], ap, length, refl, set, subst, sym, take, List, Some, ◌+◌}
 use Rattle.std.specs.Prelude.{IfSome}
 use Rattle.std.specs.Option.{option_map}
-use Rattle.std.proofs.lemmas.List.{length-map}
 use Rattle.at_ledger.specs.declared.call.Call.{Call}
 use Rattle.at_log.specs.Receipts.{calls_of}
 use Rattle.at_log.specs.declared.receipt.Receipt.{Receipt}
-use Rattle.at_object.specs.Passes.{IsPassOf, PassTerms}
+use Rattle.at_object.specs.Passes.{IsPassOf}
 use Rattle.at_workers.specs.Costs.{CostTerms, IsCalled, cost_of, costs_with}
-use Rattle.at_workers.specs.Jobs.{HasCosts, IsJob, JobTerms, MakesNext}
-use Rattle.at_workers.proofs.Played.{HasCosts-noted, IsCallOn-next, IsJob-called, MakesNext-called}
+use Rattle.at_workers.specs.Jobs.{HasCosts, JobTerms, MakesNext}
+use Rattle.at_workers.proofs.Played.{HasCosts-noted, IsCallOn-next, IsJob-called, MakesNext-called, next-within}
 use Rattle.at_workers.proofs.job.Job.make_next.Goals.{in-None, in-Some}
 use Rattle.at_workers.proofs.job.Job.make_next.Goals as goal
 
 pub call_told-receipt-requires-clause-accounts : goal.call_told-receipt-requires-clause-accounts
 call_told-receipt-requires-clause-accounts g c =
-    let list : List Receipt = c.self.inside.receipts.items in
-    let within : c.self.inside.made < length list =
-    omega (
-      arith,
-      c.requires.more,
-      ap (λ (t : JobTerms). length t.receipts) c.self.view_is,
-      ap (λ (t : JobTerms). length t.calls) c.self.view_is,
-      c.self.invariant.made_are,
-      length-map list (λ (r : Receipt). r.call),
-    ) in
+    let inside = c.self.inside in
     rw c.copy-call.ensures
-    (IsCallOn-next c.args.ledger.now c.self.inside.pass list c.self.inside.made c.index.result.now
-    (subst (λ (t : JobTerms). IsPassOf t.pass c.args.ledger.now) (sym c.self.view_is) c.requires.of_ledger) c.self.invariant.calls_on within c.index.ensures)
+    (IsCallOn-next c.args.ledger.now inside.pass inside.receipts.items inside.made (option_map (λ v. v.items) inside.costs) c.args.self.now c.self.view_is
+    c.requires.more c.self.invariant.made_are c.index.result.now c.requires.of_ledger c.self.invariant.calls_on c.index.ensures)
 
 pub call_noted-receipt-requires-clause-accounts : goal.call_noted-receipt-requires-clause-accounts
 call_noted-receipt-requires-clause-accounts g c =
-    let list : List Receipt = c.self.inside.receipts.items in
-    let within : c.self.inside.made < length list =
-    omega (
-      arith,
-      c.requires.more,
-      ap (λ (t : JobTerms). length t.receipts) c.self.view_is,
-      ap (λ (t : JobTerms). length t.calls) c.self.view_is,
-      c.self.invariant.made_are,
-      length-map list (λ (r : Receipt). r.call),
-    ) in
+    let inside = c.self.inside in
     rw c.copy-call.ensures
-    (IsCallOn-next c.args.ledger.now c.self.inside.pass list c.self.inside.made c.index.result.now
-    (subst (λ (t : JobTerms). IsPassOf t.pass c.args.ledger.now) (sym c.self.view_is) c.requires.of_ledger) c.self.invariant.calls_on within c.index.ensures)
+    (IsCallOn-next c.args.ledger.now inside.pass inside.receipts.items inside.made (option_map (λ v. v.items) inside.costs) c.args.self.now c.self.view_is
+    c.requires.more c.self.invariant.made_are c.index.result.now c.requires.of_ledger c.self.invariant.calls_on c.index.ensures)
 
 pub invariant_of-self : goal.invariant_of-self
 invariant_of-self g c =
@@ -50,17 +31,9 @@ invariant_of-self g c =
     let ledger = c.args.ledger.now in
     let list : List Receipt = inside.receipts.items in
     let waits : Receipt = c.index.result.now in
-    let within : inside.made < length list =
-    omega (
-      arith,
-      c.requires.more,
-      ap (λ (t : JobTerms). length t.receipts) c.self.view_is,
-      ap (λ (t : JobTerms). length t.calls) c.self.view_is,
-      c.self.invariant.made_are,
-      length-map list (λ (r : Receipt). r.call),
-    ) in
-    let was : IsPassOf inside.pass ledger = subst (λ (t : JobTerms). IsPassOf t.pass ledger) (sym c.self.view_is) c.requires.of_ledger in
     let costs = option_map (λ v. v.items) inside.costs in
+    let within = next-within ledger inside.pass list inside.made costs c.args.self.now c.self.view_is c.requires.more c.self.invariant.made_are in
+    let was : IsPassOf inside.pass ledger = subst (λ (t : JobTerms). IsPassOf t.pass ledger) (sym c.self.view_is) c.requires.of_ledger in
     elim c.match-self.branch [
       | in-None w ↦
           let told = w.call_told-receipt in
@@ -88,16 +61,8 @@ returns g c =
     let ledger = c.args.ledger.now in
     let list : List Receipt = inside.receipts.items in
     let waits : Receipt = c.index.result.now in
-    let within : inside.made < length list =
-    omega (
-      arith,
-      c.requires.more,
-      ap (λ (t : JobTerms). length t.receipts) c.self.view_is,
-      ap (λ (t : JobTerms). length t.calls) c.self.view_is,
-      c.self.invariant.made_are,
-      length-map list (λ (r : Receipt). r.call),
-    ) in
     let costs = option_map (λ v. v.items) inside.costs in
+    let within = next-within ledger inside.pass list inside.made costs c.args.self.now c.self.view_is c.requires.more c.self.invariant.made_are in
     let left : JobTerms = record {
       pass = c.match-self.self-inside.pass;
       calls = calls_of (set c.match-self.self-inside.receipts.items inside.made c.match-self.receipt);
