@@ -8,10 +8,11 @@ ghost use Rattle.at_ledger.specs.Call.{IsCallOn};
 ghost use Rattle.at_log.specs.Receipts.{calls_of, lists_in};
 ghost use Rattle.at_object.specs.Closings.{AreAccountedFor};
 ghost use Rattle.at_object.specs.Passes.{AreNewPasses, Stands};
-ghost use Rattle.at_commands.specs.Running.{AreCosts, AreJobsFor, HasNewPasses, IsClosedAfter, IsPlayed, IsPlayedInOrder, IsPlayedNoting, costs_in};
+ghost use Rattle.at_commands.specs.Running.{AreCosts, AreJobsFor, HasNewPasses, IsClosedAfter, IsPlayed, IsPlayedInOrder, IsPlayedNoting, costs_in, journal_of};
+ghost use Rattle.at_journal.specs.Calls.{AreCallsOf, line_at};
 ghost use Rattle.at_workers.specs.Jobs.{JobTerms};
 
-use at_journal::{CallAt, journal, journal_calls_by_threads};
+use at_journal::{CallAt, journal, journal_calls, journal_calls_by_threads};
 use at_ledger::{Book, Call, Line};
 use at_log::Receipt;
 use at_object::{Closed, Ledger, NoMemory, Pass};
@@ -265,6 +266,39 @@ fn closed_opened<R: Threads + Sync, G: Gate + Sync>(
     Ok(closed.of_whole_book(book.copy(alloc)?))
 }
 
+/// So many calls are put in order by threads. To start these takes longer than they save where there are fewer.
+const MANY_CALLS: usize = 65_536;
+
+/// Whether the files have so many calls together.
+fn have_many(files: &[Vec<Call>]) -> bool {
+    let mut count = 0usize;
+    for file in files {
+        count = count.saturating_add(file.len());
+    }
+    count >= MANY_CALLS
+}
+
+/// The calls of a closed ledger in the order of its journal, by threads where these are to be started.
+fn calls_in_order<R: Threads + Sync>(
+    rt: &R,
+    alloc: Global,
+    closed: &Closed,
+    by_threads: bool,
+) -> Result<Vec<CallAt>, NoMemory>
+    requires few { All (λ receipts. length receipts < 2 ^ 32) closed.now.closing.receipts }
+    ensures calls { IfOk result (λ calls. AreCallsOf closed.now.closing calls.items) }
+    ensures lines { IfOk result
+        (λ calls. map (line_at closed.now.closing) calls.items ≡ journal_of closed.now) }
+{
+    let book = closed.book();
+    let closing = closed.closing();
+    if by_threads {
+        journal_calls_by_threads(rt, alloc, book, closing)
+    } else {
+        journal_calls(alloc, book, closing)
+    }
+}
+
 /// Makes the calls of each file on this new ledger of the book as `play` does. What is left are the closed ledger, and its calls in the
 /// order of its journal.
 pub(crate) fn play_in_order<R: Threads + Sync, G: Gate + Sync>(
@@ -281,8 +315,9 @@ pub(crate) fn play_in_order<R: Threads + Sync, G: Gate + Sync>(
     ensures { IfOk result (λ r. IsPlayedInOrder book.now (contents_of files.items) r.0 r.1.items) }
 {
     book.known();
+    let by_threads = have_many(files.as_slice());
     let closed = closed_opened(rt, alloc, book, opened, files, gate)?;
-    let calls = journal_calls_by_threads(rt, alloc, closed.book(), closed.closing())?;
+    let calls = calls_in_order(rt, alloc, &closed, by_threads)?;
     Ok((closed, calls))
 }
 

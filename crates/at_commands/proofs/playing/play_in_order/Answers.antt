@@ -5,13 +5,10 @@ use Rattle.at_commands.proofs.JobsNoting.{IsPlayed-closed}
 use Rattle.at_commands.proofs.JobsRun.{few-calls_in}
 use Rattle.at_commands.proofs.playing.play_in_order.Goals as goal
 
-pub journal_calls_by_threads-requires-clause-coherent : goal.journal_calls_by_threads-requires-clause-coherent
-journal_calls_by_threads-requires-clause-coherent g c κs lives = rw (c.book.ensures, c.closing.ensures.closing) c.in_ok-closed.ensures.coherent
-
-pub journal_calls_by_threads-requires-clause-few : goal.journal_calls_by_threads-requires-clause-few
-journal_calls_by_threads-requires-clause-few g c κs lives =
+pub calls_in_order-requires-clause-few : goal.calls_in_order-requires-clause-few
+calls_in_order-requires-clause-few g c κs lives =
     let run = c.in_ok-closed.ensures in
-    rw c.closing.ensures.closing (few-calls_in (length c.args.book.now.accounts) c.in_ok-closed.closed.closing (rw run.calls_are c.requires.known))
+    few-calls_in (length c.args.book.now.accounts) c.in_ok-closed.closed.closing (rw run.calls_are c.requires.known)
 
 pub returns : goal.returns
 returns g c =
@@ -19,7 +16,7 @@ returns g c =
     record {
       played = IsPlayed-closed c.args.book.now (contents_of c.args.files.items) c.in_ok-closed.closed c.known.ensures.checked.begun
           (length-map c.args.files.items (λ file. file.items) ∙ c.requires.count) c.requires.known run;
-      known = rw c.closing.ensures.closing at c.in_ok-calls.ensures.calls;
+      known = c.in_ok-calls.ensures.calls;
       few = few-calls_in (length c.args.book.now.accounts) c.in_ok-closed.closed.closing (rw run.calls_are c.requires.known);
-      lines_are = rw c.closing.ensures.closing at c.in_ok-calls.ensures.lines;
+      lines_are = c.in_ok-calls.ensures.lines;
     }
