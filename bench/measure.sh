@@ -260,7 +260,8 @@ run_named() {
 }
 
 # How long the parts of one run take by the clock, if perf is there. It looks ten times a millisecond which function
-# each thread is in; a part begins with the first look at a function of its crates after the part before began.
+# each thread is in; a part begins with the first look at a function of its crates after the part before began. Making a
+# ledger is no call.
 time_parts() {
     command -v perf >/dev/null || return 0
     payments_of 16 "$work/input16"
@@ -273,7 +274,7 @@ time_parts() {
         {
             at = 1000 * $1
             if (!looks++) start = at
-            for (i = part + 1; i <= parts && i <= part + 2; i++) if ($3 ~ functions[i]) { part = i; began[i] = at; break }
+            for (i = part + 1; i <= parts && i <= part + 2; i++) if ($3 ~ functions[i] && $3 !~ /::Ledger::new$/) { part = i; began[i] = at; break }
         }
         END {
             began[1] = start
