@@ -25,6 +25,9 @@ for name in owners realistic; do
 done
 name=household
 ran "$examples/household/book.csv" "$examples/household/ann.csv" "$examples/household/bob.csv"
+# No account of this book has one owner, so its ledger is made with less own room than the book has.
+name=short
+ran "$examples/short/book.csv" "$examples/short/ann.csv" "$examples/short/bob.csv"
 
 household=$examples/household
 for name in usual owners realistic; do
