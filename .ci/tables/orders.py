@@ -1,0 +1,133 @@
+"""The command `orders` on small books and payment files that are made at random, and at its limits.
+
+Here every order of all calls is gone through by itself, one after another. No order is left out, and none is joined with another. What
+the calls are answered in them is written down as the command writes it, and the bytes have to be the same.
+"""
+
+import random
+
+from tables import model
+from tables.trying import Case, Failed, lines, printed
+
+MOST_ORDERS = 5000
+SEEDS = 500
+AT_ONCE = 25
+
+
+def draw_book(draw):
+    """Draws how many processes there are, both rooms, and the opening and the owners of each account."""
+    processes = draw.randint(1, 4)
+    accounts = []
+    for a in range(draw.randint(1, 4)):
+        owners = sorted(draw.sample(range(processes), min(processes, draw.choice([0, 1, 1, 1, 2, 2, 3]))))
+        accounts.append(model.Account(str(a), draw.choice([0, 0, 1, 5, 10, 20]), owners))
+    return model.Book([str(p) for p in range(processes)], draw.randint(1, 3), draw.randint(1, 3), accounts, 1)
+
+
+def draw_source(draw, book, process):
+    """Draws an account: mostly one that the process owns, if it has one."""
+    owned = [a for a, account in enumerate(book.accounts) if process in account.owners]
+    if owned and draw.random() < 0.85:
+        return draw.choice(owned)
+    return draw.randrange(len(book.accounts))
+
+
+def draw_call(draw, book, process):
+    """Draws a call: the account that it names first, and the target and the amount of a payment."""
+    count = len(book.accounts)
+    if draw.random() < 0.3:
+        return model.Call("read", draw.randrange(count), [])
+    return model.Call("transfer", draw_source(draw, book, process), [(draw.randrange(count), draw.choice([0, 1, 4, 5, 6, 10, 15]))])
+
+
+def number_of_orders(files):
+    """Counts the orders of all calls."""
+    orders, made = 1, 0
+    for file in files:
+        for i in range(1, len(file) + 1):
+            made += 1
+            orders = orders * made // i
+    return orders
+
+
+def draw_case(seed):
+    """Draws a book and a file for each process, whose calls have no more than MOST_ORDERS orders."""
+    draw = random.Random(seed)
+    while True:
+        book = draw_book(draw)
+        files = [[draw_call(draw, book, p) for _ in range(draw.randint(0, 4))] for p in range(len(book.processes))]
+        if number_of_orders(files) <= MOST_ORDERS:
+            return book, files
+
+
+def every_order(lengths):
+    """Goes through the orders: each is a list of processes, in which each stands as often as its file has calls."""
+    if not any(lengths):
+        yield []
+        return
+    for p, left in enumerate(lengths):
+        if left:
+            for rest in every_order(lengths[:p] + [left - 1] + lengths[p + 1 :]):
+                yield [p] + rest
+
+
+def text_of(book, files):
+    """The text that is wanted."""
+    found = {}
+    for order in every_order([len(file) for file in files]):
+        for line in model.play(book, files, order)[0]:
+            found.setdefault((line.process, line.number), set()).add(line.answer)
+    rows = ["process,line,call,account,kind,replies"]
+    for p, file in enumerate(files):
+        for i, call in enumerate(file, 1):
+            answers = found[p, i]
+            if call.word == "read":
+                replies = sorted({min(answers), max(answers)})
+            else:
+                replies = [word for word in ("done", "short", "full", "not-owner") if word in answers]
+            told = [book.processes[p], i, call.word, book.accounts[call.account].name, model.kind_of(book, p, call)]
+            rows.append(",".join(map(str, [*told, " ".join(map(str, replies))])))
+    return lines(*rows)
+
+
+def try_seeds(folder, first):
+    """Tries the files of these seeds."""
+    for seed in range(first, first + AT_ONCE):
+        book, files = draw_case(seed)
+        names = [folder.write(f"pay{p}", model.csv(model.file_records(book, file))) for p, file in enumerate(files)]
+        folder.write("book", model.csv(model.book_records(book)))
+        try:
+            printed(folder.run("orders", "book", *names), text_of(book, files))
+        except Failed as fault:
+            raise Failed(f"the files of seed {seed}: {fault}") from None
+
+
+def most_stages(folder):
+    """Two files of 1,023 calls go through 1024 * 1024 stages, which is the most. The openings don't cover them: one payment is short
+    always."""
+    folder.write("book", lines("book,1", "processes,2", "limits,1,1", "account,0,5,0", "account,1,0,"))
+    folder.write("0", "read,0\n" * 1022 + "transfer,0,1,6\n")
+    folder.write("1", "read,0\n" * 1023)
+    first = [f"0,{i},read,0,read,5" for i in range(1, 1023)]
+    second = [f"1,{i},read,0,read,5" for i in range(1, 1024)]
+    rows = ["process,line,call,account,kind,replies", *first, "0,1023,transfer,0,alone,short", *second]
+    printed(folder.run("orders", "book", "0", "1"), lines(*rows))
+
+
+def longest(folder):
+    """Where the openings cover the files, files of any size are answered."""
+    folder.write("book", lines("book,1", "processes,2", "limits,4,1", "account,0,4,0", "account,1,0,"))
+    folder.write("0", "read,1\n" * 16379 + "read,0\n" + "transfer,0,1,1\n" * 4)
+    rows = ["process,line,call,account,kind,replies"]
+    for p, reads, last, paid in ((0, "0", "4", "alone,done"), (1, "0 4", "0 4", "refused,not-owner")):
+        rows += [f"{p},{i},read,1,read,{reads}" for i in range(1, 16380)] + [f"{p},16380,read,0,read,{last}"]
+        rows += [f"{p},{i},transfer,0,{paid}" for i in range(16381, 16385)]
+    printed(folder.run("orders", "book", "0", "0"), lines(*rows))
+
+
+def cases():
+    """The cases."""
+    yield Case("the orders of the most stages", most_stages)
+    yield Case("the orders of the longest files, which the openings cover", longest)
+    for first in range(1, SEEDS + 1, AT_ONCE):
+        yield Case(f"orders of random files, seeds {first} to {first + AT_ONCE - 1}", try_seeds, first)

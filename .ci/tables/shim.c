@@ -1,0 +1,96 @@
+// Loaded before the C library, it has devices and memory fail as the environment says:
+//
+//   FAIL=N          the Nth call of `open` or `read` fails
+//   GRAIN=N         a read or a write moves at most N bytes
+//   ROOM=N          the output takes at most N bytes
+//   REFUSE=N        the Nth request for memory is refused, and makes the file `refused`; where REST is set, each later one too
+#define _GNU_SOURCE
+#include <errno.h>
+#include <fcntl.h>
+#include <stdatomic.h>
+#include <stdlib.h>
+#include <sys/syscall.h>
+#include <unistd.h>
+
+extern void *__libc_malloc(size_t);
+extern void *__libc_calloc(size_t, size_t);
+extern void *__libc_realloc(void *, size_t);
+extern void *__libc_memalign(size_t, size_t);
+
+static atomic_long calls, asked;
+static long failing, refused;
+static int rest;
+static size_t grain = (size_t)-1, room = (size_t)-1;
+
+static long number_of(const char *name, long otherwise) {
+    const char *text = getenv(name);
+    return text ? atol(text) : otherwise;
+}
+
+__attribute__((constructor)) static void begin(void) {
+    failing = number_of("FAIL", -1);
+    grain = (size_t)number_of("GRAIN", -1);
+    room = (size_t)number_of("ROOM", -1);
+    refused = number_of("REFUSE", 0);
+    rest = getenv("REST") != NULL;
+    calls = asked = 0;
+}
+
+static int fails(void) {
+    if (++calls != failing)
+        return 0;
+    errno = EIO;
+    return 1;
+}
+
+static int open_at(int folder, const char *path, int how) {
+    return fails() ? -1 : (int)syscall(SYS_openat, folder, path, how, 0);
+}
+
+// No program makes a file, so the mode that one would have is left out.
+int open(const char *path, int how, ...) { return open_at(AT_FDCWD, path, how); }
+int open64(const char *path, int how, ...) { return open_at(AT_FDCWD, path, how); }
+int openat(int folder, const char *path, int how, ...) { return open_at(folder, path, how); }
+int openat64(int folder, const char *path, int how, ...) { return open_at(folder, path, how); }
+
+ssize_t read(int file, void *bytes, size_t size) {
+    return fails() ? -1 : syscall(SYS_read, file, bytes, size < grain ? size : grain);
+}
+
+ssize_t write(int file, const void *bytes, size_t size) {
+    if (size > grain)
+        size = grain;
+    if (file == 1 && room != (size_t)-1) {
+        if (room == 0) {
+            errno = ENOSPC;
+            return -1;
+        }
+        if (size > room)
+            size = room;
+        room -= size;
+    }
+    return syscall(SYS_write, file, bytes, size);
+}
+
+static int is_refused(void) {
+    long number = ++asked;
+    if (refused == 0 || number < refused || (number > refused && !rest))
+        return 0;
+    if (number == refused)
+        close((int)syscall(SYS_openat, AT_FDCWD, "refused", O_CREAT | O_WRONLY, 0600));
+    errno = ENOMEM;
+    return 1;
+}
+
+void *malloc(size_t size) { return is_refused() ? NULL : __libc_malloc(size); }
+void *calloc(size_t count, size_t size) { return is_refused() ? NULL : __libc_calloc(count, size); }
+void *realloc(void *old, size_t size) { return is_refused() ? NULL : __libc_realloc(old, size); }
+void *memalign(size_t align, size_t size) { return is_refused() ? NULL : __libc_memalign(align, size); }
+void *aligned_alloc(size_t align, size_t size) { return is_refused() ? NULL : __libc_memalign(align, size); }
+int posix_memalign(void **out, size_t align, size_t size) {
+    void *found = is_refused() ? NULL : __libc_memalign(align, size);
+    if (found == NULL)
+        return ENOMEM;
+    *out = found;
+    return 0;
+}
