@@ -1,18 +1,14 @@
 #!/bin/sh
 # Builds what calls the static library from C, and runs it: each export with each kind of handle, wrong numbers and refused memory, the short
-# program, and a thread for each process. Then threads under sanitizers and valgrind, the crate, the module, and the release. Each report
-# is verified by the built program. It needs a C compiler, and the library that `bezglami build` leaves; where one of them isn't there, or a
-# source is newer than the library, it tries nothing and says so. So does each of the others for the tools that it needs.
+# program, and a thread for each process. Then threads under sanitizers and valgrind, the crate, the module, and the release, which it
+# makes. Each report is verified by the built program. What needs a tool that isn't there is left out, and said.
 set -eu
 cd "$(dirname "$0")/.."
 cc=${CC:-cc}
 library=crates/at_c/out/libat_c.a
-if ! command -v "$cc" >/dev/null; then
-    echo "bindings: not tried, since there is no C compiler"
-    exit 0
-fi
-if ! [ -f "$library" ] || [ -n "$(find crates.txt crates/*/src crates/*/specs crates/*/proofs -newer "$library" | head -n 1)" ]; then
-    echo "bindings: not tried, since $library isn't built"
+.ci/library.sh
+if ! command -v "$cc" >/dev/null || ! command -v ar >/dev/null; then
+    .ci/left_out.sh bindings 'no C compiler, or no ar'
     exit 0
 fi
 kit=$(dirname "$(rt doc)")
@@ -35,4 +31,9 @@ bindings/libraries.sh "$work/libraries"
 .ci/bindings_threads.sh "$work/libraries"
 .ci/bindings_rust.sh "$work/libraries"
 .ci/bindings_python.sh "$work/libraries"
-.ci/bindings_release.sh
+if [ -x crates/at_program/out/at_program ] && [ -x crates/at_showing/out/at_showing ]; then
+    bindings/release.sh 2>"$work/said" || { cat "$work/said" >&2; exit 1; }
+    .ci/bindings_release.sh
+else
+    .ci/left_out.sh 'the release' 'the programs are not built'
+fi

@@ -6,7 +6,7 @@
 set -eu
 cd "$(dirname "$0")/.."
 if ! python3 -c 'import sys; sys.exit(sys.version_info < (3, 10))' 2>/dev/null; then
-    echo 'bindings: Python not tried, since there is no python3 of 3.10 or later'
+    .ci/left_out.sh 'bindings in Python' 'no python3 of 3.10 or later'
     exit 0
 fi
 BEZGLAMI_LIB=$(CDPATH='' cd -- "$1" && pwd)

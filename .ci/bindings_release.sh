@@ -1,15 +1,10 @@
 #!/bin/sh
-# Tests the release that `bezglami release` has left: unpacked in a new folder, with an empty environment, a path on which rt isn't, and from
-# another folder, both programs and the examples in C, Rust and Python run, and the release's own program verifies their reports. Where there
-# is no release, or a source is newer, it tries nothing.
+# Tests the release that `bindings/release.sh` has left: unpacked in a new folder, with an empty environment, a path on which rt isn't, and
+# from another folder, both programs and the examples in C, Rust and Python run, and the release's own program verifies their reports.
 set -eu
 cd "$(dirname "$0")/.."
 version=$(sed -n 's/^#define BEZGLAMI_VERSION //p' bindings/c/bezglami.h)
 archive=out/bezglami-$version.tar.gz
-if ! [ -f "$archive" ] || [ -n "$(find crates.txt crates/*/src crates/*/specs crates/*/proofs bindings examples -type f -newer "$archive" | head -n 1)" ]; then
-    echo "bindings: no release tried, since $archive isn't made"
-    exit 0
-fi
 work=$(mktemp -d)
 tried=nothing
 trap 'status=$?; rm -rf -- "$work"; [ "$status" -eq 0 ] || echo "bindings: the release failed after: $tried" >&2' EXIT
@@ -21,7 +16,7 @@ cd "$work/here"
 
 path=/usr/bin:/bin
 if PATH=$path command -v rt >/dev/null; then
-    echo "bindings: no release tried, since rt is on $path"
+    "$OLDPWD/.ci/left_out.sh" 'the release' "rt is on $path"
     exit 0
 fi
 

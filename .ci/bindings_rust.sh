@@ -6,7 +6,7 @@
 set -eu
 cd "$(dirname "$0")/.."
 if ! command -v cargo >/dev/null; then
-    echo 'bindings: Rust not tried, since there is no cargo'
+    .ci/left_out.sh 'bindings in Rust' 'no cargo'
     exit 0
 fi
 BEZGLAMI_LIB=$(CDPATH='' cd -- "$1" && pwd)

@@ -1,7 +1,7 @@
 #!/bin/sh
 # Sixteen threads with ten thousand calls each on one ledger, over a library that `bindings/libraries.sh` has left: under the sanitizers of
 # threads and of addresses, which see the program, its threads and each allocation of the library's; and under valgrind's memcheck and
-# helgrind, which see each access that the library makes. What isn't there isn't tried. The built program verifies each report.
+# helgrind, which see each access that the library makes. What isn't there is left out. The built program verifies each report.
 #
 # The library stores into words that threads share by locked instructions alone. Helgrind takes such a store for a load, so it reports each
 # other store into memory that a second thread uses, and nothing has to be suppressed. A note is handed over in memory that a
@@ -43,6 +43,8 @@ for sanitizer in thread address,undefined; do
     if has "$sanitizer"; then
         "$cc" $flags -fsanitize="$sanitizer" bindings/c/threads.c "$library" -o "$work/threads"
         thread_runs "-fsanitize=$sanitizer" as-they-come env
+    else
+        .ci/left_out.sh "threads under -fsanitize=$sanitizer" 'the compiler has none'
     fi
 done
 if command -v valgrind >/dev/null; then
@@ -63,4 +65,6 @@ if command -v valgrind >/dev/null; then
         echo 'bindings: helgrind reports no access of the library where two threads use one caller' >&2
         exit 1
     fi
+else
+    .ci/left_out.sh 'threads under valgrind' 'no valgrind'
 fi

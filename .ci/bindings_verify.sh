@@ -1,14 +1,14 @@
 #!/bin/sh
-# Has the built program verify the report that a binding has made: that it is the report of some legal run of the payment files. Where the
-# program isn't there it tries nothing and says so.
+# Has the built program verify the report that a binding has made: that it is the report of some legal run of the payment files.
 #
 #   bindings_verify.sh NAME BOOK REPORT PAY...
 set -eu
-program=$(dirname -- "$0")/../crates/at_program/out/at_program
+here=$(dirname -- "$0")
+program=$here/../crates/at_program/out/at_program
 name=$1
 shift
 if ! [ -x "$program" ]; then
-    echo "bindings: $name, its report not verified, since crates/at_program/out/at_program isn't built"
+    "$here/left_out.sh" "the report of $name" 'the program is not built'
     exit 0
 fi
 said=$("$program" verify "$@")

@@ -3,7 +3,7 @@
 cd "$(dirname "$0")/../crates"
 names_of() {
     find "$1/specs" -name '*.antt' -exec cat {} + |
-        sed -nE 's/^((abbrev|unfoldable) )?pub ((record|data) )?([A-Za-z0-9_-]+)( :| \().*/\5/p' | sort -u
+        sed -nE 's/^((abbrev|unfoldable) )?pub ((record|data) )?([^ ]+)( :| [({]).*/\5/p' | sort -u
 }
 twice=$(for crate in *; do if [ -d "$crate/specs" ]; then names_of "$crate"; fi; done | sort | uniq -d)
 if [ -n "$twice" ]; then

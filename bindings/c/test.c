@@ -18,12 +18,14 @@ void __real_free(void *block);
 static atomic_long allocations;
 static long refused_at; /* the number of the one that is refused, and 0 for none */
 static atomic_long blocks;
+static atomic_long wanting; /* how many the C library had no memory for */
 
 void *__wrap_malloc(size_t size) {
     if (++allocations == refused_at)
         return NULL;
     void *block = __real_malloc(size);
     blocks += block != NULL;
+    wanting += block == NULL;
     return block;
 }
 
@@ -346,6 +348,110 @@ static void test_notes(void) {
     bezglami_free(&ledger);
 }
 
+enum { PROCESSES = 16 };
+
+/* A ledger of sixteen processes, each of which owns an account, with the caller of each. */
+static void open_all(bezglami_handle *ledger, bezglami_handle *callers) {
+    char book[1024];
+    size_t at = (size_t)snprintf(book, sizeof book, "book,1\nprocesses,%d\nlimits,9,9\n", PROCESSES);
+    for (int p = 0; p < PROCESSES; p++)
+        at += (size_t)snprintf(book + at, sizeof book - at, "account,%d,100,%d\n", p, p);
+    open_new(book, ledger);
+    for (int p = 0; p < PROCESSES; p++)
+        EXPECT(bezglami_caller(ledger, 9, &callers[p]) == BEZGLAMI_DONE);
+    EXPECT(bezglami_caller(ledger, 9, &(bezglami_handle)BEZGLAMI_NOTHING) == BEZGLAMI_NO_CALLER);
+}
+
+/* Sixteen callers: each leaves a note for each, also for itself, and every one comes, once. */
+static void test_notes_of_all(void) {
+    bezglami_handle ledger = BEZGLAMI_NOTHING, callers[PROCESSES] = { BEZGLAMI_NOTHING };
+    open_all(&ledger, callers);
+    for (uint32_t from = 0; from < PROCESSES; from++)
+        for (uint32_t to = 0; to < PROCESSES; to++)
+            EXPECT(bezglami_note(&callers[from], to) == BEZGLAMI_DONE);
+    for (int time = 0; time < 2; time++)
+        for (uint32_t to = 0; to < PROCESSES; to++)
+            for (uint32_t from = 0; from < PROCESSES; from++)
+                EXPECT(bezglami_learn(&callers[to], from) == (time == 0 ? BEZGLAMI_DONE : BEZGLAMI_NO_NOTE));
+    for (int p = 0; p < PROCESSES; p++) {
+        EXPECT(bezglami_steps(&callers[p]) == 2 * PROCESSES && bezglami_exchanges(&callers[p]) == 2 * PROCESSES);
+        bezglami_free(&callers[p]);
+    }
+    bezglami_free(&ledger);
+}
+
+/* Sixteen callers are given back, the last ones first, each with the calls that it made. */
+static void test_return_of_all(void) {
+    static uint8_t report[2048];
+    bezglami_handle ledger = BEZGLAMI_NOTHING, callers[PROCESSES] = { BEZGLAMI_NOTHING };
+    char call[64];
+    open_all(&ledger, callers);
+    for (uint32_t p = PROCESSES; p-- > 0;) {
+        EXPECT(replied(&callers[p], p, (p + 1) % PROCESSES, p + 1) == BEZGLAMI_REPLY_DONE);
+        EXPECT(bezglami_close(&ledger) == BEZGLAMI_CALLERS_OUT && bezglami_return(&callers[p]) == BEZGLAMI_DONE && callers[p].at == NULL);
+    }
+    EXPECT(bezglami_close(&ledger) == BEZGLAMI_DONE);
+    size_t length = bezglami_report(&ledger, report, sizeof report - 1);
+    EXPECT(length < sizeof report && memcmp(report, "journal 16\n", 11) == 0);
+    for (uint32_t p = 0; p < PROCESSES; p++) {
+        snprintf(call, sizeof call, "\n%u 1 transfer %u %u %u done\n", (unsigned)p, (unsigned)p, (unsigned)((p + 1) % PROCESSES), (unsigned)(p + 1));
+        EXPECT(strstr((const char *)report, call) != NULL);
+    }
+    bezglami_free(&ledger);
+}
+
+/* Rooms up to the largest are had, where the C library has the memory. A caller makes as many calls as it has room for. */
+static void test_rooms(void) {
+    static const uint32_t rooms[] = { 0, 1, 65535, 65536, 65537, 70000, 1 << 20, 1 << 24, UINT32_MAX };
+    for (size_t i = 0; i < sizeof rooms / sizeof *rooms; i++) {
+        bezglami_handle ledger = BEZGLAMI_NOTHING, ann = BEZGLAMI_NOTHING;
+        bezglami_answer answer;
+        open_new(BOOK, &ledger);
+        long before = wanting;
+        uint32_t outcome = bezglami_caller(&ledger, rooms[i], &ann);
+        EXPECT(outcome == (wanting == before ? BEZGLAMI_DONE : BEZGLAMI_NO_MEMORY) && (rooms[i] > 70000 || outcome == BEZGLAMI_DONE));
+        for (uint32_t call = 0; rooms[i] <= 70000 && call < rooms[i]; call++)
+            EXPECT(bezglami_read(&ann, 0, &answer) == BEZGLAMI_DONE);
+        EXPECT(rooms[i] > 70000 || bezglami_read(&ann, 0, &answer) == BEZGLAMI_NO_ROOM);
+        bezglami_free(&ann);
+        bezglami_free(&ledger);
+    }
+}
+
+/* The word of each reply is that of the report. */
+static void test_words_of_replies(void) {
+    static const uint32_t replies[] = { BEZGLAMI_REPLY_SHORT, BEZGLAMI_REPLY_DONE, BEZGLAMI_REPLY_FULL, BEZGLAMI_REPLY_NOT_OWNER };
+    static const uint64_t amounts[] = { 101, 30, 1, 7 };
+    bezglami_handle ledger = BEZGLAMI_NOTHING, ann = BEZGLAMI_NOTHING;
+    char wanted[512];
+    size_t at = (size_t)snprintf(wanted, sizeof wanted, "journal 4\n");
+    open_new("book,1\nprocesses,1\nlimits,1,1\naccount,0,100,0\naccount,1,0,\n", &ledger);
+    EXPECT(bezglami_caller(&ledger, 4, &ann) == BEZGLAMI_DONE);
+    for (uint32_t i = 0; i < 4; i++) {
+        uint32_t from = replies[i] == BEZGLAMI_REPLY_NOT_OWNER;
+        EXPECT(replied(&ann, from, 1 - from, amounts[i]) == replies[i]);
+        at += (size_t)snprintf(wanted + at, sizeof wanted - at, "0 %u transfer %u %u %u %s\n", (unsigned)i + 1, (unsigned)from, (unsigned)(1 - from),
+            (unsigned)amounts[i], bezglami_reply_text(replies[i]));
+    }
+    snprintf(wanted + at, sizeof wanted - at, "balances 2\n0 70\n1 30\ntotal 100\n");
+    EXPECT(bezglami_return(&ann) == BEZGLAMI_DONE && bezglami_close(&ledger) == BEZGLAMI_DONE && has_report(&ledger, wanted, true));
+    EXPECT(strcmp(bezglami_reply_text(BEZGLAMI_REPLY_BALANCE), "balance") == 0);
+    bezglami_free(&ledger);
+}
+
+/* The words of each outcome and of each cause are the header's. */
+static void test_words(void) {
+    static const char *const outcomes[] = { "done", "wrong handle", "handle in use", "no memory", "bad book", "no caller left", "no such account", "no room for a receipt",
+        "no pay-out", "a caller is out", "no such process", "no note", "busy" };
+    static const char *const causes[] = { "version", "shape", "number", "account order", "name", "name twice", "unknown owner", "no process",
+        "too many processes", "no account", "too many accounts", "owner out of range", "owners not rising", "too many owners", "room out of range",
+        "rounds over limit", "total over limit" };
+    for (uint32_t outcome = BEZGLAMI_DONE; outcome <= BEZGLAMI_BUSY; outcome++)
+        EXPECT(strcmp(bezglami_outcome_text(outcome), outcomes[outcome]) == 0);
+    for (uint32_t why = BEZGLAMI_WHY_VERSION; why <= BEZGLAMI_WHY_TOTAL_OVER_LIMIT; why++)
+        EXPECT(strcmp(bezglami_why_text(why), causes[why - BEZGLAMI_WHY_VERSION]) == 0);
+}
+
 /* A thread that makes one call and then no other, and gives its caller back at the end alone. */
 struct stopped {
     bezglami_handle caller;
@@ -525,15 +631,16 @@ int main(void) {
     test_lost_caller();
     test_two_ledgers();
     test_notes();
+    test_notes_of_all();
+    test_return_of_all();
+    test_rooms();
+    test_words_of_replies();
+    test_words();
     test_stopped();
     test_closing_meanwhile();
     test_notes_meanwhile();
     test_freed_half_closed();
     EXPECT(bezglami_version() == BEZGLAMI_VERSION);
-    for (uint32_t outcome = BEZGLAMI_DONE; outcome <= BEZGLAMI_BUSY; outcome++)
-        EXPECT(strcmp(bezglami_outcome_text(outcome), bezglami_outcome_text(UINT32_MAX)) != 0);
-    for (uint32_t why = BEZGLAMI_WHY_VERSION; why <= BEZGLAMI_WHY_TOTAL_OVER_LIMIT; why++)
-        EXPECT(strcmp(bezglami_why_text(why), bezglami_why_text(0)) != 0);
     EXPECT(blocks == before);
     long refused = test_memory();
     printf("bezglami from C: all as said, %ld allocations refused in turn\n", refused);

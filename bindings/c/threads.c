@@ -1,6 +1,6 @@
 /* Sixteen threads make ten thousand calls each on one ledger: from accounts of their own, from one that eight of them share, and from one
- * of another process. Now and then a thread leaves a note for the next one and takes in that of the one before. Each gives its caller back,
- * and the ledger is closed. It is run under sanitizers and valgrind.
+ * of another process. Now and then a thread leaves a note for another and takes in that of a third, each with each by turns. Each gives
+ * its caller back, and the ledger is closed. It is run under sanitizers and valgrind.
  *
  *   threads [CALLS [FOLDER [ordered]]]   10,000 calls where it isn't said. Where there is a FOLDER, book.csv, pay0.csv .. pay15.csv and
  *                                        report are left there, which `verify` takes. `ordered`: a lock orders the two threads that
@@ -85,9 +85,9 @@ static uint32_t reach_for_note(struct worker *worker, uint32_t from, uint32_t (*
     return outcome;
 }
 
-/* Leaves a note for the next process, and takes in that of the one before. Each is one step and one exchange. */
-static void pass_notes(struct worker *worker) {
-    uint32_t next = (worker->process + 1) % THREADS, before = (worker->process + THREADS - 1) % THREADS;
+/* Leaves a note for the process so many further, and takes in that of the one so many before. Each is one step and one exchange. */
+static void pass_notes(struct worker *worker, uint32_t further) {
+    uint32_t next = (worker->process + further) % THREADS, before = (worker->process + THREADS - further) % THREADS;
     uint32_t left = reach_for_note(worker, worker->process, bezglami_note, next);
     uint32_t learnt = reach_for_note(worker, before, bezglami_learn, before);
     if (left != BEZGLAMI_DONE && left != BEZGLAMI_BUSY)
@@ -103,7 +103,7 @@ static void make_calls(struct worker *worker) {
     for (uint32_t i = 0; i < worker->calls; i++) {
         make_call(worker, i);
         if (i % NOTES_EVERY == NOTES_EVERY - 1)
-            pass_notes(worker);
+            pass_notes(worker, 1 + i / NOTES_EVERY % (THREADS - 1));
     }
     if (worker->steps != bezglami_steps(&worker->caller) || worker->exchanges != bezglami_exchanges(&worker->caller))
         fail("the steps don't add up", worker->process);

@@ -56,6 +56,24 @@ fn replies() {
     assert_eq!((full.reply, full.steps), (Reply::Full, 0));
 }
 
+/// The word of each reply is that of the report.
+#[test]
+fn words_of_replies() {
+    let book = b"book,1\nprocesses,1\nlimits,1,1\naccount,0,100,0\naccount,1,0,\n";
+    let mut ledger = Ledger::open(book).unwrap();
+    let mut ann = ledger.caller(4).unwrap();
+    let mut journal = String::from("journal 4\n");
+    for (number, from, amount) in [(1, 0, 101), (2, 0, 30), (3, 0, 1), (4, 1, 7)] {
+        let reply = ann.transfer(from, 1 - from, amount).unwrap().reply;
+        let to = 1 - from;
+        journal += &format!("0 {number} transfer {from} {to} {amount} {reply}\n");
+    }
+    drop(ann);
+    let report = ledger.close().unwrap();
+    assert!(report.as_str().starts_with(&journal), "{journal}");
+    assert_eq!(Reply::Balance(7).to_string(), "7");
+}
+
 #[test]
 fn steps_add_up() {
     let (_ledger, mut callers) = three();
