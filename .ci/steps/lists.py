@@ -222,7 +222,7 @@ PLACES = """
     at_journal/by_threads.rt held_by_threads: map_indices
     at_journal/by_threads.rt keyed_by_threads: map_indices
     at_tables/sentence.rt push_agreements: while
-    at_tables/kinds_text.rt push_groups: while
+    at_tables/kinds_table.rt push_groups: while
     at_orders/walk.rt walk_on: while
     at_pages/curves.rt publishing_turn: load load
     at_pages/loads.rt first_load: load load load

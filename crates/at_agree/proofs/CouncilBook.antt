@@ -1,23 +1,14 @@
 -- The accounts of a council's book: which is whose.
 use Rattle.std.proofs.Common.{◌≡◌, ℕ, ◌+◌, ◌-◌, ◌*◌, ◌<◌, ◌≤◌, ◌==◌, zero, suc, Bool, true, false, cond, [], ◌∷◌, ◌++◌, length, get_or, map, replicate, refl, sym, ap, ◌∙◌, arith, inl, inr, length-append}
 use Rattle.std.specs.Prelude.{Some, nat_le}
-use Rattle.std.specs.List.{range_with_len}
-use Rattle.std.specs.Option.{is_some}
-use Rattle.std.proofs.lemmas.Bool.{cases_eq, cases_lt, eq-eqb, eqb-true, ne_eqb, le-leb}
-use Rattle.std.proofs.lemmas.List.{get_or_append_left, get_or-append_right, get_or-replicate, length-replicate}
-use Rattle.std.proofs.lemmas.List.FromFn.{get_or-map-range_with_len, get_or-range_with_len, length-map-range_with_len, length-range_with_len}
-use Rattle.at_history.proofs.Laws.Rooms.{is_some-position}
-use Rattle.at_ledger.proofs.Slots.{slot_in-get_or}
-use Rattle.at_ledger.specs.Account.{AccountTerms, IsRisingFrom, is_owner_in, is_shared, is_single, no_account, slot_in, slots_of}
-use Rattle.at_ledger.specs.Book.{account_of, is_owner}
-use Rattle.at_agree.specs.Council.{council_book, joint_account, own_account, shared_account, spent_account, unowned_account, value_account}
+use Rattle.at_agree.proofs.Prelude.{range_with_len, is_some, cases_eq, cases_lt, eq-eqb, eqb-true, ne_eqb, le-leb, get_or_append_left, get_or-append_right, get_or-replicate, length-replicate, get_or-map-range_with_len, get_or-range_with_len, length-map-range_with_len, length-range_with_len, is_some-position, slot_in-get_or, AccountTerms, IsRisingFrom, is_owner_in, is_shared, is_single, no_account, slot_in, slots_of, account_of, is_owner, council_book, joint_account, own_account, shared_account, spent_account, unowned_account, value_account}
 
 -- how many accounts there are, part by part
 length-owns : (k : ℕ) → length (map own_account (range_with_len 0 k)) ≡ k
 length-owns k = length-map-range_with_len own_account 0 k
 
-length-front : (k : ℕ) → length (map own_account (range_with_len 0 k) ++ replicate k unowned_account) ≡ 2 * k
-length-front k =
+length-cut : (k : ℕ) → length (map own_account (range_with_len 0 k) ++ replicate k unowned_account) ≡ 2 * k
+length-cut k =
     omega (
       arith,
       length-append (map own_account (range_with_len 0 k)) (replicate k unowned_account),
@@ -30,7 +21,7 @@ length-accounts k =
     omega (
       arith,
       length-append (map own_account (range_with_len 0 k) ++ replicate k unowned_account) (joint_account k ∷ unowned_account ∷ []),
-      length-front k,
+      length-cut k,
     )
 
 pub account_of-own : (k p : ℕ) → p < k → account_of (council_book k) p ≡ own_account p
@@ -38,7 +29,7 @@ account_of-own k p within =
     let owns = map own_account (range_with_len 0 k) in
     let values = replicate k unowned_account in
     let rest = joint_account k ∷ unowned_account ∷ [] in
-    get_or_append_left (owns ++ values) rest no_account p (omega (arith, within, length-front k))
+    get_or_append_left (owns ++ values) rest no_account p (omega (arith, within, length-cut k))
     ∙ (get_or_append_left owns values no_account p (omega (arith, within, length-owns k))
     ∙ get_or-map-range_with_len own_account 0 k p p no_account within (omega arith))
 
@@ -48,16 +39,16 @@ account_of-value k p within =
     let values = replicate k unowned_account in
     let rest = joint_account k ∷ unowned_account ∷ [] in
     let at : k + p - k ≡ p = omega arith in
-    get_or_append_left (owns ++ values) rest no_account (k + p) (omega (arith, within, length-front k))
+    get_or_append_left (owns ++ values) rest no_account (k + p) (omega (arith, within, length-cut k))
     ∙ (get_or-append_right owns values k (k + p) no_account (length-owns k) (omega arith)
     ∙ (ap (λ i. get_or values i no_account) at ∙ get_or-replicate k p unowned_account no_account within))
 
 account_of-last : (k i : ℕ) → account_of (council_book k) (2 * k + i) ≡ get_or (joint_account k ∷ unowned_account ∷ []) i no_account
 account_of-last k i =
-    let front = map own_account (range_with_len 0 k) ++ replicate k unowned_account in
+    let cut = map own_account (range_with_len 0 k) ++ replicate k unowned_account in
     let rest = joint_account k ∷ unowned_account ∷ [] in
     let at : 2 * k + i - 2 * k ≡ i = omega arith in
-    get_or-append_right front rest (2 * k) (2 * k + i) no_account (length-front k) (omega arith)
+    get_or-append_right cut rest (2 * k) (2 * k + i) no_account (length-cut k) (omega arith)
     ∙ ap (λ j. get_or rest j no_account) at
 
 pub account_of-shared : (k : ℕ) → account_of (council_book k) (shared_account k) ≡ joint_account k

@@ -1,15 +1,7 @@
 -- The draft of a council's book has no fault.
 use Rattle.std.proofs.Common.{◌≡◌, ℕ, ◌≤◌, zero, suc, None, List, [], ◌∷◌, ◌++◌, map, refl, arith, ap, ◌∙◌}
 use Rattle.std.specs.Prelude.{Option}
-use Rattle.std.specs.Option.{option_or}
-use Rattle.std.proofs.lemmas.List.{map-append}
-use Rattle.at_ledger.specs.Account.{AccountTerms}
-use Rattle.at_ledger.specs.Book.{BookTerms}
-use Rattle.at_ledger.specs.Draft.{accounts_fault, book_fault, book_of, book_without_accounts, limits_fault, owners_fault, terms_of}
-use Rattle.at_ledger.specs.declared.draft.BookError.{BookError}
-use Rattle.at_ledger.specs.declared.draft.Draft.{Draft}
-use Rattle.at_ledger.specs.declared.draft.DraftAccount.{DraftAccount}
-use Rattle.at_agree.specs.Council.{IsSize, council_book}
+use Rattle.at_agree.proofs.Prelude.{option_or, map-append, AccountTerms, BookTerms, accounts_fault, book_fault, book_of, book_without_accounts, limits_fault, owners_fault, terms_of, BookError, Draft, DraftAccount, IsSize, council_book}
 
 -- the first fault of a draft, by the book that it spells
 abbrev fault_of : BookTerms → Option BookError

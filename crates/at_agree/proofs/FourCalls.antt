@@ -1,23 +1,9 @@
 -- The four calls of a voice, one after another.
 use Rattle.std.proofs.Common.{◌≡◌, ℕ, ◌^◌, ◌<◌, List, [], ◌∷◌, ◌++◌, length, length-append, sym, ap, subst, ◌∙◌, arith}
-use Rattle.std.proofs.lemmas.List.{get_or_append_left}
-use Rattle.at_ledger.specs.Book.{BookTerms}
-use Rattle.at_ledger.specs.declared.call.Call.TheVariants.{Transfer}
-use Rattle.at_history.specs.BoardState.{publication_at}
-use Rattle.at_history.specs.Histories.{IsHistory}
-use Rattle.at_history.specs.Publications.{IsPrefix, no_publication}
-use Rattle.at_history.specs.declared.publication.Publication.{Publication}
-use Rattle.at_board.specs.Knowledge.Seats.{BoardTerms}
-use Rattle.at_log.specs.Receipts.{calls_of, receipt_at}
-use Rattle.at_log.specs.Told.{Told}
-use Rattle.at_log.specs.declared.receipt.Receipt.{Receipt}
-use Rattle.at_object.specs.Passes.{Stands}
+use Rattle.at_agree.proofs.Prelude.{get_or_append_left, BookTerms, Transfer, publication_at, IsHistory, IsPrefix, no_publication, Publication, BoardTerms, calls_of, receipt_at, Told, Receipt, Stands, IsCouncil, IsSize, council_book, shared_account, size_of, spent_account, value_account, HasShareDecided, HasProposed, HasVoted, KeepsPlan, chosen, share_of, named_account, HasMadeOneMore, HasNotProposed, HasRead, IsVoiceOf, VoiceTerms, process_of, seen_by}
 use Rattle.at_agree.proofs.Answered.{answered-chosen}
 use Rattle.at_agree.proofs.HistoryShown.{IsCouncilList-IsHistory, NamesAnew-IsHistory}
 use Rattle.at_agree.proofs.VotedReceipts.{stands_as_voted}
-use Rattle.at_agree.specs.Council.{IsCouncil, IsSize, council_book, shared_account, size_of, spent_account, value_account}
-use Rattle.at_agree.specs.Plan.{HasShareDecided, HasProposed, HasVoted, KeepsPlan, chosen, share_of, named_account}
-use Rattle.at_agree.specs.Voices.{HasMadeOneMore, HasNotProposed, HasRead, IsVoiceOf, VoiceTerms, process_of, seen_by}
 
 -- what stands in a list stands in each that begins with it
 same_record : (xs ys : List Publication) (m : ℕ) → IsPrefix xs ys → m < length xs → publication_at ys m ≡ publication_at xs m

@@ -1,17 +1,9 @@
 -- What a voice has seen shows what a council's list shows, and names each slot once.
 use Rattle.std.proofs.Common.{◌≡◌, ℕ, List, take, sym, subst, ◌∙◌, arith}
-use Rattle.std.proofs.lemmas.Bool.{ltb-false}
-use Rattle.at_history.proofs.Laws.Histories.{IsNextAtMost-IsHistory, named-rounds}
-use Rattle.at_history.proofs.Laws.Rounds.{IsNextAtMost}
-use Rattle.at_history.specs.BoardState.{publication_at}
-use Rattle.at_history.specs.Fronts.{prefix_of}
-use Rattle.at_history.specs.Histories.{IsHistory, IsShownDecision, IsShownEntry}
-use Rattle.at_history.specs.Rounds.{rounds}
-use Rattle.at_history.specs.declared.publication.Publication.{Publication}
+use Rattle.at_agree.proofs.Prelude.{ltb-false, IsNextAtMost-IsHistory, named-rounds, IsNextAtMost, publication_at, prefix_of, IsHistory, IsShownDecision, IsShownEntry, rounds, Publication, IsSize, council_book, shared_account}
 use Rattle.at_agree.proofs.Answered.{repeats-shown}
 use Rattle.at_agree.proofs.CouncilBook.{is_shared-only, is_single-own, length-accounts, owner-own, slots_of-shared}
 use Rattle.at_agree.proofs.Shown.{IsCouncilList, NamesAnew}
-use Rattle.at_agree.specs.Council.{IsSize, council_book, shared_account}
 
 pub IsCouncilList-IsHistory : (k : ℕ) (list : List Publication) → IsSize k → IsHistory (council_book k) list → IsCouncilList k list
 IsCouncilList-IsHistory k list size history =

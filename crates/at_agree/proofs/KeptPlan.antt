@@ -1,32 +1,10 @@
 -- Where each process has made its four calls, the whole list keeps to the plan.
 use Rattle.std.proofs.Common.{◌≡◌, ◌≢◌, ℕ, ◌+◌, ◌<◌, ◌≤◌, ◌==◌, ◌&&◌, true, false, List, length, take, get_or, refl, sym, ap, subst, ◌∙◌, arith, inl, inr}
-use Rattle.std.proofs.lemmas.Bool.{cases_Bool, cases_lt, cases_order, eq-eqb}
-use Rattle.std.proofs.lemmas.List.{get_or-take, get_or_default, length-take, take-take, take_all, take_more}
-use Rattle.std.proofs.lemmas.List.Folds.{list_any_none}
-use Rattle.std.proofs.lemmas.List.Sums.{get_or-le-sum_by, sum_by-take-le, sum_by_push}
-use Rattle.std.specs.List.{sum_by}
-use Rattle.at_base.specs.declared.decision.Decision.{Decision}
-use Rattle.at_ledger.specs.Call.{TargetPair}
-use Rattle.at_history.proofs.Laws.Prefixes.{take-publication_at}
-use Rattle.at_history.proofs.Laws.RoundSums.{repeats-firsts}
-use Rattle.at_history.proofs.Laws.Rounds.{one_if, sum_by-firsts_new, sum_by-firsts-take_mono}
-use Rattle.at_history.specs.BoardState.{publication_at}
-use Rattle.at_history.specs.Entries.{is_own, is_round, is_same_round, names}
-use Rattle.at_history.specs.Histories.{AgreeOnRound}
-use Rattle.at_history.specs.Publications.{no_publication}
-use Rattle.at_history.specs.Rounds.{firsts, named, owns_of, repeats}
-use Rattle.at_history.specs.declared.publication.Entry.{Entry}
-use Rattle.at_history.specs.declared.publication.Entry.TheVariants.{Own, Round}
-use Rattle.at_history.specs.declared.publication.Publication.{Publication}
-use Rattle.at_log.proofs.Laws.FirstRecords.{is_round-true}
-use Rattle.at_log.proofs.Laws.Positions.{IsRoundAt, round_position-at}
-use Rattle.at_log.specs.Told.{round_position}
+use Rattle.at_agree.proofs.Prelude.{cases_Bool, cases_lt, cases_order, eq-eqb, get_or-take, get_or_default, length-take, take-take, take_all, take_more, list_any_none, get_or-le-sum_by, sum_by-take-le, sum_by_push, sum_by, Decision, TargetPair, take-publication_at, repeats-firsts, one_if, sum_by-firsts_new, sum_by-firsts-take_mono, publication_at, is_own, is_round, is_same_round, names, AgreeOnRound, no_publication, firsts, named, owns_of, repeats, Entry, Own, Round, Publication, is_round-true, IsRoundAt, round_position-at, round_position, shared_account, IsPlanned, KeepsPlan, share_targets, value_targets, winner_of}
 use Rattle.at_agree.proofs.Answered.{round-below}
 use Rattle.at_agree.proofs.CouncilBook.{owner-shared}
 use Rattle.at_agree.proofs.Shown.{IsCouncilList, NamesAnew}
 use Rattle.at_agree.proofs.VotedReceipts.{StandsAsVoted}
-use Rattle.at_agree.specs.Council.{shared_account}
-use Rattle.at_agree.specs.Plan.{IsPlanned, KeepsPlan, share_targets, value_targets, winner_of}
 
 -- all votes of a council
 abbrev pub AllVoted : ℕ → List Publication → Type 0

@@ -1,3 +1,4 @@
+pub mod Prelude
 -- a council's book: that it is one, and its accounts
 pub mod CouncilDraft
 pub mod CouncilBook

@@ -1,13 +1,6 @@
 -- The voices of a new council: one for each pass of its ledger.
 use Rattle.std.proofs.Common.{◌≡◌, ℕ, ◌<◌, List, [], ◌∷◌, ◌++◌, All, length, map, get_or, sym, ap, subst, ◌∙◌, arith, length-append}
-use Rattle.std.proofs.Math.Seq.{get_or-append_seam}
-use Rattle.std.proofs.lemmas.List.{get_or-map, length-map}
-use Rattle.at_board.specs.Knowledge.Seats.{BoardTerms}
-use Rattle.at_ledger.specs.Book.{BookTerms}
-use Rattle.at_log.specs.declared.receipt.Receipt.{Receipt}
-use Rattle.at_object.specs.Passes.{AreNewPasses, IsNewPass, PassTerms, Stands}
-use Rattle.at_agree.specs.Council.{size_of}
-use Rattle.at_agree.specs.Voices.{AreNewVoices, HasNotProposed, IsVoice, MayProposeValue, VoiceTerms}
+use Rattle.at_agree.proofs.Prelude.{get_or-append_seam, get_or-map, length-map, BoardTerms, BookTerms, Receipt, AreNewPasses, IsNewPass, PassTerms, Stands, size_of, AreNewVoices, HasNotProposed, IsVoice, MayProposeValue, VoiceTerms}
 
 -- the pass after so many is that of this process
 pub IsNewPass-at : (ledger : BoardTerms) (passes done left : List PassTerms) (pass : PassTerms) → AreNewPasses ledger passes

@@ -1,22 +1,10 @@
 -- Where a closing is coherent and has the four calls of each process, all answers are one value, and one of the processes proposed it.
 use Rattle.std.proofs.Common.{◌≡◌, ℕ, ◌^◌, ◌<◌, ◌≤◌, ◌==◌, ◌&&◌, List, sym, ap, ◌∙◌, arith, inl, inr}
-use Rattle.std.proofs.lemmas.Bool.{cases_order, eq-eqb}
-use Rattle.at_ledger.specs.Book.{IsBegun}
-use Rattle.at_history.proofs.Laws.Rounds.{one_if}
-use Rattle.at_history.specs.BoardState.{publication_at}
-use Rattle.at_history.specs.Entries.{is_own}
-use Rattle.at_history.specs.Rounds.{owns_of}
-use Rattle.at_history.specs.declared.publication.Entry.TheVariants.{Own}
-use Rattle.at_history.specs.declared.publication.Publication.{Publication}
-use Rattle.at_log.specs.ClosingTerms.{ClosingTerms, receipts_of}
-use Rattle.at_log.specs.Coherent.{Coherent}
-use Rattle.at_log.specs.JournalOrder.{journal_order}
+use Rattle.at_agree.proofs.Prelude.{cases_order, eq-eqb, IsBegun, one_if, publication_at, is_own, owns_of, Own, Publication, ClosingTerms, receipts_of, Coherent, journal_order, IsSize, council_book, value_account, HasProposed, HasVoted, chosen, value_targets}
 use Rattle.at_agree.proofs.Answered.{answered-chosen}
 use Rattle.at_agree.proofs.KeptPlan.{AllVoted, KeepsPlan-AllVoted, NamesAnew-AllVoted, two_counted}
 use Rattle.at_agree.proofs.OrderShown.{IsCouncilList-Coherent}
 use Rattle.at_agree.proofs.VotedReceipts.{stands_as_voted}
-use Rattle.at_agree.specs.Council.{IsSize, council_book, value_account}
-use Rattle.at_agree.specs.Plan.{HasProposed, HasVoted, chosen, value_targets}
 
 -- a process has one value in a list
 same_value : (k p x y : ℕ) (list : List Publication) → owns_of p list ≤ 1 → HasProposed k list p x → HasProposed k list p y → x ≡ y

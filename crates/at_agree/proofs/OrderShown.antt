@@ -1,32 +1,8 @@
 -- The journal's order of a coherent closing shows what a council's list shows.
 use Rattle.std.proofs.Common.{◌≡◌, ℕ, ◌<◌, ◌≤◌, List, length, take, refl, sym, ap, subst, ◌∙◌, arith}
-use Rattle.std.proofs.lemmas.List.{get_or_default}
-use Rattle.std.proofs.lemmas.List.Elements.{Contains-get_or}
-use Rattle.at_base.specs.declared.decision.Decision.{Decision}
-use Rattle.at_ledger.specs.Book.{IsBegun}
-use Rattle.at_ledger.specs.Call.{TargetPair, amount_of}
-use Rattle.at_history.proofs.Laws.Rounds.{IsNextAtMost}
-use Rattle.at_history.proofs.Laws.Runs.{AreRuns-HasRuns}
-use Rattle.at_history.specs.Balances.{IsCovered}
-use Rattle.at_history.specs.BoardState.{publication_at}
-use Rattle.at_history.specs.Fronts.{place, prefix_of}
-use Rattle.at_history.specs.Histories.{AgreeOnRound}
-use Rattle.at_history.specs.Publications.{no_publication}
-use Rattle.at_history.specs.Rounds.{rounds}
-use Rattle.at_history.specs.declared.publication.Entry.{Entry}
-use Rattle.at_history.specs.declared.publication.Entry.TheVariants.{Own, Round}
-use Rattle.at_history.specs.declared.publication.Publication.{Publication}
-use Rattle.at_log.proofs.Laws.OrderHasRuns.{HasRuns-journal_order}
-use Rattle.at_log.proofs.Laws.OrderPremises.{HasRounds-Coherent, HasViews-Coherent}
-use Rattle.at_log.proofs.Laws.OrderRounds.{IsCoherentEntry-journal_order, IsNextAtMost-journal_order, place-view-journal_order}
-use Rattle.at_log.proofs.Laws.OrderState.{order_state}
-use Rattle.at_log.proofs.Laws.Views.{HasView-journal_order}
-use Rattle.at_log.specs.ClosingTerms.{ClosingTerms}
-use Rattle.at_log.specs.Coherent.{Coherent, IsCoherentEntry, IsProposed}
-use Rattle.at_log.specs.JournalOrder.{journal_order}
+use Rattle.at_agree.proofs.Prelude.{get_or_default, Contains-get_or, Decision, IsBegun, TargetPair, amount_of, IsNextAtMost, AreRuns-HasRuns, IsCovered, publication_at, place, prefix_of, AgreeOnRound, no_publication, rounds, Entry, Own, Round, Publication, HasRuns-journal_order, HasRounds-Coherent, HasViews-Coherent, IsCoherentEntry-journal_order, IsNextAtMost-journal_order, place-view-journal_order, order_state, HasView-journal_order, ClosingTerms, Coherent, IsCoherentEntry, IsProposed, journal_order, IsSize, council_book, shared_account}
 use Rattle.at_agree.proofs.CouncilBook.{is_shared-only, is_single-own, length-accounts, owner-own, slots_of-shared}
 use Rattle.at_agree.proofs.Shown.{IsCouncilList}
-use Rattle.at_agree.specs.Council.{IsSize, council_book, shared_account}
 
 -- the shared account covers the targets after a prefix
 abbrev IsCoveredAt : ℕ → List Publication → ℕ → List TargetPair → Type 0

@@ -1,37 +1,10 @@
 -- Where the two payments of a process stand: the payment of its value at an own record, and its request in a round.
 use Rattle.std.proofs.Common.{◌≡◌, ℕ, ◌*◌, ◌^◌, ◌<◌, ◌≤◌, ◌==◌, ◌&&◌, ◌||◌, Bool, true, false, cond, List, [], length, take, refl, sym, ap, subst, ◌∙◌, arith, inl, inr}
 use Rattle.std.specs.Prelude.{Some}
-use Rattle.std.proofs.lemmas.Bool.{cases_lt, eq-eqb, ne_eqb}
-use Rattle.std.proofs.lemmas.List.{take_all}
-use Rattle.std.proofs.lemmas.List.Sums.{get_or-le-sum_by}
-use Rattle.std.specs.List.{sum_by}
-use Rattle.at_ledger.specs.Account.{AccountTerms, is_shared, is_single}
-use Rattle.at_ledger.specs.Book.{account_of, is_owner}
-use Rattle.at_ledger.specs.Call.{TargetPair, amount_of, payout_of}
-use Rattle.at_ledger.specs.declared.call.Call.TheVariants.{Transfer}
-use Rattle.at_ledger.specs.declared.call.Reply.TheVariants.{Done, Short}
-use Rattle.at_history.proofs.Laws.Counts.{get_or-publications_of}
-use Rattle.at_history.proofs.Laws.Rounds.{one_if}
-use Rattle.at_history.specs.Balances.{balance_after, debit_of, debits}
-use Rattle.at_history.specs.BoardState.{publication_at}
-use Rattle.at_history.specs.Entries.{is_own}
-use Rattle.at_history.specs.Fronts.{place}
-use Rattle.at_history.specs.Publications.{no_publication, publications_of}
-use Rattle.at_history.specs.Rounds.{firsts, owns_of}
-use Rattle.at_history.specs.declared.publication.Entry.{Entry}
-use Rattle.at_history.specs.declared.publication.Entry.TheVariants.{Own, Round}
-use Rattle.at_history.specs.declared.publication.Publication.{Publication}
-use Rattle.at_log.proofs.Laws.Positions.{own_position-at}
-use Rattle.at_log.proofs.Laws.Replies.{same_payout}
-use Rattle.at_log.specs.Placed.{IsAtFront, IsAtOwn, IsAtRound, IsPlaced, done, full, has_no_room, not_owner, read, round, short}
-use Rattle.at_log.specs.Receipts.{asks_in, owns_in}
-use Rattle.at_log.specs.Told.{own_position}
-use Rattle.at_log.specs.declared.receipt.Receipt.{Receipt}
+use Rattle.at_agree.proofs.Prelude.{cases_lt, eq-eqb, ne_eqb, take_all, get_or-le-sum_by, sum_by, AccountTerms, is_shared, is_single, account_of, is_owner, TargetPair, amount_of, payout_of, Transfer, Done, Short, get_or-publications_of, one_if, balance_after, debit_of, debits, publication_at, is_own, place, no_publication, publications_of, firsts, owns_of, Entry, Own, Round, Publication, own_position-at, same_payout, IsAtCut, IsAtOwn, IsAtRound, IsPlaced, done, full, has_no_room, not_owner, read, round, short, asks_in, owns_in, own_position, Receipt, IsSize, council_book, most_value, shared_account, spent_account, value_account, HasShareDecided, HasProposed, share_of, share_targets, value_targets}
 use Rattle.at_agree.proofs.CouncilBook.{account_of-own, is_owner-own, is_owner-shared, is_single-shared, owner-shared, slot-shared}
 use Rattle.at_agree.proofs.SharedBalance.{amount_of-one, sum_by-firsts_none}
 use Rattle.at_agree.proofs.Shown.{IsCouncilList}
-use Rattle.at_agree.specs.Council.{IsSize, council_book, most_value, shared_account, spent_account, value_account}
-use Rattle.at_agree.specs.Plan.{HasShareDecided, HasProposed, share_of, share_targets, value_targets}
 
 -- a weight that nothing in a list has, in any prefix
 pub sum_by-firsts_never : (f : Publication → ℕ) (list : List Publication) (m : ℕ)
@@ -88,10 +61,10 @@ room-shared k earlier some none =
     never true = refl
     never false = refl
 
--- the payment of the value was decided: at an own record, or at a front whose balance doesn't cover it
+-- the payment of the value was decided: at an own record, or at a cut whose balance doesn't cover it
 pub data IsDecidedValue (k p value : ℕ) (list : List Publication) (r : Receipt) : Type 0 where
   paid : r.reply ≡ Done → IsAtOwn p list [] p (value_targets k p value) r → IsDecidedValue k p value list r
-  refused : (balance : ℕ) → r.reply ≡ Short → IsAtFront (council_book k) list p balance r → balance < value → IsDecidedValue k p value list r
+  refused : (balance : ℕ) → r.reply ≡ Short → IsAtCut (council_book k) list p balance r → balance < value → IsDecidedValue k p value list r
 
 pub value_decided : (k p value : ℕ) (list : List Publication) (r : Receipt) → p < k → r.call ≡ Transfer p (value_account k p) value
     → IsPlaced (council_book k) p list [] r → IsDecidedValue k p value list r
@@ -112,7 +85,7 @@ value_decided k p value list r known call_is placed =
       | short source balance targets may single reply at less ↦
           let pair = same source targets may.call in
           let amount : value ≡ amount_of targets = sym (amount_of-one (value_account k p) value) ∙ ap (λ (x : ℕ × List TargetPair). amount_of x.1) pair in
-          refused balance reply (subst (λ (x : ℕ × List TargetPair). IsAtFront b list x.0 balance r) (sym pair) at) (omega (arith, amount, less))
+          refused balance reply (subst (λ (x : ℕ × List TargetPair). IsAtCut b list x.0 balance r) (sym pair) at) (omega (arith, amount, less))
       | done source targets may single reply at ↦
           paid reply (subst (λ (x : ℕ × List TargetPair). IsAtOwn p list [] x.0 x.1 r) (sym (same source targets may.call)) at)
       | round source targets may shared at ↦

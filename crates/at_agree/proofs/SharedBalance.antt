@@ -1,29 +1,8 @@
 -- The balance of the shared account: all of it until the first round, and then what the chosen process has left there.
 use Rattle.std.proofs.Common.{◌≡◌, ℕ, ◌+◌, ◌*◌, ◌<◌, ◌≤◌, ◌==◌, ◌&&◌, zero, suc, Bool, true, false, cond, List, [], ◌∷◌, ◌++◌, length, take, refl, sym, ap, subst, ◌∙◌, arith, inl, inr}
-use Rattle.std.proofs.lemmas.Bool.{cases_Bool, cond_both, cases_lt, eq-eqb, ne_eqb}
-use Rattle.std.proofs.lemmas.List.Sums.{sum_by_push}
-use Rattle.std.specs.List.{sum_by}
-use Rattle.at_base.specs.declared.decision.Decision.{Decision}
-use Rattle.at_ledger.specs.Account.{AccountTerms}
-use Rattle.at_ledger.specs.Book.{account_of}
-use Rattle.at_ledger.specs.Call.{TargetPair, amount_of}
-use Rattle.at_history.proofs.Laws.Prefixes.{take-publication_at}
-use Rattle.at_history.proofs.Laws.Rounds.{firsts-nil, one_if, sum_by-firsts_new, sum_by-firsts_nothing, sum_by-firsts-take_mono, sum_by-firsts-take_same}
-use Rattle.at_history.specs.Balances.{amount_for, credit_of, credits, debit_of, debits}
-use Rattle.at_history.specs.BoardState.{publication_at}
-use Rattle.at_history.specs.Entries.{is_own, is_round, is_round_on, names}
-use Rattle.at_history.specs.Histories.{AgreeOnRound}
-use Rattle.at_history.specs.Rounds.{firsts, named, owns_of, repeats, rounds}
-use Rattle.at_history.specs.declared.publication.Entry.{Entry}
-use Rattle.at_history.specs.declared.publication.Entry.TheVariants.{Own, Round}
-use Rattle.at_history.specs.declared.publication.Publication.{Publication}
-use Rattle.at_log.proofs.Laws.FirstRecords.{is_round-true}
-use Rattle.at_log.proofs.Laws.Positions.{round_position-at}
-use Rattle.at_log.specs.Told.{round_position}
+use Rattle.at_agree.proofs.Prelude.{cases_Bool, cond_both, cases_lt, eq-eqb, ne_eqb, sum_by_push, sum_by, Decision, AccountTerms, account_of, TargetPair, amount_of, take-publication_at, firsts-nil, one_if, sum_by-firsts_new, sum_by-firsts_nothing, sum_by-firsts-take_mono, sum_by-firsts-take_same, amount_for, credit_of, credits, debit_of, debits, publication_at, is_own, is_round, is_round_on, names, AgreeOnRound, firsts, named, owns_of, repeats, rounds, Entry, Own, Round, Publication, is_round-true, round_position-at, round_position, IsSize, council_book, shared_account, spent_account, IsPlanned, KeepsPlan, chosen, share_of, winner_in, winner_of}
 use Rattle.at_agree.proofs.CouncilBook.{account_of-shared, owner-shared}
 use Rattle.at_agree.proofs.Shown.{IsCouncilList, NamesAnew}
-use Rattle.at_agree.specs.Council.{IsSize, council_book, shared_account, spent_account}
-use Rattle.at_agree.specs.Plan.{IsPlanned, KeepsPlan, chosen, share_of, winner_in, winner_of}
 
 -- a weight that nothing in a prefix has
 pub sum_by-firsts_none : (f : Publication → ℕ) (list : List Publication) (m : ℕ) → m ≤ length list

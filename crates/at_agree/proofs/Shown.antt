@@ -1,14 +1,6 @@
 -- What a list of a council's publications shows by itself, whether a voice has seen it or it is the journal's order.
 use Rattle.std.proofs.Common.{◌≡◌, ℕ, ◌<◌, ◌≤◌, true, false, List, length, take}
-use Rattle.at_base.specs.declared.decision.Decision.{Decision}
-use Rattle.at_ledger.specs.Call.{TargetPair, amount_of}
-use Rattle.at_history.specs.Balances.{IsCovered}
-use Rattle.at_history.specs.BoardState.{publication_at}
-use Rattle.at_history.specs.Histories.{AgreeOnRound}
-use Rattle.at_history.specs.Rounds.{firsts, named, owns_of, repeats, rounds}
-use Rattle.at_history.specs.declared.publication.Entry.TheVariants.{Own, Round}
-use Rattle.at_history.specs.declared.publication.Publication.{Publication}
-use Rattle.at_agree.specs.Council.{council_book, shared_account}
+use Rattle.at_agree.proofs.Prelude.{Decision, TargetPair, amount_of, IsCovered, publication_at, AgreeOnRound, firsts, named, owns_of, repeats, rounds, Own, Round, Publication, council_book, shared_account}
 
 -- a record of a round of the shared account at a position: its slot is a process, its round is at most the next one there, exactly
 -- the rounds before it stand at its decision's place, and where the balance there covers it, it succeeds

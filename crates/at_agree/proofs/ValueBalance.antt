@@ -1,24 +1,9 @@
 -- The balance of the account that takes a process's value: nothing, and once the process has proposed, its value.
 use Rattle.std.proofs.Common.{◌≡◌, ℕ, ◌+◌, ◌*◌, ◌<◌, ◌≤◌, ◌==◌, ◌&&◌, zero, suc, Bool, true, false, cond, List, length, take, refl, sym, ap, subst, ◌∙◌, arith, inl, inr, ◌⊎◌}
-use Rattle.std.proofs.lemmas.Bool.{cond_both, cases_eq, eq-eqb, ne_eqb}
-use Rattle.std.proofs.lemmas.List.Sums.{sum_by_push, sum_by-take-le}
-use Rattle.at_ledger.specs.Account.{AccountTerms}
-use Rattle.at_ledger.specs.Book.{account_of}
-use Rattle.at_ledger.specs.Call.{TargetPair, amount_of}
-use Rattle.at_history.proofs.Laws.Prefixes.{take-publication_at}
-use Rattle.at_history.proofs.Laws.Rounds.{one_if, published, sum_by-firsts_new, sum_by-firsts_nothing, repeats-own}
-use Rattle.at_history.specs.Balances.{amount_for, balance_after, credit_of, credits, debit_of, debits}
-use Rattle.at_history.specs.BoardState.{publication_at}
-use Rattle.at_history.specs.Entries.{is_own}
-use Rattle.at_history.specs.Rounds.{firsts, owns_of, repeats}
-use Rattle.at_history.specs.declared.publication.Entry.{Entry}
-use Rattle.at_history.specs.declared.publication.Entry.TheVariants.{Own, Round}
-use Rattle.at_history.specs.declared.publication.Publication.{Publication}
+use Rattle.at_agree.proofs.Prelude.{cond_both, cases_eq, eq-eqb, ne_eqb, sum_by_push, sum_by-take-le, AccountTerms, account_of, TargetPair, amount_of, take-publication_at, one_if, published, sum_by-firsts_new, sum_by-firsts_nothing, repeats-own, amount_for, balance_after, credit_of, credits, debit_of, debits, publication_at, is_own, firsts, owns_of, repeats, Entry, Own, Round, Publication, council_book, value_account, HasProposed, IsPlanned, KeepsPlan, share_of, value_targets, winner_of}
 use Rattle.at_agree.proofs.CouncilBook.{account_of-value}
 use Rattle.at_agree.proofs.SharedBalance.{amount_for-one, sum_by-firsts_none}
 use Rattle.at_agree.proofs.Shown.{IsCouncilList}
-use Rattle.at_agree.specs.Council.{council_book, value_account}
-use Rattle.at_agree.specs.Plan.{HasProposed, IsPlanned, KeepsPlan, share_of, value_targets, winner_of}
 
 -- what a record that is planned gives a value account
 credit_of-own : (k p q from value : ℕ) (targets : List TargetPair) → targets ≡ value_targets k q value

@@ -1,25 +1,10 @@
 -- One more call with a voice: what its type keeps, and what the two payments leave in what it has seen.
 use Rattle.std.proofs.Common.{◌≡◌, ℕ, ◌+◌, ◌*◌, ◌^◌, ◌<◌, true, false, cond, List, [], ◌∷◌, ◌++◌, length, sym, ap, subst, ◌∙◌, arith, inl, inr, length-append}
-use Rattle.at_ledger.specs.Account.{AccountTerms, is_shared, is_single, slots_of}
-use Rattle.at_ledger.specs.Book.{BookTerms, account_of}
-use Rattle.at_ledger.specs.declared.call.Call.TheVariants.{Transfer}
-use Rattle.at_ledger.specs.declared.call.Reply.TheVariants.{Short}
-use Rattle.at_history.specs.Histories.{IsHistory}
-use Rattle.at_history.specs.Rounds.{owns_of}
-use Rattle.at_board.specs.Knowledge.Seats.{BoardTerms}
-use Rattle.at_log.specs.Placed.{IsPlaced}
-use Rattle.at_log.specs.Receipts.{asks_in}
-use Rattle.at_log.specs.declared.receipt.Receipt.{Receipt}
-use Rattle.at_object.specs.Paid.{PaysAlone}
-use Rattle.at_object.specs.Passes.{IsPassOf, PassTerms, Stands, one_more_call}
-use Rattle.at_object.specs.Payments.{IsDecidedByBalance, payment_steps, shared_steps, single_steps}
+use Rattle.at_agree.proofs.Prelude.{AccountTerms, is_shared, is_single, slots_of, BookTerms, account_of, Transfer, Short, IsHistory, owns_of, BoardTerms, IsPlaced, asks_in, Receipt, PaysAlone, IsPassOf, PassTerms, Stands, one_more_call, IsDecidedByBalance, payment_steps, shared_steps, single_steps, IsCouncil, IsSize, council_book, shared_account, size_of, spent_account, value_account, HasShareDecided, HasProposed, share_of, IsVoice, IsVoiceOf, VoiceTerms, process_of}
 use Rattle.at_agree.proofs.CouncilBook.{account_of-own, is_shared-shared, length-accounts, slots_of-shared}
 use Rattle.at_agree.proofs.HistoryShown.{IsCouncilList-IsHistory}
 use Rattle.at_agree.proofs.PlacedCalls.{HasShareDecided-IsAtRound, HasProposed-IsAtOwn, share_placed, paid, refused, value_decided, value_placed}
 use Rattle.at_agree.proofs.VotedReceipts.{short-is_at_own}
-use Rattle.at_agree.specs.Council.{IsCouncil, IsSize, council_book, shared_account, size_of, spent_account, value_account}
-use Rattle.at_agree.specs.Plan.{HasShareDecided, HasProposed, share_of}
-use Rattle.at_agree.specs.Voices.{IsVoice, IsVoiceOf, VoiceTerms, process_of}
 
 -- the voice's process is one of the council's
 pub known_in : (council : BoardTerms) (voice : VoiceTerms) (k p : ℕ) → k ≡ size_of council → p ≡ process_of voice

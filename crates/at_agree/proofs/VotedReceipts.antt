@@ -1,32 +1,10 @@
 -- What the receipts of a process's four calls say of a list in which they stand: where each stands, and in which order.
 use Rattle.std.proofs.Common.{◌≡◌, ℕ, ◌+◌, ◌*◌, ◌^◌, ◌<◌, ◌≤◌, ◌&&◌, Bool, true, false, cond, List, [], ◌∷◌, length, take, refl, sym, ap, subst, ◌∙◌, arith}
 use Rattle.std.specs.Prelude.{None}
-use Rattle.std.proofs.lemmas.Bool.{eq-eqb, ne_eqb}
-use Rattle.std.proofs.lemmas.List.{get_or_default}
-use Rattle.at_base.specs.declared.decision.Decision.{Decision}
-use Rattle.at_ledger.specs.Book.{HasSlot}
-use Rattle.at_ledger.specs.declared.call.Call.{Call}
-use Rattle.at_ledger.specs.declared.call.Call.TheVariants.{Transfer, Read}
-use Rattle.at_ledger.specs.declared.call.Reply.TheVariants.{Balance, Done, Short}
-use Rattle.at_history.proofs.Laws.Fronts.{place-IsFront-le}
-use Rattle.at_history.specs.Balances.{balance_after}
-use Rattle.at_history.specs.BoardState.{publication_at}
-use Rattle.at_history.specs.Fronts.{place}
-use Rattle.at_history.specs.Publications.{ArePublishedBy, no_publication}
-use Rattle.at_history.specs.Rounds.{named, owns_of}
-use Rattle.at_history.specs.declared.publication.Entry.TheVariants.{Round}
-use Rattle.at_history.specs.declared.publication.Publication.{Publication}
-use Rattle.at_log.specs.Placed.{IsPlaced, done, full, not_owner, read, round, short}
-use Rattle.at_ledger.specs.Call.{payout_of}
-use Rattle.at_log.specs.Receipts.{asks_in, calls_of, is_at_own, is_at_round, is_payout_from, is_success, owns_in, receipt_at}
-use Rattle.at_log.specs.Told.{Told, key_at, key_of, keys_from, own_position, round_position}
-use Rattle.at_log.specs.declared.receipt.At.{At}
-use Rattle.at_log.specs.declared.receipt.Receipt.{Receipt}
+use Rattle.at_agree.proofs.Prelude.{eq-eqb, ne_eqb, get_or_default, Decision, HasSlot, Call, Transfer, Read, Balance, Done, Short, place-IsCut-le, balance_after, publication_at, place, ArePublishedBy, no_publication, named, owns_of, Round, Publication, IsPlaced, done, full, not_owner, read, round, short, payout_of, asks_in, calls_of, is_at_own, is_at_round, is_payout_from, is_success, owns_in, receipt_at, Told, key_at, key_of, keys_from, own_position, round_position, At, Receipt, IsSize, council_book, shared_account, spent_account, value_account, HasProposed, HasVoted, share_of, share_targets, named_account}
 use Rattle.at_agree.proofs.CouncilBook.{length-accounts, slot-shared, slots_of-shared}
 use Rattle.at_agree.proofs.PlacedCalls.{HasProposed-IsAtOwn, share_placed, position-HasProposed, slot-IsAtRound, value_placed}
 use Rattle.at_agree.proofs.Shown.{IsCouncilList}
-use Rattle.at_agree.specs.Council.{IsSize, council_book, shared_account, spent_account, value_account}
-use Rattle.at_agree.specs.Plan.{HasProposed, HasVoted, share_of, share_targets, named_account}
 
 -- four receipts by their calls
 pub record AreFour (receipts : List Receipt) (c0 c1 c2 c3 : Call) : Type 0 where
@@ -58,12 +36,12 @@ four_of (r0 ∷ r1 ∷ r2 ∷ r3 ∷ []) c0 c1 c2 c3 is = record {
 }
 four_of (r0 ∷ r1 ∷ r2 ∷ r3 ∷ r4 ∷ rest) c0 c1 c2 c3 is = absurd (cc is)
 
--- a read stands at a front
+-- a read stands at a cut
 pub record ReadsAt (k : ℕ) (list : List Publication) (account balance : ℕ) (at : At) : Type 0 where
-  pub front : List ℕ
-  pub at_is : at ≡ At.Front front
-  pub within : place front ≤ length list
-  pub balance_is : balance_after (council_book k) (take (place front) list) account ≡ balance
+  pub cut : List ℕ
+  pub at_is : at ≡ At.Cut cut
+  pub within : place cut ≤ length list
+  pub balance_is : balance_after (council_book k) (take (place cut) list) account ≡ balance
 
 ArePublishedBy-shown : (k : ℕ) (list : List Publication) → IsCouncilList k list → ArePublishedBy k list
 ArePublishedBy-shown k list shown =
@@ -79,9 +57,9 @@ read_placed k p account balance list earlier r shown call_is reply_is placed =
           let account_is : a ≡ account = cc (sym call ∙ call_is) in
           let balance_is : n ≡ balance = cc (sym reply ∙ reply_is) in
           record {
-            front = at.view;
+            cut = at.view;
             at_is = at.at;
-            within = place-IsFront-le k at.view list at.front (ArePublishedBy-shown k list shown);
+            within = place-IsCut-le k at.view list at.cut (ArePublishedBy-shown k list shown);
             balance_is = ap (λ c. balance_after (council_book k) (take (place at.view) list) c) (sym account_is) ∙ (at.balance ∙ balance_is);
           }
       | not_owner source targets payout owner reply at ↦ absurd (cc (sym none ∙ payout))
@@ -205,9 +183,9 @@ key_of-short : (p number at previous : ℕ) (list : List Publication) (r : Recei
 key_of-short p number at previous list r ok at_is reply_is refused =
     λ t. key_at p list previous r.call (is_success ((reply_is ∙ ap (λ s. cond s Done Short) refused) t)) (at_is t)
 
-key_of-front : (p previous : ℕ) (front : List ℕ) (list : List Publication) (r : Receipt) → r.at ≡ At.Front front
-    → key_of p list previous r ≡ 2 * place front
-key_of-front p previous front list r at_is = ap (λ at. key_at p list previous r.call (is_success r.reply) at) at_is
+key_of-cut : (p previous : ℕ) (cut : List ℕ) (list : List Publication) (r : Receipt) → r.at ≡ At.Cut cut
+    → key_of p list previous r ≡ 2 * place cut
+key_of-cut p previous cut list r at_is = ap (λ at. key_at p list previous r.call (is_success r.reply) at) at_is
 
 key_of-own : (p previous number : ℕ) (list : List Publication) (r : Receipt) → r.at ≡ At.Own number
     → key_of p list previous r ≡ 2 * own_position p number list + 1
@@ -239,8 +217,8 @@ module _ (k p value left answer : ℕ) (list : List Publication) (r0 r1 r2 r3 : 
       let order = in_order k p list r0 r1 r2 r3 told in
       let own_key = key_of-own p 0 paid.number list r0 paid.at in
       let own_at = position-HasProposed k p value list [] r0 paid in
-      let found_key = key_of-front p order.key1 read2.front list r2 read2.at_is in
-      let last_key = key_of-front p order.key2 read3.front list r3 read3.at_is in
+      let found_key = key_of-cut p order.key1 read2.cut list r2 read2.at_is in
+      let last_key = key_of-cut p order.key2 read3.cut list r3 read3.at_is in
       let ok = asked.decision.ok in
       let done_key : ok ≡ true → key_of p list order.key0 r1 ≡ 2 * round_position a asked.round list + 1 =
       λ (e : ok ≡ true). key_of-done p asked.round asked.decision.place order.key0 a (spent_account k) (share_of k p) list r1 ok call1 asked.at asked.reply e in
@@ -261,12 +239,12 @@ module _ (k p value left answer : ℕ) (list : List Publication) (r0 r1 r2 r3 : 
         paid_done = λ e. omega (arith, own_at, own_key, done_key e, order.first);
         paid_short = λ e. omega (arith, own_at, own_key, short_key e, order.first);
         left = left;
-        found = place read2.front;
+        found = place read2.cut;
         found_in = read2.within;
         found_done = λ e. omega (arith, found_key, done_key e, order.second);
         found_short = λ e. omega (arith, found_key, short_key e, order.second);
         found_is = read2.balance_is;
-        answered = place read3.front;
+        answered = place read3.cut;
         answered_in = read3.within;
         answered_after = omega (arith, found_key, last_key, order.third);
         answered_is = read3.balance_is;

@@ -1,10 +1,6 @@
 -- What an agreement leaves, and what its threads leave on the way there.
 use Rattle.std.specs.Prelude.{◌≡◌, ℕ, ◌^◌, ◌<◌, List, length, map, slice_index, slice_index_or, All, Contains}
-use Rattle.at_board.specs.Knowledge.Seats.{BoardTerms}
-use Rattle.at_log.specs.ClosingTerms.{receipts_of}
-use Rattle.at_log.specs.Coherent.{Coherent}
-use Rattle.at_object.specs.Closings.{ClosedTerms}
-use Rattle.at_object.specs.Passes.{Stands}
+use Rattle.at_agree.specs.Prelude.{BoardTerms, receipts_of, Coherent, ClosedTerms, Stands}
 use Rattle.at_agree.specs.Council.{council_book, size_of}
 use Rattle.at_agree.specs.Plan.{HasVoted}
 use Rattle.at_agree.specs.Voices.{HasNotProposed, IsVoiceOf, process_of}

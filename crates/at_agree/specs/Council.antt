@@ -1,9 +1,6 @@
 -- The book of a council, and a council as callers see it.
 use Rattle.std.specs.Prelude.{◌≡◌, ℕ, ◌+◌, ◌*◌, ◌^◌, ◌-◌, ◌++◌, ◌≤◌, [], ◌∷◌, map, replicate}
-use Rattle.std.specs.List.{range_with_len}
-use Rattle.at_board.specs.Knowledge.Seats.{BoardTerms}
-use Rattle.at_ledger.specs.Account.{AccountTerms}
-use Rattle.at_ledger.specs.Book.{BookTerms}
+use Rattle.at_agree.specs.Prelude.{range_with_len, BoardTerms, AccountTerms, BookTerms}
 
 -- the most that a process can propose
 abbrev pub most_value : ℕ

@@ -1,3 +1,4 @@
+pub mod Prelude
 pub mod Council
 pub mod Voices
 pub mod Plan

@@ -1,19 +1,6 @@
 -- The plan: the four calls of a process, lists of publications in which all processes keep to it, and the value that is chosen.
 use Rattle.std.specs.Prelude.{◌≡◌, ℕ, ◌+◌, ◌-◌, ◌*◌, ◌<◌, ◌≤◌, ◌&&◌, List, [], ◌∷◌, length, nat_le, take, if◌then◌else◌}
-use Rattle.at_base.specs.declared.decision.Decision.{Decision}
-use Rattle.at_history.specs.BoardState.{publication_at}
-use Rattle.at_history.specs.Moves.{decided_owner}
-use Rattle.at_history.specs.Rounds.{owns_of}
-use Rattle.at_history.specs.declared.publication.Entry.{Entry}
-use Rattle.at_history.specs.declared.publication.Entry.TheVariants.{Own, Round}
-use Rattle.at_history.specs.declared.publication.Publication.{Publication}
-use Rattle.at_ledger.specs.Call.{TargetPair}
-use Rattle.at_ledger.specs.declared.call.Call.{Call}
-use Rattle.at_ledger.specs.declared.call.Call.TheVariants.{Transfer, Read}
-use Rattle.at_ledger.specs.declared.call.Reply.TheVariants.{Balance}
-use Rattle.at_log.specs.Receipts.{calls_of, receipt_at}
-use Rattle.at_log.specs.Told.{round_position}
-use Rattle.at_log.specs.declared.receipt.Receipt.{Receipt}
+use Rattle.at_agree.specs.Prelude.{Decision, publication_at, decided_owner, owns_of, Entry, Own, Round, Publication, TargetPair, Call, Transfer, Read, Balance, calls_of, receipt_at, round_position, Receipt}
 use Rattle.at_agree.specs.Council.{council_book, shared_account, spent_account, value_account}
 
 -- what process p asks for from the shared account: at least half of it, and no two of these fit into it, so that one request alone is done, and p + 1 are left then

@@ -1,14 +1,6 @@
 -- Voices as callers see them, and what their type keeps.
 use Rattle.std.specs.Prelude.{◌≡◌, ℕ, ◌+◌, ◌*◌, ◌<◌, ◌≤◌, ◌++◌, List, [], ◌∷◌, length, slice_index_or, refl}
-use Rattle.at_board.specs.Knowledge.Seats.{BoardTerms}
-use Rattle.at_history.specs.Publications.{IsPrefix}
-use Rattle.at_history.specs.declared.publication.Publication.{Publication}
-use Rattle.at_ledger.specs.declared.call.Call.{Call}
-use Rattle.at_ledger.specs.declared.call.Call.TheVariants.{Read}
-use Rattle.at_ledger.specs.declared.call.Reply.TheVariants.{Balance}
-use Rattle.at_log.specs.declared.receipt.Receipt.{Receipt}
-use Rattle.at_object.specs.Passes.{IsNewPass, IsPassOf, PassTerms, Stands, others_counted}
-use Rattle.at_snapshot.specs.Snapshots.{snapshot_steps}
+use Rattle.at_agree.specs.Prelude.{BoardTerms, IsPrefix, Publication, Call, Read, Balance, Receipt, IsNewPass, IsPassOf, PassTerms, Stands, others_counted, snapshot_steps}
 use Rattle.at_agree.specs.Council.{size_of}
 
 -- a voice by its pass, and the receipts of the calls that were made with it

@@ -4,9 +4,8 @@ ghost use Rattle.std.specs.Prelude.{◌≡◌, ℕ, ◌<◌, ◌^◌, All, IfOk,
 ghost use Rattle.at_agree.specs.Agreement.{AreCast, IsAgreement, IsCast, MayVote, StandsByItself, values_of};
 ghost use Rattle.at_agree.specs.Council.{IsSize};
 ghost use Rattle.at_agree.specs.declared.votes.Vote.{Vote};
-ghost use Rattle.at_log.specs.Receipts.{lists_in};
+ghost use Rattle.at_agree.specs.Prelude.{contents_of};
 
-use crate::NoMemory;
 use crate::council::Council;
 use crate::votes::{Vote, propose_one, votes_of};
 use at_log::Receipt;
@@ -23,7 +22,7 @@ pub struct Agreed {
 
 /// Each value is proposed by a process of its own, in a thread of its own. All processes get one answer, which is one of the values.
 /// The closed ledger shows it, whatever the threads' steps were.
-pub fn agree<R: Threads + Sync>(rt: &R, alloc: Global, values: &[u64]) -> Result<Agreed, NoMemory>
+pub fn agree<R: Threads + Sync>(rt: &R, alloc: Global, values: &[u64]) -> Result<Agreed, AllocError>
     requires size { IsSize (length values.now) }
     requires small { All (λ v. v < 2 ^ 32) values.now }
     ensures { IfOk result (λ a. IsAgreement values.now a.closed a.value) }
@@ -54,7 +53,7 @@ fn propose_all<R: Threads + Sync>(rt: &R, council: &Council, votes: &mut Vec<Vot
 }
 
 /// Closes the council's ledger with all passes and receipts. The answer is that of process 0, and of all others.
-fn close(alloc: Global, council: Council, votes: Vec<Vote>) -> Result<Agreed, NoMemory>
+fn close(alloc: Global, council: Council, votes: Vec<Vote>) -> Result<Agreed, AllocError>
     requires some { 0 < length votes.items }
     requires made { AreCast council votes.items }
     ensures { IfOk result (λ a. IsAgreement (values_of votes.items) a.closed a.value) }
@@ -71,10 +70,10 @@ fn close(alloc: Global, council: Council, votes: Vec<Vote>) -> Result<Agreed, No
 }
 
 /// The passes and the receipts of all processes.
-fn parted(alloc: Global, votes: Vec<Vote>) -> Result<(Vec<Pass>, Vec<Vec<Receipt>>), NoMemory>
+fn parted(alloc: Global, votes: Vec<Vote>) -> Result<(Vec<Pass>, Vec<Vec<Receipt>>), AllocError>
     ensures passes { IfOk result (λ r. r.0.items ≡ map (λ x. x.voice.pass) votes.items) }
     ensures receipts { IfOk result
-        (λ r. lists_in r.1.items ≡ map (λ x. x.voice.receipts) votes.items) }
+        (λ r. contents_of r.1.items ≡ map (λ x. x.voice.receipts) votes.items) }
     ensures stands { IfOk result (λ r. All StandsByItself votes.items) }
 {
     let mut passes = Vec::with_capacity(alloc, votes.len())?;

@@ -1,11 +1,9 @@
 //! The book of a council.
 
 ghost use Rattle.std.specs.Prelude.{◌≡◌, [], IfOk, map};
-ghost use Rattle.std.specs.List.{range_with_len};
+ghost use Rattle.at_agree.specs.Prelude.{range_with_len, book_of, terms_of};
 ghost use Rattle.at_agree.specs.Council.{IsSize, council_book, own_account};
-ghost use Rattle.at_ledger.specs.Draft.{book_of, terms_of};
 
-use crate::NoMemory;
 use at_ledger::{Book, BookFault, Draft, DraftAccount};
 use std::alloc::{AllocError, Global};
 
@@ -13,7 +11,7 @@ use std::alloc::{AllocError, Global};
 const VALUE_MAX: u64 = 4_294_967_295;
 
 /// A checked book of a council of this size.
-pub(crate) fn book_for(alloc: Global, size: u32) -> Result<Book, NoMemory>
+pub(crate) fn book_for(alloc: Global, size: u32) -> Result<Book, AllocError>
     requires { IsSize size }
     ensures { IfOk result (λ b. b ≡ council_book size) }
 {
@@ -27,7 +25,7 @@ pub(crate) fn book_for(alloc: Global, size: u32) -> Result<Book, NoMemory>
 }
 
 /// The book before it is checked.
-fn draft_of(alloc: Global, size: u32) -> Result<Draft, NoMemory>
+fn draft_of(alloc: Global, size: u32) -> Result<Draft, AllocError>
     requires { IsSize size }
     ensures { IfOk result (λ d. book_of d ≡ council_book size) }
 {
@@ -49,7 +47,7 @@ fn draft_of(alloc: Global, size: u32) -> Result<Draft, NoMemory>
 }
 
 /// An account of each process alone.
-fn own_accounts(alloc: Global, size: u32) -> Result<Vec<DraftAccount>, NoMemory>
+fn own_accounts(alloc: Global, size: u32) -> Result<Vec<DraftAccount>, AllocError>
     ensures { IfOk result
         (λ accounts. map terms_of accounts.items ≡ map own_account (range_with_len 0 size)) }
 {
@@ -75,7 +73,7 @@ fn unowned(alloc: Global) -> DraftAccount
 }
 
 /// All processes, from the lowest up.
-fn all_processes(alloc: Global, size: u32) -> Result<Vec<u64>, NoMemory>
+fn all_processes(alloc: Global, size: u32) -> Result<Vec<u64>, AllocError>
     ensures { IfOk result (λ owners. owners.items ≡ range_with_len 0 size) }
 {
     let mut owners = Vec::new(alloc);

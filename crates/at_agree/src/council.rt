@@ -4,16 +4,13 @@ ghost use Rattle.std.specs.Prelude.{◌≡◌, ◌+◌, ◌*◌, ◌^◌, ◌<�
 ghost use Rattle.at_agree.specs.Council.{IsCouncil, IsSize, council_book, size_of};
 ghost use Rattle.at_agree.specs.Plan.{HasShareDecided, HasProposed, HasVoted, KeepsPlan, chosen, named_account};
 ghost use Rattle.at_agree.specs.Voices.{AreNewVoices, HasNotProposed, IsVoiceOf, process_of, propose_steps, seen_by};
-ghost use Rattle.at_board.specs.declared.words.TheConstants.{RECORD_WORDS};
-ghost use Rattle.at_history.specs.Publications.{IsPrefix};
-ghost use Rattle.at_object.specs.Passes.{AreNewPasses, counted_anew};
+ghost use Rattle.at_agree.specs.Prelude.{RECORD_WORDS, IsPrefix, AreNewPasses, counted_anew};
 
-use crate::NoMemory;
 use crate::book::book_for;
 use crate::voice::Voice;
 use arrayvec::ArrayVec;
 use at_object::{Ledger, Pass};
-use std::alloc::Global;
+use std::alloc::{AllocError, Global};
 use std::marker::Model;
 
 /// Two to eight processes that agree on one value. Threads share it by `&Council`, and each proposes with a voice of its own.
@@ -24,7 +21,7 @@ pub struct Council {
 
 impl Model for Council {
     ghost use Rattle.at_agree.specs.Council.{IsCouncil};
-    ghost use Rattle.at_board.specs.Knowledge.Seats.{BoardTerms};
+    ghost use Rattle.at_agree.specs.Prelude.{BoardTerms};
 
     ghost Value = { BoardTerms };
 
@@ -35,7 +32,7 @@ impl Model for Council {
 
 impl Council {
     /// A council of this size, and one voice for each process, in order. Takes the memory that proposing needs.
-    pub fn new(alloc: Global, size: u32) -> Result<(Council, Vec<Voice>), NoMemory>
+    pub fn new(alloc: Global, size: u32) -> Result<(Council, Vec<Voice>), AllocError>
         requires { IsSize size }
         ensures book { IfOk result (λ r. r.0.book ≡ council_book size) }
         ensures voices { IfOk result (λ r. AreNewVoices r.0 r.1.items) }
@@ -103,7 +100,7 @@ fn named_account(size: u32, process: u32, left: u64) -> u32
 }
 
 /// A voice for each pass of a new ledger.
-fn voices_for(alloc: Global, ledger: &Ledger, passes: Vec<Pass>) -> Result<Vec<Voice>, NoMemory>
+fn voices_for(alloc: Global, ledger: &Ledger, passes: Vec<Pass>) -> Result<Vec<Voice>, AllocError>
     requires { AreNewPasses ledger.now passes.items }
     ensures { IfOk result (λ voices. AreNewVoices ledger.now voices.items) }
 {

@@ -18,4 +18,3 @@ mod votes;
 pub use crate::agreement::{Agreed, agree};
 pub use crate::council::Council;
 pub use crate::voice::Voice;
-pub use at_object::NoMemory;

@@ -4,20 +4,13 @@ ghost use Rattle.std.specs.Prelude.{◌≡◌, ◌+◌, ◌*◌, ◌^◌, ◌<�
 ghost use Rattle.at_agree.specs.Council.{IsCouncil, shared_account, size_of, spent_account, value_account};
 ghost use Rattle.at_agree.specs.Plan.{HasShareDecided, HasProposed, share_of};
 ghost use Rattle.at_agree.specs.Voices.{HasMadeOneMore, HasNotProposed, HasRead, IsVoiceOf, process_of, seen_by};
-ghost use Rattle.at_board.specs.declared.words.TheConstants.{RECORD_WORDS};
-ghost use Rattle.at_history.specs.Histories.{IsHistory};
-ghost use Rattle.at_ledger.specs.declared.call.Call.{Call};
-ghost use Rattle.at_log.specs.Receipts.{asks_in};
-ghost use Rattle.at_object.specs.Passes.{Stands, counted_anew};
-ghost use Rattle.at_object.specs.Payments.{shared_steps, single_steps};
-ghost use Rattle.at_snapshot.specs.Snapshots.{snapshot_steps};
+ghost use Rattle.at_agree.specs.Prelude.{RECORD_WORDS, IsHistory, Call, asks_in, Stands, counted_anew, shared_steps, single_steps, snapshot_steps};
 
-use crate::NoMemory;
 use arrayvec::ArrayVec;
 use at_ledger::Reply;
 use at_log::Receipt;
 use at_object::{Ledger, Pass};
-use std::alloc::Global;
+use std::alloc::{AllocError, Global};
 use std::marker::Model;
 
 /// The right of one process of a council to propose a value, once. It has the process's pass, and the receipts of its four calls.
@@ -110,7 +103,7 @@ impl Voice {
     }
 
     /// The pass, and the receipts as a closing takes them.
-    pub(crate) fn split(self, alloc: Global) -> Result<(Pass, Vec<Receipt>), NoMemory>
+    pub(crate) fn split(self, alloc: Global) -> Result<(Pass, Vec<Receipt>), AllocError>
         ensures pass { IfOk result (λ r. r.0 ≡ self.pass) }
         ensures receipts { IfOk result (λ r. r.1.items ≡ self.receipts) }
         ensures stands { Stands self.pass self.receipts }

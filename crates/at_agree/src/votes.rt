@@ -4,7 +4,6 @@ ghost use Rattle.std.specs.Prelude.{◌≡◌, ◌<◌, ◌^◌, All, IfOk, leng
 ghost use Rattle.at_agree.specs.Agreement.{AllMayVote, IsCast, MayVote};
 ghost use Rattle.at_agree.specs.Voices.{AreNewVoices};
 
-use crate::NoMemory;
 use crate::council::Council;
 use crate::voice::Voice;
 use std::alloc::{AllocError, Global};
@@ -23,7 +22,7 @@ pub(crate) fn votes_of(
     council: &Council,
     voices: Vec<Voice>,
     values: &[u64],
-) -> Result<Vec<Vote>, NoMemory>
+) -> Result<Vec<Vote>, AllocError>
     requires voices { AreNewVoices council.now voices.items }
     requires count { length values.now ≡ length voices.items }
     requires small { All (λ v. v < 2 ^ 32) values.now }

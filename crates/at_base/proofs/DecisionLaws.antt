@@ -1,7 +1,6 @@
 -- Decisions by their words: two that fit have one word only if they are one.
 use Rattle.std.proofs.Common.{◌≡◌, ℕ, ◌+◌, ◌*◌, ◌<◌, Bool, true, false, cond, refl, arith}
-use Rattle.at_base.specs.Decision.{InRange, word_of}
-use Rattle.at_base.specs.declared.decision.Decision.{Decision}
+use Rattle.at_base.proofs.Prelude.{InRange, word_of, Decision}
 
 -- a decision by its word
 same_bit : (x y : Bool) → cond x 1 0 ≡ cond {A = ℕ} y 1 0 → x ≡ y

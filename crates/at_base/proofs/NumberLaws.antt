@@ -1,16 +1,6 @@
 -- The texts that are numbers are the canonical decimals.
 use Rattle.std.proofs.Common.{◌≡◌, ℕ, ◌^◌, ◌<◌, ◌↔◌, Bool, true, false, ◌&&◌, nat_lt, List, length, get_or, Some, None, decimal, refl, sym, ap, ◌∙◌, arith, rules, inl, inr, ◌⊎◌, ◌+◌, ◌*◌, ◌≤◌, take, if◌then◌else◌}
-use borrow.Author.Tests.{ltb-true}
-use Rattle.std.specs.Char.{digit_value, is_ascii_digit}
-use Rattle.std.specs.List.{list_all}
-use Rattle.std.specs.Str.Parse.{digits_value}
-use Rattle.std.proofs.lemmas.Grind.{common_steps}
-use Rattle.std.proofs.lemmas.Bool.Decides.{nat_tests}
-use Rattle.std.proofs.lemmas.Int.Digits.{digits_value_more}
-use Rattle.std.proofs.lemmas.List.Folds.{list_all_at, list_all_more}
-use Rattle.std.proofs.lemmas.Str.Parse.{IsDigitsTest, IsNumeralModel, digits_value-take-le, numerals_by_value}
-use Rattle.std.proofs.lemmas.Fmt.{digits_decimal, digits_value-decimal, decimal-digits_value, first_decimal, decimal_digit}
-use Rattle.at_base.specs.Numbers.{begins_canonical, is_canonical, number_of}
+use Rattle.at_base.proofs.Prelude.{ltb-true, digit_value, is_ascii_digit, list_all, digits_value, common_steps, nat_tests, digits_value_more, list_all_at, list_all_more, IsDigitsTest, IsNumeralModel, digits_value-take-le, numerals_by_value, digits_decimal, digits_value-decimal, decimal-digits_value, first_decimal, decimal_digit, begins_canonical, is_canonical, number_of}
 
 -- each byte is a digit
 abbrev pub AreDigits : List ℕ → Type 0

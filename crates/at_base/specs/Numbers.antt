@@ -1,8 +1,6 @@
 -- Which texts are numbers, and which number each is.
 use Rattle.std.specs.Prelude.{ℕ, ◌^◌, Bool, ◌&&◌, ◌||◌, ◌==◌, List, length, slice_index, nat_lt, Option, Some, None, if◌then◌else◌}
-use Rattle.std.specs.Char.{is_ascii_digit}
-use Rattle.std.specs.List.{list_all}
-use Rattle.std.specs.Str.Parse.{digits_value}
+use Rattle.at_base.specs.Prelude.{is_ascii_digit, list_all, digits_value}
 
 -- one byte, or any number of them whose first is above `0`
 abbrev pub begins_canonical : List ℕ → Bool

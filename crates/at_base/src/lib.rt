@@ -9,9 +9,6 @@ mod decision;
 mod head;
 mod numbers;
 
-/// What a call answers that found no memory.
-pub type NoMemory = std::alloc::AllocError;
-
 pub use crate::counts::{COUNTS_MAX, Counts};
 pub use crate::decision::{Decision, pack_decision, unpack_decision};
 pub use crate::head::{Head, pack_head, unpack_head};

@@ -1,10 +1,10 @@
 //! Numbers as text: canonical decimals.
 
 ghost use Rattle.std.specs.Prelude.{◌≡◌, ℕ, ◌+◌, ◌*◌, ◌^◌, ◌<◌, ◌≤◌, ◌↔◌, ◌++◌, true, Some, None, IfSome, OnOk, OnErr, decimal};
-ghost use Rattle.std.specs.Char.{digit_value, is_ascii_digit};
+ghost use Rattle.at_base.specs.Prelude.{digit_value, is_ascii_digit};
 ghost use Rattle.at_base.specs.Numbers.{begins_canonical, number_of};
 
-use crate::NoMemory;
+use std::alloc::AllocError;
 
 /// Whether no sign and no leading zero stands first: such texts are canonical where they are digits alone.
 fn begins_canonically(text: &[u8]) -> bool
@@ -51,7 +51,7 @@ pub fn parse_number(text: &[u8]) -> Option<u64>
 }
 
 /// Appends a number, as its canonical decimal.
-pub fn push_number(out: &mut Vec<u8>, n: u64) -> Result<(), NoMemory>
+pub fn push_number(out: &mut Vec<u8>, n: u64) -> Result<(), AllocError>
     ensures ok { OnOk result (out.new.items ≡ out.old.items ++ decimal n) }
     ensures err { OnErr result (out.new.items ≡ out.old.items) }
 {

@@ -1,7 +1,6 @@
 -- Laws of counts of steps.
 use Rattle.std.proofs.Common.{◌≡◌, ℕ, ◌+◌, ◌∙◌, ap, arith}
-use Rattle.at_board.specs.Counting.{raised, stepped}
-use Rattle.at_board.specs.Knowledge.Seats.{SeatTerms}
+use Rattle.at_board.proofs.Prelude.{raised, stepped, SeatTerms}
 
 -- so many steps and then so many
 pub raised-none : (count : ℕ) → count ≡ raised count 0

@@ -1,5 +1,5 @@
 pub mod Closed
 pub mod Closing
 pub mod Opening
-pub mod Cuts
+pub mod Deals
 pub mod Reading

@@ -1,17 +1,6 @@
 -- All states that the rule allows at one moment have published one list.
 use Rattle.std.proofs.Common.{◌≡◌, ℕ, ◌+◌, ◌-◌, ◌<◌, ◌≤◌, List, [], ◌∷◌, length, take, refl, sym, ap, subst, ◌∙◌, arith, inl, inr}
-use lib.ListN.{get_elem?}
-use mathlib.Core.Option.{some}
-use Rattle.std.proofs.lemmas.Bool.{cases_lt}
-use Rattle.std.proofs.lemmas.List.{take_all}
-use Rattle.at_ledger.specs.Book.{BookTerms}
-use Rattle.at_history.proofs.Laws.Counts.{position-below, position-below_from_count}
-use Rattle.at_history.proofs.Laws.Prefixes.{IsPrefix-length, take-IsPrefix}
-use Rattle.at_history.specs.BoardState.{publication_at}
-use Rattle.at_history.specs.Publications.{IsPrefix, count_of, no_publication}
-use Rattle.at_history.specs.declared.publication.Publication.{Publication}
-use Rattle.at_board.specs.Rule.{Ruled}
-use Rattle.at_board.specs.declared.knowledge.Knowledge.{Knowledge}
+use Rattle.at_board.proofs.Prelude.{get_elem?, some, cases_lt, take_all, BookTerms, position-below, position-below_from_count, IsPrefix-length, take-IsPrefix, publication_at, IsPrefix, count_of, no_publication, Publication, Ruled, Knowledge}
 
 -- a prefix that is no shorter is the whole list
 whole-IsPrefix : (xs ys : List Publication) → IsPrefix xs ys → length ys ≤ length xs → xs ≡ ys

@@ -1,9 +1,5 @@
 -- Seats of a table, which threads may share.
-use denote.Builtin.{unit}
-use denote.Param.Send.{IsSend, IsSync, part_keyless, sendable}
-use denote.RattleType.{RattleType}
-use Rattle.atomic_table.proofs.Sent.{seat_keyless}
-use Rattle.atomic_table.specs.contracts.shared.Seat.{the_row}
+use Rattle.at_board.proofs.Prelude.{unit, IsSend, IsSync, part_keyless, sendable, RattleType, seat_keyless, the_row}
 use Rattle.at_board.specs.contracts.knowledge.Knowledge as view
 
 -- a seat may be moved

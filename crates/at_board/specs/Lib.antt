@@ -1,3 +1,4 @@
+pub mod Prelude
 pub mod Knowledge
 pub mod Steps
 pub mod Words

@@ -1,11 +1,6 @@
 -- The rule of the board's table.
 use Rattle.std.specs.Prelude.{◌≡◌, ℕ, ◌+◌, ◌<◌, ◌≤◌, List, length}
-use lib.ListN.{get_elem?}
-use mathlib.Core.Option.{some}
-use Rattle.at_ledger.specs.Book.{BookTerms}
-use Rattle.at_history.specs.BoardState.{BoardState}
-use Rattle.at_history.specs.Overtaking.{Overtaking}
-use Rattle.at_history.specs.Sound.{Sound}
+use Rattle.at_board.specs.Prelude.{get_elem?, some, BookTerms, BoardState, Overtaking, Sound}
 use Rattle.at_board.specs.Knowledge.Knows.{Knows}
 use Rattle.at_board.specs.Words.Shown.{Shown}
 use Rattle.at_board.specs.declared.knowledge.Knowledge.{Knowledge}

@@ -2,13 +2,12 @@
 
 ghost use Rattle.std.specs.Prelude.{◌≡◌, ◌+◌, ◌<◌, ◌≤◌, IfOk, length, sum_by, take, ◌^◌};
 ghost use Rattle.at_board.specs.Words.Addresses.{IsAddress, index_of, record_word, words_max, word_count, AreLogStarts, AreSlotsBefore};
-ghost use Rattle.at_ledger.specs.Account.{slots_of};
+ghost use Rattle.at_board.specs.Prelude.{slots_of};
 
-use crate::NoMemory;
 use crate::words::{RECORD_WORDS, REQUEST_WORDS};
 use arrayvec::ArrayVec;
 use at_ledger::Book;
-use std::alloc::Global;
+use std::alloc::{AllocError, Global};
 
 /// The index of the first word of each log.
 pub(crate) fn log_starts(book: &Book) -> ArrayVec<u32, 16>
@@ -36,7 +35,7 @@ pub(crate) fn record_index(book: &Book, starts: &ArrayVec<u32, 16>, p: u32, i: u
 }
 
 /// For each account the slots of those before it, and at the end those of all.
-pub(crate) fn slots_before(alloc: Global, book: &Book) -> Result<Vec<u32>, NoMemory>
+pub(crate) fn slots_before(alloc: Global, book: &Book) -> Result<Vec<u32>, AllocError>
     ensures { IfOk result (λ before. AreSlotsBefore book.now before.items) }
 {
     let mut before = Vec::new(alloc);

@@ -3,8 +3,7 @@
 ghost use Rattle.std.specs.Prelude.{◌≡◌, ◌+◌, ◌<◌, ℕ, length};
 ghost use Rattle.at_board.specs.Counting.{raised};
 ghost use Rattle.at_board.specs.Knowledge.Seats.{IsKept, IsOf};
-ghost use Rattle.at_ledger.specs.Book.{HasSlot};
-ghost use Rattle.at_history.specs.declared.request.Request.{Request};
+ghost use Rattle.at_board.specs.Prelude.{HasSlot, Request};
 ghost use Rattle.at_board.specs.Steps.Announce.{MayAnnounce, Announces};
 ghost use Rattle.at_board.specs.Knowledge.Parts.{asking_on, own_part};
 

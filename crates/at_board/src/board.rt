@@ -4,7 +4,6 @@ ghost use Rattle.std.specs.Prelude.{◌≡◌, ◌≤◌, IfOk};
 ghost use Rattle.at_board.specs.Ends.Opening.{AreNew};
 ghost use Rattle.at_board.specs.Words.Addresses.{words_max};
 
-use crate::NoMemory;
 use crate::addresses::word_count;
 use crate::deal::deal;
 use crate::knowledge::Knowledge;
@@ -13,7 +12,7 @@ use crate::rule::BoardRule;
 use crate::seat::BoardSeat;
 use at_ledger::Book;
 use atomic_table::Table;
-use std::alloc::Global;
+use std::alloc::{AllocError, Global};
 use std::marker::Model;
 use std::snapshot::Snapshot;
 
@@ -26,7 +25,7 @@ pub struct Board {
 
 impl Model for Board {
     ghost use Rattle.std.specs.Prelude.{◌≡◌};
-    ghost use Rattle.at_ledger.specs.Book.{IsBook};
+    ghost use Rattle.at_board.specs.Prelude.{IsBook};
     ghost use Rattle.at_board.specs.Words.Addresses.{IsLayout, word_count};
     ghost use Rattle.at_board.specs.Knowledge.Seats.{BoardTerms};
 
@@ -42,7 +41,7 @@ impl Model for Board {
 impl Board {
     /// A board for the book with all words 0, and one seat for each process, in order. Takes time in proportion to the words,
     /// which are 24.6 MB at most; while it is made they stand in memory twice.
-    pub fn new(alloc: Global, book: &Book) -> Result<(Board, Vec<BoardSeat>), NoMemory>
+    pub fn new(alloc: Global, book: &Book) -> Result<(Board, Vec<BoardSeat>), AllocError>
         ensures book { IfOk result (λ r. r.0.book ≡ book.now) }
         ensures seats { IfOk result (λ r. AreNew book.now r.0.id r.1.items) }
         ensures few { IfOk result (λ r. r.0.id.words ≤ words_max) }

@@ -20,7 +20,7 @@ pub struct BoardEnd {
 
 impl Model for BoardEnd {
     ghost use Rattle.std.specs.Prelude.{◌≡◌};
-    ghost use Rattle.std.specs.Mem.Slots.{IsFull, slots_items, slots_len};
+    ghost use Rattle.at_board.specs.Prelude.{IsFull, slots_items, slots_len};
     ghost use Rattle.at_board.specs.Ends.Closing.{EndTerms, HasWords, end_of};
     ghost use Rattle.at_board.specs.Words.Addresses.{AreLogStarts};
 

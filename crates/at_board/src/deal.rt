@@ -1,4 +1,4 @@
-//! The first seat of a board, cut into one seat for each process.
+//! The first seat of a board, dealt as one seat for each process.
 
 ghost use Rattle.std.specs.Prelude.{◌≡◌, ◌<◌, IfOk, length, [], replicate};
 ghost use Rattle.at_board.specs.Ends.Opening.{AreNew};
@@ -8,7 +8,7 @@ ghost use Rattle.at_board.specs.Knowledge.Parts.{starting_knowledge};
 use crate::addresses::word_count;
 use crate::counter::StepCounts;
 use crate::knowledge::Knowledge;
-use crate::plays::Cut;
+use crate::plays::Deal;
 use crate::rule::BoardRule;
 use crate::seat::BoardSeat;
 use at_ledger::Book;
@@ -33,7 +33,7 @@ pub(crate) fn deal(
     let mut seats = Vec::new(alloc);
     let mut rest = first;
     for process in 0..last {
-        let others = shared.split_seat::<Cut>(&mut rest);
+        let others = shared.split_seat::<Deal>(&mut rest);
         seats.push(BoardSeat {
             seat: rest,
             process,

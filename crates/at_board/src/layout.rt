@@ -3,14 +3,13 @@
 
 ghost use Rattle.std.specs.Prelude.{◌≡◌, ◌≤◌, IfOk, length, sum_by, take};
 ghost use Rattle.at_board.specs.Words.Addresses.{IsAddress, IsLayout, announced_of, cell_of, index_of, record_word, request_word};
-ghost use Rattle.at_ledger.specs.Account.{slots_of};
+ghost use Rattle.at_board.specs.Prelude.{slots_of};
 
-use crate::NoMemory;
 use crate::addresses::{log_starts, record_index, records_end, slots_before};
 use crate::words::REQUEST_WORDS;
 use arrayvec::ArrayVec;
 use at_ledger::Book;
-use std::alloc::Global;
+use std::alloc::{AllocError, Global};
 
 /// Where the words of a board of this book stand.
 #[derive(Drop)]
@@ -25,7 +24,7 @@ pub(crate) struct Layout {
 
 impl Layout {
     /// That of a board for the book.
-    pub(crate) fn of(alloc: Global, book: &Book) -> Result<Layout, NoMemory>
+    pub(crate) fn of(alloc: Global, book: &Book) -> Result<Layout, AllocError>
         ensures book { IfOk result (λ l. l.book ≡ book.now) }
         ensures layout { IfOk result IsLayout }
     {

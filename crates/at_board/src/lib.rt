@@ -53,5 +53,4 @@ pub use crate::step::{BoardStep, BoardWord};
 pub use crate::words::{
     RECORD_WORDS, REQUEST_WORDS, entry_of, pack_targets, record_word, targets_from, unpack_targets,
 };
-pub use at_base::NoMemory;
 pub use at_history::{Cell, Entry, Publication, Request, SeenRow};

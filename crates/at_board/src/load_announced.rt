@@ -3,8 +3,7 @@
 ghost use Rattle.std.specs.Prelude.{◌≡◌, ◌+◌, ◌<◌, length};
 ghost use Rattle.at_board.specs.Counting.{raised};
 ghost use Rattle.at_board.specs.Knowledge.Seats.{IsKept, IsOf};
-ghost use Rattle.at_ledger.specs.Book.{account_of};
-ghost use Rattle.at_ledger.specs.Account.{slots_of};
+ghost use Rattle.at_board.specs.Prelude.{account_of, slots_of};
 ghost use Rattle.at_board.specs.Steps.LoadAnnounced.{LoadsAnnounced};
 
 use crate::board::Board;

@@ -60,9 +60,9 @@ impl Play<(), Knowledge> for Decide {
     ghost then = { decided_round };
 }
 
-pub(crate) struct Cut;
+pub(crate) struct Deal;
 
-impl Split<Knowledge> for Cut {
+impl Split<Knowledge> for Deal {
     ghost use Rattle.at_board.specs.Ends.Opening.{first_part, other_parts};
 
     ghost left = { first_part };

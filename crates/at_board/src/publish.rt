@@ -2,7 +2,7 @@
 
 ghost use Rattle.std.specs.Prelude.{◌≡◌, ◌+◌, ◌<◌, length};
 ghost use Rattle.at_board.specs.Counting.{raised};
-ghost use Rattle.at_history.specs.declared.publication.Publication.{Publication};
+ghost use Rattle.at_board.specs.Prelude.{Publication};
 ghost use Rattle.at_board.specs.Steps.Publish.{MayPublish, Publishes};
 ghost use Rattle.at_board.specs.Knowledge.Seats.{IsKept, IsOf};
 
@@ -24,7 +24,7 @@ impl Board {
     {
         seat.made.count_step();
         // Right here: this one store puts the record at the end of the list, after all that others have published before. What it
-        // rests on still stands: its view is a front of a prefix that never changes, its process alone debits the account or the
+        // rests on still stands: its view is a cut of a prefix that never changes, its process alone debits the account or the
         // round is decided, and its words were stored by this seat.
         self.table.shared.store::<Publish>(
             &mut seat.seat,

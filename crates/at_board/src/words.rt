@@ -1,10 +1,7 @@
 //! The words of records, requests and targets.
 
 ghost use Rattle.std.specs.Prelude.{◌≡◌, ℕ, ◌+◌, ◌*◌, ◌^◌, ◌<◌, ◌≤◌, ◌++◌, List, length, slice_index};
-ghost use Rattle.at_base.specs.Head.{HeadInRange, head_word};
-ghost use Rattle.at_ledger.specs.Call.{AreTargetsOn, TargetPair, target_at};
-ghost use Rattle.at_history.specs.Entries.{targets_of};
-ghost use Rattle.at_history.specs.declared.publication.Entry.{Entry};
+ghost use Rattle.at_board.specs.Prelude.{HeadInRange, head_word, AreTargetsOn, TargetPair, target_at, targets_of, Entry};
 ghost use Rattle.at_board.specs.Words.Packed.{IsForm, amount_words, decision_word, entry_words, head_of};
 ghost use Rattle.at_board.specs.Words.Targets.{ArePacked, account_in, accounts_of, targets_word};
 

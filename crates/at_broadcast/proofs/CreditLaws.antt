@@ -1,13 +1,6 @@
 -- Sums of credits by their numbers.
 use Rattle.std.proofs.Common.{◌≡◌, ℕ, suc, ◌+◌, ◌-◌, ◌^◌, ◌<◌, ◌≤◌, List, [], ◌∷◌, ◌++◌, length, get_or, take, drop, refl, ap, sym, subst, ◌∙◌, leb, cond, le-leb, arith, length-take, length-drop}
-use Rattle.std.specs.List.{All}
-use Rattle.std.proofs.lemmas.Bool.{lt-leb}
-use Rattle.std.proofs.lemmas.Grind.{common_steps}
-use Rattle.std.proofs.lemmas.List.Sorted.{IsNonDecreasingBy-push}
-use Rattle.std.proofs.lemmas.List.{take-append-drop, get_or-drop, get_or-take}
-use Rattle.std.proofs.lemmas.List.Sums.{sum_by-append, sum_by-cons}
-use Rattle.at_broadcast.specs.declared.credits.Credit.{Credit}
-use Rattle.at_broadcast.specs.Credits.{AreCredits, amount_since, credit_after, credits_sum}
+use Rattle.at_broadcast.proofs.Prelude.{All, lt-leb, common_steps, IsNonDecreasingBy-push, take-append-drop, get_or-drop, get_or-take, sum_by-append, sum_by-cons, Credit, AreCredits, amount_since, credit_after, credits_sum}
 
 -- all come since the least number
 pub amount_since-all : (number : ℕ) (list : List Credit) → All (λ c. number ≤ c.number) list → amount_since number list ≡ credits_sum list
@@ -55,19 +48,19 @@ amount_since-first number total list i c credits within here below above =
     let before = ap (λ (c : Credit). c.before) (here c) ∙ credits.before i c within in
     omega (arith, split, before, credits.summed)
 
--- one more credit, whose number is above all others
-AreCredits-push : (list : List Credit) (total number amount : ℕ) → AreCredits list total → All (λ c. c.number < number) list → amount < 2 ^ 64
+-- one more credit, whose number no other's is above
+AreCredits-push : (list : List Credit) (total number amount : ℕ) → AreCredits list total → All (λ c. c.number ≤ number) list → amount < 2 ^ 64
     → AreCredits (list ++ credit_after list number amount ∷ []) (total + amount)
 AreCredits-push list total number amount is later fits = record {
   ordered = IsNonDecreasingBy-push (λ (c : Credit). c.number) list (credit_after list number amount) is.ordered
-      (λ d some. let last : (get_or list (length list - 1) d).number < number = later (length list - 1) d (omega arith) in omega arith);
+      (λ d some. let last : (get_or list (length list - 1) d).number ≤ number = later (length list - 1) d (omega arith) in omega arith);
   before = grind (arith, common_steps, is.before);
   summed = grind (arith, common_steps, is.summed);
   small = grind (arith, common_steps, is.small);
 }
 
 -- the same of the list that was pushed to, where the sum of those before it is the total
-pub AreCredits-pushed : (list more : List Credit) (total number amount : ℕ) → AreCredits list total → All (λ c. c.number < number) list → amount < 2 ^ 64
+pub AreCredits-pushed : (list more : List Credit) (total number amount : ℕ) → AreCredits list total → All (λ c. c.number ≤ number) list → amount < 2 ^ 64
     → more ≡ list ++ record { number = number; amount = amount; before = total } ∷ [] → AreCredits more (total + amount)
 AreCredits-pushed list more total number amount is later fits e =
     let same : more ≡ list ++ credit_after list number amount ∷ [] = e ∙ ap (λ (n : ℕ). list ++ record { number = number; amount = amount; before = n } ∷ []) is.summed in

@@ -1,15 +1,6 @@
 -- What `deps` leaves out of an account's credits.
-use Rattle.std.proofs.Common.{◌≡◌, ℕ, ◌+◌, ◌<◌, ◌≤◌, pos, ◌≤ℤ◌, ◌↔◌, List, [], ◌∷◌, length, get_or, take, ap, sym, ◌∙◌, arith}
-use Rattle.std.proofs.Math.Nat.{ℕ_set}
-use Rattle.std.proofs.Math.Logic.{∥∥₁_elim}
-use Rattle.std.specs.List.{range_with_len, sum_by}
-use Rattle.at_base.specs.Counts.{Covers}
-use Rattle.at_ledger.specs.Book.{BookTerms, account_of}
-use Rattle.at_broadcast.specs.Credits.{amount_since}
-use Rattle.at_broadcast.specs.Messages.{MessageList, message_credit, sum_of_first}
-use Rattle.at_broadcast.specs.Progress.{IsProgress, messages_of, sender_of}
-use Rattle.at_broadcast.specs.Sender.{SenderState, credits_to}
-use Rattle.at_broadcast.specs.Validated.{balance_at, went}
+use Rattle.std.proofs.Common.{◌≡◌, ℕ, ◌+◌, ◌<◌, ◌≤◌, pos, ◌≤ℤ◌, ◌↔◌, List, Some, length, get_or, take, ap, sym, ◌∙◌, arith}
+use Rattle.at_broadcast.proofs.Prelude.{ℕ_set, ∥∥₁_elim, range_with_len, sum_by, Covers, LogTerms, account_on_logs, amount_since, MessageList, message_credit, sum_of_first, IsProgress, messages_of, sender_of, SenderState, credits_to, balance_at, went}
 use Rattle.at_broadcast.proofs.BalanceLaws.{balance_at-covers, covers-from_balance_at}
 use Rattle.at_broadcast.proofs.ProgressLaws.{length-messages_of, list_of-messages_of, went-deps}
 use Rattle.at_broadcast.proofs.RangeLaws.{range-sum}
@@ -20,17 +11,17 @@ abbrev pub left_of : List SenderState → List ℕ → ℕ → ℕ → ℕ
 left_of senders deps account q = amount_since (get_or deps q 0) (credits_to (sender_of senders q) account).list
 
 -- of all senders
-pub left_of-sum : (b : BookTerms) (counts : List ℕ) (senders : List SenderState) (balances deps : List ℕ) (account : ℕ)
+pub left_of-sum : (b : LogTerms) (counts : List ℕ) (senders : List SenderState) (balances deps : List ℕ) (account : ℕ)
     → IsProgress b counts senders balances → account < length b.accounts → Covers counts deps
-    → sum_by (left_of senders deps account) (range_with_len 0 b.processes) + sum_of_first (message_credit account) (messages_of senders) deps
+    → sum_by (left_of senders deps account) (range_with_len 0 b.logs) + sum_of_first (message_credit account) (messages_of senders) deps
     ≡ sum_of_first (message_credit account) (messages_of senders) counts
 left_of-sum b counts senders balances deps account is known covered =
     let messages : List MessageList = messages_of senders in
-    let sized : length messages ≡ b.processes = length-messages_of senders ∙ is.sized in
+    let sized : length messages ≡ b.logs = length-messages_of senders ∙ is.sized in
     ap (λ n. sum_by (left_of senders deps account) (range_with_len 0 n) + sum_of_first (message_credit account) messages deps) (sym sized)
     ∙ range-sum (left_of senders deps account) (part (message_credit account) messages deps) (part (message_credit account) messages counts) 0 (length messages)
     (λ q low high.
-    let process : q < b.processes = omega (arith, high, sized) in
+    let process : q < b.logs = omega (arith, high, sized) in
     let below = covered q (omega (arith, process, is.counted)) in
     let same = list_of-messages_of senders q in
     omega (
@@ -41,8 +32,8 @@ left_of-sum b counts senders balances deps account is known covered =
     ))
 
 -- the balance at `deps` covers an amount where the balance does so without what came since
-pub covers-left_out : (b : BookTerms) (counts : List ℕ) (senders : List SenderState) (balances deps : List ℕ) (p account amount left_out : ℕ)
-    → IsProgress b counts senders balances → account < length b.accounts → (account_of b account).owners ≡ p ∷ [] → get_or deps p 0 ≡ get_or counts p 0
+pub covers-left_out : (b : LogTerms) (counts : List ℕ) (senders : List SenderState) (balances deps : List ℕ) (p account amount left_out : ℕ)
+    → IsProgress b counts senders balances → account < length b.accounts → (account_on_logs b account).log ≡ Some p → get_or deps p 0 ≡ get_or counts p 0
     → Covers counts deps
     → left_out + sum_of_first (message_credit account) (messages_of senders) deps ≡ sum_of_first (message_credit account) (messages_of senders) counts
     → (amount + left_out ≤ get_or balances account 0) ↔ (pos amount ≤ℤ balance_at b (messages_of senders) deps account)

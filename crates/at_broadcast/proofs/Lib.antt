@@ -1,3 +1,5 @@
+pub mod Prelude
+pub mod FilledLaws
 pub mod CreditLaws
 pub mod RangeLaws
 pub mod SumLaws
@@ -10,3 +12,4 @@ pub mod ProgressLaws
 pub mod LeftLaws
 pub mod StartLaws
 pub mod NodeLaws
+pub mod TwoNodes

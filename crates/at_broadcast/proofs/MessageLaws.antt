@@ -1,11 +1,6 @@
 -- One more delivery: what was counted before stays as it is.
 use Rattle.std.proofs.Common.{◌≡◌, ◌≢◌, ℕ, ◌+◌, ◌<◌, ◌≤◌, ℤ, pos, ◌-ℤ◌, ◌≤ℤ◌, List, length, get_or, None, Some, ap, sym, subst, ◌∙◌, inl, inr, arith, get_or-set_same, get_or-set_other}
-use Rattle.std.proofs.lemmas.Bool.{cases_eq}
-use Rattle.at_ledger.specs.Book.{BookTerms, account_of}
-use Rattle.at_broadcast.specs.declared.message.Message.{Message}
-use Rattle.at_broadcast.specs.Messages.{MessageList, list_of, message_at, message_credit, message_debit, message_of, with_message}
-use Rattle.at_broadcast.specs.Validated.{IsValid, Reached, balance_at, came, went}
-use Rattle.at_broadcast.specs.Validated.Reached.{zeros, raise}
+use Rattle.at_broadcast.proofs.Prelude.{cases_eq, amount_of, LogTerms, account_on_logs, Message, MessageList, list_of, message_at, message_credit, message_debit, message_of, with_message, IsValid, Reached, balance_at, came, went, zeros, raise}
 use Rattle.at_broadcast.proofs.ReachedLaws.{after-Reached, length-Reached}
 use Rattle.at_broadcast.proofs.SumLaws.{list_of-other, list_of-same, sum_of_first-with_message}
 
@@ -30,18 +25,18 @@ message_of-other messages p number q k m known apart =
     ]
 
 -- the balance at counts that stop before the new message
-pub balance_at-with_message : (b : BookTerms) (messages : List MessageList) (counts : List ℕ) (p number account : ℕ) (m : Message)
+pub balance_at-with_message : (b : LogTerms) (messages : List MessageList) (counts : List ℕ) (p number account : ℕ) (m : Message)
     → p < length messages → get_or counts p 0 ≤ number
     → balance_at b (with_message messages p number m) counts account ≡ balance_at b messages counts account
 unfolding balance_at
 balance_at-with_message b messages counts p number account m known after =
     let credits = sum_of_first-with_message (message_credit account) messages counts p number m known after in
     let debits = sum_of_first-with_message (message_debit account) messages counts p number m known after in
-    ap (λ (n : ℕ). pos ((account_of b account).opening + n) -ℤ pos (went (with_message messages p number m) counts account)) credits
+    ap (λ (n : ℕ). pos ((account_on_logs b account).opening + n) -ℤ pos (went (with_message messages p number m) counts account)) credits
     ∙ ap (λ (n : ℕ). pos (came b messages counts account) -ℤ pos n) debits
 
 -- what was valid stays so
-pub IsValid-with_message : (b : BookTerms) (messages : List MessageList) (counts : List ℕ) (p number q : ℕ) (new m : Message)
+pub IsValid-with_message : (b : LogTerms) (messages : List MessageList) (counts : List ℕ) (p number q : ℕ) (new m : Message)
     → p < length messages → p < length counts → message_of messages p number ≡ None → get_or counts p 0 ≤ number
     → IsValid b messages counts q m → IsValid b (with_message messages p number new) counts q m
 IsValid-with_message b messages counts p number q new m known counted none after valid = record {
@@ -49,7 +44,7 @@ IsValid-with_message b messages counts p number q new m known counted none after
   owner = valid.owner;
   own = valid.own;
   covered = valid.covered;
-  balance = subst (λ (z : ℤ). pos m.amount ≤ℤ z)
+  balance = subst (λ (z : ℤ). pos (amount_of m.targets) ≤ℤ z)
       (sym (balance_at-with_message b messages m.deps p number m.from new known (omega (arith, valid.covered p counted, after)))) valid.balance;
 } where
   taken : q ≡ p → get_or counts q 0 ≡ number → ⊥
@@ -59,8 +54,8 @@ IsValid-with_message b messages counts p number q new m known counted none after
       cc (none, there)
 
 -- and what was reached
-pub Reached-with_message : (b : BookTerms) (messages : List MessageList) (counts : List ℕ) (p number : ℕ) (new : Message)
-    → p < length messages → p < b.processes → message_of messages p number ≡ None
+pub Reached-with_message : (b : LogTerms) (messages : List MessageList) (counts : List ℕ) (p number : ℕ) (new : Message)
+    → p < length messages → p < b.logs → message_of messages p number ≡ None
     → Reached b messages counts → Reached b (with_message messages p number new) counts
 Reached-with_message b messages _ p number new known process none zeros = zeros
 Reached-with_message b messages _ p number new known process none (raise counts q m before valid) =

@@ -1,21 +1,19 @@
--- An amount moves from one balance to another.
-use Rattle.std.proofs.Common.{◌≡◌, ◌≢◌, ℕ, ◌+◌, ◌-◌, ◌<◌, ◌≤◌, List, length, get_or, set, sum, cond, eqb, ap, sym, inl, inr, arith, eq-eqb, length-set, get_or-set_same, get_or-set_other}
-use Rattle.std.proofs.lemmas.Bool.{cases_eq}
-use Rattle.std.proofs.lemmas.Bool.Decides.{nat_tests}
-use Rattle.std.proofs.lemmas.List.Sums.{get_or-le-sum_by, sum_by-set}
+-- A sum is taken from one balance, and amounts are added to others.
+use Rattle.std.proofs.Common.{◌≡◌, ◌≢◌, ℕ, ◌+◌, ◌-◌, ◌<◌, ◌≤◌, List, [], ◌∷◌, length, get_or, set, sum, cond, eqb, refl, ap, sym, subst, ◌∙◌, inl, inr, arith, eq-eqb, length-set, get_or-set_same, get_or-set_other}
+use Rattle.at_broadcast.proofs.Prelude.{cases_eq, nat_tests, All-head, All-tail, sum_by-cons, sum_by-set, sum-set_more, AreTargetsOn, TargetPair, amount_of, credited, amount_to}
 
 -- the balances after it
 abbrev pub less : List ℕ → ℕ → ℕ → List ℕ
 less balances from amount = set balances from (get_or balances from 0 - amount)
 
-abbrev pub moved : List ℕ → ℕ → ℕ → ℕ → List ℕ
-moved balances from to amount = set (less balances from amount) to (get_or (less balances from amount) to 0 + amount)
+abbrev pub moved : List ℕ → ℕ → List TargetPair → List ℕ
+moved balances from targets = credited (less balances from (amount_of targets)) targets
 
 -- the amount if the account is this one
 abbrev pub amount_if : ℕ → ℕ → ℕ → ℕ
 amount_if this account amount = cond (eqb this account) amount 0
 
-amount_if-other : (this account amount : ℕ) → account ≢ this → amount_if this account amount ≡ 0
+pub amount_if-other : (this account amount : ℕ) → account ≢ this → amount_if this account amount ≡ 0
 amount_if-other this account amount apart = grind (arith, nat_tests, apart)
 
 get_or-less : (balances : List ℕ) (from amount a : ℕ) → from < length balances → amount ≤ get_or balances from 0
@@ -52,35 +50,72 @@ get_or-more balances to amount a known =
           omega (arith, amount_if-other to a amount apart, get_or-set_other balances to a (get_or balances to 0 + amount) 0 apart)
     ]
 
-pub get_or-moved : (balances : List ℕ) (from to amount a : ℕ) → from < length balances → to < length balances → amount ≤ get_or balances from 0
-    → get_or (moved balances from to amount) a 0 + amount_if from a amount ≡ get_or balances a 0 + amount_if to a amount
-get_or-moved balances from to amount a from_in to_in covered =
+pub length-credited : (balances : List ℕ) (targets : List TargetPair) → length (credited balances targets) ≡ length balances
+unfolding credited
+length-credited balances [] = refl
+length-credited balances (t ∷ targets) =
+    length-credited (set balances t.0 (get_or balances t.0 0 + t.1)) targets ∙ length-set balances t.0 (get_or balances t.0 0 + t.1)
+
+-- targets after the first, once that is credited
+targets-rest : (balances : List ℕ) (t : TargetPair) (targets : List TargetPair) → AreTargetsOn (length balances) (t ∷ targets)
+    → AreTargetsOn (length (set balances t.0 (get_or balances t.0 0 + t.1))) targets
+targets-rest balances t targets known =
+    subst (λ (n : ℕ). AreTargetsOn n targets) (sym (length-set balances t.0 (get_or balances t.0 0 + t.1)))
+    (All-tail (λ (t : TargetPair). t.0 < length balances) t targets known)
+
+get_or-credited : (balances : List ℕ) (targets : List TargetPair) (a : ℕ) → AreTargetsOn (length balances) targets
+    → get_or (credited balances targets) a 0 ≡ get_or balances a 0 + amount_to a targets
+unfolding credited
+get_or-credited balances [] a known = omega arith
+get_or-credited balances (t ∷ targets) a known =
     omega (
       arith,
-      get_or-less balances from amount a from_in covered,
-      get_or-more (less balances from amount) to amount a (omega (arith, to_in, length-set balances from (get_or balances from 0 - amount))),
+      get_or-credited (set balances t.0 (get_or balances t.0 0 + t.1)) targets a (targets-rest balances t targets known),
+      get_or-more balances t.0 t.1 a (All-head (λ (t : TargetPair). t.0 < length balances) t targets known),
+      sum_by-cons (λ (t : TargetPair). cond (eqb t.0 a) t.1 0) t targets,
     )
 
-sum-less : (balances : List ℕ) (from amount : ℕ) → from < length balances → amount ≤ get_or balances from 0 → sum (less balances from amount) + amount ≡ sum balances
+sum-credited : (balances : List ℕ) (targets : List TargetPair) → AreTargetsOn (length balances) targets
+    → sum (credited balances targets) ≡ sum balances + amount_of targets
+unfolding credited
+sum-credited balances [] known = omega arith
+sum-credited balances (t ∷ targets) known =
+    omega (
+      arith,
+      sum-credited (set balances t.0 (get_or balances t.0 0 + t.1)) targets (targets-rest balances t targets known),
+      sum-set_more balances t.0 t.1 (All-head (λ (t : TargetPair). t.0 < length balances) t targets known),
+      sum_by-cons (λ (t : TargetPair). t.1) t targets,
+    )
+
+-- the targets are among the balances after the sum is taken
+targets-less : (balances : List ℕ) (from amount : ℕ) (targets : List TargetPair) → AreTargetsOn (length balances) targets
+    → AreTargetsOn (length (less balances from amount)) targets
+targets-less balances from amount targets known =
+    subst (λ (n : ℕ). AreTargetsOn n targets) (sym (length-set balances from (get_or balances from 0 - amount))) known
+
+pub length-moved : (balances : List ℕ) (from : ℕ) (targets : List TargetPair) → length (moved balances from targets) ≡ length balances
+length-moved balances from targets =
+    length-credited (less balances from (amount_of targets)) targets ∙ length-set balances from (get_or balances from 0 - amount_of targets)
+
+pub get_or-moved : (balances : List ℕ) (from : ℕ) (targets : List TargetPair) (a : ℕ) → from < length balances → AreTargetsOn (length balances) targets
+    → amount_of targets ≤ get_or balances from 0
+    → get_or (moved balances from targets) a 0 + amount_if from a (amount_of targets) ≡ get_or balances a 0 + amount_to a targets
+get_or-moved balances from targets a from_in known covered =
+    omega (
+      arith,
+      get_or-less balances from (amount_of targets) a from_in covered,
+      get_or-credited (less balances from (amount_of targets)) targets a (targets-less balances from (amount_of targets) targets known),
+    )
+
+pub sum-less : (balances : List ℕ) (from amount : ℕ) → from < length balances → amount ≤ get_or balances from 0 → sum (less balances from amount) + amount ≡ sum balances
 sum-less balances from amount known covered =
     omega (arith, covered, sum_by-set (λ n. n) balances from (get_or balances from 0 - amount) 0 known)
 
-pub sum-moved : (balances : List ℕ) (from to amount : ℕ) → from < length balances → to < length balances → amount ≤ get_or balances from 0
-    → sum (moved balances from to amount) ≡ sum balances
-sum-moved balances from to amount from_in to_in covered =
+pub sum-moved : (balances : List ℕ) (from : ℕ) (targets : List TargetPair) → from < length balances → AreTargetsOn (length balances) targets
+    → amount_of targets ≤ get_or balances from 0 → sum (moved balances from targets) ≡ sum balances
+sum-moved balances from targets from_in known covered =
     omega (
       arith,
-      sum-less balances from amount from_in covered,
-      sum_by-set (λ n. n) (less balances from amount) to (get_or (less balances from amount) to 0 + amount) 0
-          (omega (arith, to_in, length-set balances from (get_or balances from 0 - amount))),
-    )
-
--- no balance grows above the sum of all
-pub moved-le : (balances : List ℕ) (from to amount : ℕ) → from < length balances → to < length balances → amount ≤ get_or balances from 0
-    → get_or (less balances from amount) to 0 + amount ≤ sum balances
-moved-le balances from to amount from_in to_in covered =
-    omega (
-      arith,
-      sum-less balances from amount from_in covered,
-      get_or-le-sum_by (λ n. n) (less balances from amount) to 0 (omega (arith, to_in, length-set balances from (get_or balances from 0 - amount))),
+      sum-less balances from (amount_of targets) from_in covered,
+      sum-credited (less balances from (amount_of targets)) targets (targets-less balances from (amount_of targets) targets known),
     )

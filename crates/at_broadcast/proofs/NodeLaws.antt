@@ -1,16 +1,7 @@
 -- What holds of every node.
 use Rattle.std.proofs.Common.{◌≡◌, ℕ, ◌<◌, ◌≤◌, List, length, get_or, IsSome, ap, sym, subst, ◌∙◌, arith}
 use Rattle.std.specs.Prelude.{is_some}
-use Rattle.std.proofs.Math.Bridge.{le_prop}
-use Rattle.std.proofs.Math.Bool.{Bool-set}
-use Rattle.std.proofs.Math.Nat.{ℕ_set}
-use Rattle.std.proofs.Math.Logic.{∥∥₁_elim}
-use Rattle.std.proofs.lemmas.Grind.{same_number_lists}
-use Rattle.at_ledger.specs.Book.{BookTerms}
-use Rattle.at_broadcast.specs.declared.message.Message.{Message}
-use Rattle.at_broadcast.specs.Messages.{MessageList, message_of}
-use Rattle.at_broadcast.specs.Node.{AgreesWithAll, HasPrefixes, IsNode, IsSolvent, NodeState, ShowsBalances}
-use Rattle.at_broadcast.specs.Validated.{IsClosed, IsOnlyClosed, IsValid, Reached, came, went}
+use Rattle.at_broadcast.proofs.Prelude.{le_prop, Bool-set, ℕ_set, ∥∥₁_elim, same_number_lists, LogTerms, Message, MessageList, message_of, AgreesWithAll, HasPrefixes, IsNode, IsSolvent, NodeState, ShowsBalances, IsClosed, IsOnlyClosed, IsValid, Reached, came, went}
 use Rattle.at_broadcast.proofs.BalanceLaws.{balance_at-covers, balance_at-is}
 use Rattle.at_broadcast.proofs.ReachedLaws.{IsCounted, IsCounted-Reached, below-Reached, length-Reached}
 
@@ -34,18 +25,18 @@ validated-below : (s t : NodeState) → IsNode s → IsNode t → s.book ≡ t.b
 validated-below s t one two book messages p =
     ∥∥₁_elim one.steady.reached le_prop (λ r.
     below-Reached t.book t.messages s.validated t.validated
-    (subst (λ (b : BookTerms). Reached b t.messages s.validated) book (subst (λ (l : List MessageList). Reached s.book l s.validated) messages r))
+    (subst (λ (b : LogTerms). Reached b t.messages s.validated) book (subst (λ (l : List MessageList). Reached s.book l s.validated) messages r))
     two.steady.counted two.done p)
 
 -- closed counts are at most any counts at which no next message is valid
-closed-below : (b : BookTerms) (messages : List MessageList) (counts stuck : List ℕ) → IsClosed b messages counts → length stuck ≡ b.processes
+closed-below : (b : LogTerms) (messages : List MessageList) (counts stuck : List ℕ) → IsClosed b messages counts → length stuck ≡ b.logs
     → ((p : ℕ) (m : Message) → ¬ IsValid b messages stuck p m) → (p : ℕ) → get_or counts p 0 ≤ get_or stuck p 0
 closed-below b messages counts stuck closed sized done p =
     ∥∥₁_elim closed.reached le_prop (λ r. below-Reached b messages counts stuck r sized done p)
 
 pub IsOnlyClosed-IsNode : (s : NodeState) → IsNode s → IsOnlyClosed s.book s.messages s.validated
 IsOnlyClosed-IsNode s node others closed =
-    let sized : length others ≡ s.book.processes = ∥∥₁_elim closed.reached (ℕ_set _ _) (λ r. length-Reached s.book s.messages others r) in
+    let sized : length others ≡ s.book.logs = ∥∥₁_elim closed.reached (ℕ_set _ _) (λ r. length-Reached s.book s.messages others r) in
     same_number_lists others s.validated (omega (arith, sized, node.steady.counted)) (λ p within.
     omega (
       arith,
@@ -56,15 +47,15 @@ IsOnlyClosed-IsNode s node others closed =
 -- the same parts
 pub same_state : (s t : NodeState) → s.book ≡ t.book → s.messages ≡ t.messages → s.validated ≡ t.validated → s.balances ≡ t.balances → s ≡ t
 same_state s t book messages validated balances =
-    ap (λ (b : BookTerms). record { book = b; messages = s.messages; validated = s.validated; balances = s.balances }) book
+    ap (λ (b : LogTerms). record { book = b; messages = s.messages; validated = s.validated; balances = s.balances }) book
     ∙ (ap (λ (l : List MessageList). record { book = t.book; messages = l; validated = s.validated; balances = s.balances }) messages
     ∙ (ap (λ (l : List ℕ). record { book = t.book; messages = t.messages; validated = l; balances = s.balances }) validated
     ∙ ap (λ (l : List ℕ). record { book = t.book; messages = t.messages; validated = t.validated; balances = l }) balances))
 
 pub AgreesWithAll-IsNode : (s : NodeState) → IsNode s → AgreesWithAll s
 AgreesWithAll-IsNode s node other another book messages =
-    let processes = ap (λ (b : BookTerms). b.processes) book in
-    let accounts = ap (λ (b : BookTerms). length b.accounts) book in
+    let processes = ap (λ (b : LogTerms). b.logs) book in
+    let accounts = ap (λ (b : LogTerms). length b.accounts) book in
     let validated : other.validated ≡ s.validated =
     same_number_lists other.validated s.validated (omega (arith, another.steady.counted, node.steady.counted, processes)) (λ p within.
     omega (arith, validated-below other s another node book messages p, validated-below s other node another (sym book) (sym messages) p)) in
@@ -75,7 +66,7 @@ AgreesWithAll-IsNode s node other another book messages =
       arith,
       another.steady.balance a known,
       node.steady.balance a (omega (arith, known, accounts)),
-      ap (λ (b : BookTerms). came b other.messages other.validated a) book,
+      ap (λ (b : LogTerms). came b other.messages other.validated a) book,
       ap (λ (l : List MessageList). came s.book l other.validated a) messages,
       ap (λ (l : List ℕ). came s.book s.messages l a) validated,
       ap (λ (l : List MessageList). went l other.validated a) messages,

@@ -1,15 +1,9 @@
 -- Counts that are reached by raising, and why there is one end of it.
 use Rattle.std.proofs.Common.{◌≡◌, ℕ, zero, suc, ◌+◌, ◌<◌, ◌≤◌, List, [], ◌∷◌, length, get_or, replicate, None, Some, refl, ap, sym, subst, ◌∙◌, inl, inr, arith, length-set, get_or-set_other}
-use Rattle.std.proofs.lemmas.Bool.{cases_eq, cases_lt}
-use Rattle.std.proofs.lemmas.List.{length-replicate}
-use Rattle.at_ledger.specs.Book.{BookTerms, account_of}
-use Rattle.at_broadcast.specs.declared.message.Message.{Message}
-use Rattle.at_broadcast.specs.Messages.{MessageList, message_of}
-use Rattle.at_broadcast.specs.Validated.{IsValid, Reached, one_more_of}
-use Rattle.at_broadcast.specs.Validated.Reached.{zeros, raise}
+use Rattle.at_broadcast.proofs.Prelude.{cases_eq, cases_lt, length-replicate, LogTerms, account_on_logs, Message, MessageList, message_of, IsValid, Reached, one_more_of, zeros, raise}
 
-pub length-Reached : (b : BookTerms) (messages : List MessageList) (counts : List ℕ) → Reached b messages counts → length counts ≡ b.processes
-length-Reached b messages _ zeros = length-replicate b.processes 0
+pub length-Reached : (b : LogTerms) (messages : List MessageList) (counts : List ℕ) → Reached b messages counts → length counts ≡ b.logs
+length-Reached b messages _ zeros = length-replicate b.logs 0
 length-Reached b messages _ (raise counts p m before valid) = length-set counts p (get_or counts p 0 + 1) ∙ length-Reached b messages counts before
 
 -- zeros count nothing
@@ -24,15 +18,15 @@ one_more_of-le [] p = omega arith
 one_more_of-le (c ∷ counts) zero = omega arith
 one_more_of-le (c ∷ counts) (suc p) = one_more_of-le counts p
 
--- a counted message: it was delivered, and its sender is the one owner of its source
-pub record IsCounted (b : BookTerms) (messages : List MessageList) (p number : ℕ) : Type 0 where
+-- a counted message: it was delivered, and its log debits its source
+pub record IsCounted (b : LogTerms) (messages : List MessageList) (p number : ℕ) : Type 0 where
   pub message : Message
   pub delivered : message_of messages p number ≡ Some message
-  pub owner : (account_of b message.from).owners ≡ p ∷ []
+  pub owner : (account_on_logs b message.from).log ≡ Some p
 
-pub IsCounted-Reached : (b : BookTerms) (messages : List MessageList) (counts : List ℕ) → Reached b messages counts
+pub IsCounted-Reached : (b : LogTerms) (messages : List MessageList) (counts : List ℕ) → Reached b messages counts
     → (p number : ℕ) → number < get_or counts p 0 → IsCounted b messages p number
-IsCounted-Reached b messages _ zeros p number below = absurd (omega (arith, get_or-zeros b.processes p))
+IsCounted-Reached b messages _ zeros p number below = absurd (omega (arith, get_or-zeros b.logs p))
 IsCounted-Reached b messages _ (raise counts p m before valid) q number below =
     elim (cases_eq q p) as (λ _. IsCounted b messages q number) [
       | inl same ↦
@@ -40,7 +34,7 @@ IsCounted-Reached b messages _ (raise counts p m before valid) q number below =
             | inl last ↦ record {
               message = m;
               delivered = ap (λ (i : ℕ). message_of messages i number) same ∙ (ap (λ (i : ℕ). message_of messages p i) last ∙ valid.delivered);
-              owner = valid.owner ∙ ap (λ (i : ℕ). i ∷ []) (sym same);
+              owner = valid.owner ∙ ap (λ (i : ℕ). Some i) (sym same);
             }
             | inr apart ↦
                 let here : get_or (one_more_of counts p) q 0 ≡ get_or (one_more_of counts p) p 0 = ap (λ (i : ℕ). get_or (one_more_of counts p) i 0) same in
@@ -53,7 +47,7 @@ IsCounted-Reached b messages _ (raise counts p m before valid) q number below =
     ]
 
 -- what is delivered isn't counted before it
-pub after-Reached : (b : BookTerms) (messages : List MessageList) (counts : List ℕ) → Reached b messages counts
+pub after-Reached : (b : LogTerms) (messages : List MessageList) (counts : List ℕ) → Reached b messages counts
     → (p number : ℕ) → message_of messages p number ≡ None → get_or counts p 0 ≤ number
 after-Reached b messages counts reached p number none =
     elim (cases_lt number (get_or counts p 0)) as (λ _. get_or counts p 0 ≤ number) [
@@ -64,9 +58,9 @@ after-Reached b messages counts reached p number none =
       missing c = cc (none, c.delivered)
 
 -- every reached list of counts is at most one at which no next message is valid: so there is one alone
-pub below-Reached : (b : BookTerms) (messages : List MessageList) (counts stuck : List ℕ) → Reached b messages counts
-    → length stuck ≡ b.processes → ((p : ℕ) (m : Message) → ¬ IsValid b messages stuck p m) → (p : ℕ) → get_or counts p 0 ≤ get_or stuck p 0
-below-Reached b messages _ stuck zeros sized none q = omega (arith, get_or-zeros b.processes q)
+pub below-Reached : (b : LogTerms) (messages : List MessageList) (counts stuck : List ℕ) → Reached b messages counts
+    → length stuck ≡ b.logs → ((p : ℕ) (m : Message) → ¬ IsValid b messages stuck p m) → (p : ℕ) → get_or counts p 0 ≤ get_or stuck p 0
+below-Reached b messages _ stuck zeros sized none q = omega (arith, get_or-zeros b.logs q)
 below-Reached b messages _ stuck (raise counts p m before valid) sized none q =
     elim (cases_eq q p) as (λ _. get_or (one_more_of counts p) q 0 ≤ get_or stuck q 0) [
       | inl same ↦

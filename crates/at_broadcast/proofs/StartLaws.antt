@@ -1,30 +1,11 @@
 -- A node to which nothing was delivered; and what holds of the state that a node shows.
 use Rattle.std.proofs.Common.{◌≡◌, ℕ, zero, suc, ◌+◌, ◌*◌, ◌≤◌, List, [], ◌∷◌, length, get_or, map, replicate, take, sum, sum_by, Option, None, Some, refl, ap, sym, subst, ◌∙◌, inl, inr, arith}
-use Rattle.std.specs.List.{range_with_len}
-use Rattle.std.proofs.Math.ListN.{get_or-eq_default, get_or-map}
-use Rattle.std.proofs.lemmas.Bool.{cases_lt}
-use Rattle.std.proofs.lemmas.List.{get_or-replicate, length-map, length-replicate}
-use Rattle.std.proofs.lemmas.List.Folds.{sum_by-replicate}
-use Rattle.std.proofs.lemmas.List.Sums.{sum_by-cons}
-use Rattle.at_ledger.specs.Account.{AccountTerms, no_account}
-use Rattle.at_ledger.specs.Book.{BookTerms, IsBook}
-use Rattle.at_broadcast.specs.declared.message.Message.{Message}
-use Rattle.at_broadcast.specs.declared.message.TheConstants.{MESSAGES_MAX}
-use Rattle.at_broadcast.specs.Messages.{MessageList, list_of, message_at, message_credit, message_debit, message_of, no_messages, one_to, sum_of_first}
-use Rattle.at_broadcast.specs.Node.{IsSteady}
-use Rattle.at_broadcast.specs.Progress.{IsProgress, messages_of, no_sender, sender_of}
-use Rattle.at_broadcast.specs.Sender.{AreCreditsTo, IsSender, SenderState, brought, new_sender, no_credits}
-use Rattle.at_broadcast.specs.Validated.Reached.{zeros}
+use Rattle.at_broadcast.proofs.Prelude.{range_with_len, get_or-eq_default, get_or-map, cases_lt, get_or-replicate, length-map, length-replicate, sum_by-replicate, sum_by-cons, no_account_on_logs, LogAccount, LogTerms, IsLogBook, Message, MESSAGES_MAX, MessageList, list_of, message_at, message_credit, message_debit, message_of, no_messages, times_named, sum_of_first, IsSteady, IsProgress, messages_of, no_sender, sender_of, AreCreditsTo, IsSender, SenderState, brought, new_sender, no_credits, zeros}
+use Rattle.at_broadcast.proofs.FilledLaws.{get_or-replicated}
 use Rattle.at_broadcast.proofs.ProgressLaws.{differ, length-messages_of, list_of-messages_of}
 use Rattle.at_broadcast.proofs.RangeLaws.{range-same}
 use Rattle.at_broadcast.proofs.ReachedLaws.{get_or-zeros}
 use Rattle.at_broadcast.proofs.SumLaws.{part}
-
--- a list that was filled with the default
-get_or-filled : {X : Type 0} (n i : ℕ) (x : X) → get_or (replicate n x) i x ≡ x
-get_or-filled zero i x = refl
-get_or-filled (suc n) zero x = refl
-get_or-filled (suc n) (suc i) x = get_or-filled n i x
 
 range-zeros : (a n : ℕ) → sum_by (λ (i : ℕ). 0) (range_with_len a n) ≡ 0
 range-zeros a zero = refl
@@ -36,7 +17,7 @@ sum_of_first-zeros weight messages n =
     (λ p low high. ap (λ k. sum_by weight (take k (list_of messages p))) (get_or-zeros n p))
     ∙ range-zeros 0 (length messages)
 
-sum-map : (f : AccountTerms → ℕ) (xs : List AccountTerms) → sum (map f xs) ≡ sum_by f xs
+sum-map : (f : LogAccount → ℕ) (xs : List LogAccount) → sum (map f xs) ≡ sum_by f xs
 sum-map f [] = refl
 sum-map f (x ∷ xs) = omega (arith, sum-map f xs, sum_by-cons f x xs, sum_by-cons (λ (n : ℕ). n) (f x) (map f xs))
 
@@ -46,7 +27,7 @@ length-no_messages = length-replicate {A = Option Message} MESSAGES_MAX None
 
 message_at-no_messages : (number : ℕ) → message_at no_messages number ≡ None
 unfolding no_messages
-message_at-no_messages number = get_or-filled {X = Option Message} MESSAGES_MAX number None
+message_at-no_messages number = get_or-replicated {X = Option Message} MESSAGES_MAX number None
 
 sum_by-no_messages : (weight : Option Message → ℕ) → weight None ≡ 0 → sum_by weight no_messages ≡ 0
 unfolding no_messages
@@ -57,18 +38,18 @@ IsSender-new accounts = record {
   messages = length-no_messages;
   within = omega arith;
   sized = length-replicate accounts no_credits;
-  credits = λ a known. subst (AreCreditsTo no_messages 0 a) (sym (get_or-filled accounts a no_credits)) (record {
+  credits = λ a known. subst (AreCreditsTo no_messages 0 a) (sym (get_or-replicated accounts a no_credits)) (record {
     earlier = λ k d h. absurd (omega arith);
     few = omega arith;
     since = λ count below. let none : count ≡ 0 = omega arith in ap (λ n. 0 + brought no_messages a n) none ∙ omega arith;
-    room = sym (sum_by-no_messages (one_to a) refl);
+    room = omega (arith, sum_by-no_messages (times_named a) refl);
   });
 }
 
-pub IsProgress-new : (b : BookTerms) → IsBook b
-    → IsProgress b (replicate b.processes 0) (replicate b.processes (new_sender (length b.accounts))) (map (λ t. t.opening) b.accounts)
+pub IsProgress-new : (b : LogTerms) → IsLogBook b
+    → IsProgress b (replicate b.logs 0) (replicate b.logs (new_sender (length b.accounts))) (map (λ t. t.opening) b.accounts)
 IsProgress-new b book =
-    let n : ℕ = b.processes in
+    let n : ℕ = b.logs in
     let new : SenderState = new_sender (length b.accounts) in
     let senders : List SenderState = replicate n new in
     let messages : List MessageList = messages_of senders in
@@ -81,19 +62,19 @@ IsProgress-new b book =
           (subst (IsSender (length b.accounts) 0) (sym (get_or-replicate n p new no_sender process)) (IsSender-new (length b.accounts)));
       known = λ p number m there. absurd (nothing p number m there);
       reached = ∣ zeros ∣₁;
-      balanced = length-map b.accounts (λ (t : AccountTerms). t.opening);
+      balanced = length-map b.accounts (λ (t : LogAccount). t.opening);
       balance = λ a known.
           omega (
             arith,
             sum_of_first-zeros (message_debit a) messages n,
             sum_of_first-zeros (message_credit a) messages n,
-            get_or-map (λ (t : AccountTerms). t.opening) b.accounts a no_account,
+            get_or-map (λ (t : LogAccount). t.opening) b.accounts a no_account_on_logs,
           );
-      total = sum-map (λ (t : AccountTerms). t.opening) b.accounts;
+      total = sum-map (λ (t : LogAccount). t.opening) b.accounts;
     } where
-      empty : (p number : ℕ) → message_at (sender_of (replicate b.processes (new_sender (length b.accounts))) p).messages number ≡ None
+      empty : (p number : ℕ) → message_at (sender_of (replicate b.logs (new_sender (length b.accounts))) p).messages number ≡ None
       empty p number =
-          let n : ℕ = b.processes in
+          let n : ℕ = b.logs in
           let new : SenderState = new_sender (length b.accounts) in
           elim (cases_lt p n) as (λ _. message_at (sender_of (replicate n new) p).messages number ≡ None) [
             | inl inside ↦ ap (λ (s : SenderState). message_at s.messages number) (get_or-replicate n p new no_sender inside) ∙ message_at-no_messages number
@@ -102,9 +83,9 @@ IsProgress-new b book =
                 ap (λ (s : SenderState). message_at s.messages number) (get_or-eq_default (replicate n new) no_sender beyond)
           ]
 
-      nothing : (p number : ℕ) (m : Message) → message_of (messages_of (replicate b.processes (new_sender (length b.accounts)))) p number ≡ Some m → ⊥
+      nothing : (p number : ℕ) (m : Message) → message_of (messages_of (replicate b.logs (new_sender (length b.accounts)))) p number ≡ Some m → ⊥
       nothing p number m there =
-          let senders : List SenderState = replicate b.processes (new_sender (length b.accounts)) in
+          let senders : List SenderState = replicate b.logs (new_sender (length b.accounts)) in
           differ m (sym (ap (λ (l : MessageList). message_at l number) (list_of-messages_of senders p) ∙ empty p number) ∙ there)
 
 -- the messages of new senders
@@ -113,7 +94,7 @@ messages_of-new zero accounts = refl
 messages_of-new (suc n) accounts = ap (λ l. no_messages ∷ l) (messages_of-new n accounts)
 
 -- nothing is valid next where nothing was delivered
-pub none-start : (b : BookTerms) (n p number : ℕ) (m : Message) → message_of (replicate n no_messages) p number ≡ Some m → ⊥
+pub none-start : (b : LogTerms) (n p number : ℕ) (m : Message) → message_of (replicate n no_messages) p number ≡ Some m → ⊥
 none-start b n p number m there =
     elim (cases_lt p n) as (λ _. ⊥) [
       | inl inside ↦ differ m (sym (ap (λ (l : MessageList). message_at l number) (get_or-replicate n p no_messages [] inside) ∙ message_at-no_messages number) ∙ there)
@@ -122,7 +103,7 @@ none-start b n p number m there =
           differ m (sym (ap (λ (l : MessageList). message_at l number) (get_or-eq_default (replicate n no_messages) [] beyond)) ∙ there)
     ]
 
-pub IsSteady-IsProgress : (b : BookTerms) (counts : List ℕ) (senders : List SenderState) (balances : List ℕ) → IsProgress b counts senders balances
+pub IsSteady-IsProgress : (b : LogTerms) (counts : List ℕ) (senders : List SenderState) (balances : List ℕ) → IsProgress b counts senders balances
     → IsSteady (record { book = b; messages = messages_of senders; validated = counts; balances = balances })
 IsSteady-IsProgress b counts senders balances is = record {
   book = is.book;

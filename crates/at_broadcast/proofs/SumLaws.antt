@@ -1,11 +1,6 @@
 -- Sums over the first messages of each sender.
 use Rattle.std.proofs.Common.{◌≡◌, ◌≢◌, ℕ, ◌+◌, ◌<◌, ◌≤◌, List, [], length, get_or, set, take, Option, None, Some, ap, sym, subst, ◌∙◌, inl, inr, add-one, arith, length-set, get_or-set_same, get_or-set_other}
-use Rattle.std.specs.List.{range_with_len, sum_by}
-use Rattle.std.proofs.lemmas.Bool.{cases_eq}
-use Rattle.std.proofs.lemmas.List.{take-set-le}
-use Rattle.at_broadcast.specs.declared.message.Message.{Message}
-use Rattle.at_broadcast.specs.Messages.{MessageList, list_of, message_of, sum_of_first, with_message}
-use Rattle.at_broadcast.specs.Validated.{one_more_of}
+use Rattle.at_broadcast.proofs.Prelude.{range_with_len, sum_by, cases_eq, take-set-le, Message, MessageList, list_of, message_of, sum_of_first, with_message, one_more_of}
 use Rattle.at_broadcast.proofs.RangeLaws.{range-le, range-one, range-same, sum_by-take_le, sum_by-take_more}
 
 -- the sum over the first messages of one sender

@@ -1,6 +1,6 @@
 -- What the validated messages of one sender brought to one account.
 use Rattle.std.specs.Prelude.{◌≡◌, ℕ, ◌*◌, ◌^◌, ◌<◌, ◌≤◌, List, length, take, sum_by, nat_le, slice_index_or, if◌then◌else◌}
-use Rattle.std.specs.List.Sorted.{IsNonDecreasingBy}
+use Rattle.at_broadcast.specs.Prelude.{IsNonDecreasingBy}
 use Rattle.at_broadcast.specs.declared.credits.Credit.{Credit}
 
 -- the credits in the order of their numbers, and for how many more there is room

@@ -1,6 +1,9 @@
+pub mod Prelude
+pub mod LogBook
 pub mod Messages
 pub mod Credits
 pub mod Sender
 pub mod Validated
 pub mod Node
 pub mod Progress
+pub mod TwoNodes

@@ -3,8 +3,7 @@
 ghost use Rattle.std.specs.Prelude.{◌≡◌, ◌+◌, ◌-◌, ◌*◌, ◌^◌, ◌<◌, ◌≤◌, ◌++◌, [], ◌∷◌, length, sum_by, All, OnOk, OnErr};
 ghost use Rattle.at_broadcast.specs.Credits.{amount_since, credit_after};
 
-use crate::NoMemory;
-use std::alloc::Global;
+use std::alloc::{AllocError, Global};
 use std::marker::Model;
 
 /// The amount that the message of a number brought, and what all before it had brought together.
@@ -25,7 +24,7 @@ pub(crate) struct Credits {
 
 impl Model for Credits {
     ghost use Rattle.std.specs.Prelude.{◌+◌, ◌≤◌, length};
-    ghost use Rattle.std.specs.Vec.{vec_capacity};
+    ghost use Rattle.at_broadcast.specs.Prelude.{vec_capacity};
     ghost use Rattle.at_broadcast.specs.Credits.{CreditList, AreCredits};
 
     ghost Value = { CreditList };
@@ -49,21 +48,23 @@ impl Credits {
     }
 
     /// Makes room for one more credit.
-    pub(crate) fn make_room(&mut self) -> Result<(), NoMemory>
-        requires { self.old.room + 1 < 2 ^ 32 }
+    pub(crate) fn make_room(&mut self) -> Result<(), AllocError>
         ensures ok { OnOk result (self.new ≡ record self.old { room = self.old.room + 1 }) }
         ensures err { OnErr result (self.new ≡ self.old) }
     {
-        self.list.reserve(self.room as usize + 1)?;
-        self.room += 1;
+        let Some(room) = self.room.checked_add(1) else {
+            return Err(AllocError);
+        };
+        self.list.reserve(room as usize)?;
+        self.room = room;
         Ok(())
     }
 
-    /// Adds a credit, whose number is above all others, and uses room for one.
+    /// Adds a credit, whose number no other's is above, and uses room for one.
     pub(crate) fn push(&mut self, number: u32, amount: u64)
         requires room { 0 < self.old.room }
-        requires later { All (λ c. c.number < number) self.old.list }
-        requires few { length self.old.list < 2 ^ 32 }
+        requires later { All (λ c. c.number ≤ number) self.old.list }
+        requires few { length self.old.list < 2 ^ 40 }
         ensures { self.new ≡ record {
           list = self.old.list ++ credit_after self.old.list number amount ∷ [];
           room =

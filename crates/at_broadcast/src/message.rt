@@ -2,18 +2,20 @@
 
 ghost use Rattle.std.specs.Prelude.{◌≡◌};
 
-use at_base::Counts;
+use crate::counts::LogCounts;
+use at_ledger::Targets;
 
-/// The most messages of one sender. They are numbered from 0.
-pub const MESSAGES_MAX: u32 = 256;
+/// The most messages of one log. They are numbered from 0.
+pub const MESSAGES_MAX: u32 = 4_294_967_295;
 
-/// A transfer as it is broadcast. Entry q of `deps` is how many transfers of process q the sender had validated.
+/// A pay-out as it is broadcast. The payer chooses the reference. Entry q of `deps` is how many messages of log q the payer
+/// had validated.
 #[derive(Debug, Drop)]
 pub struct Message {
     pub from: u32,
-    pub to: u32,
-    pub amount: u64,
-    pub deps: Counts,
+    pub targets: Targets,
+    pub reference: [u8; 16],
+    pub deps: LogCounts,
 }
 
 impl Message {
@@ -23,8 +25,8 @@ impl Message {
     {
         Message {
             from: self.from,
-            to: self.to,
-            amount: self.amount,
+            targets: self.targets.copy(),
+            reference: self.reference,
             deps: self.deps.copy(),
         }
     }

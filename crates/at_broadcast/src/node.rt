@@ -1,21 +1,21 @@
 //! A node.
 
 ghost use Rattle.std.specs.Prelude.{◌≡◌, ◌<◌, ◌↔◌, length, pos, slice_index, sum, true, false, None, Ok, IsTrue, IfOk, OnErr};
-ghost use Rattle.at_ledger.specs.Book.{total_of};
+ghost use Rattle.at_broadcast.specs.LogBook.{account_on_logs, total_on_logs};
 ghost use Rattle.at_broadcast.specs.Messages.{IsMessageOn, message_of, with_message};
 ghost use Rattle.at_broadcast.specs.Validated.{IsClosed, IsOnlyClosed, balance_at};
 ghost use Rattle.at_broadcast.specs.declared.message.TheConstants.{MESSAGES_MAX};
 
-use crate::NoMemory;
+use crate::counts::LogCounts;
+use crate::log_book::LogBook;
 use crate::message::Message;
 use crate::progress::Progress;
-use at_ledger::Book;
-use std::alloc::Global;
+use std::alloc::{AllocError, Global};
 use std::marker::Model;
 
 /// The core of one process: it is given broadcast messages in any order, and validates those whose turn has come.
 ///
-/// It is no network and no broadcast: that every process is given the same message for a sender and number is
+/// It is no network and no broadcast: that every node is given the same message for a log and number is
 /// what the broadcast below it has to see to.
 #[derive(Drop)]
 pub struct Node {
@@ -34,27 +34,33 @@ impl Model for Node {
 
 impl Node {
     ghost use Rattle.at_broadcast.specs.Node.{AgreesWithAll, HasPrefixes, IsNode, IsSolvent, ShowsBalances, starting_state};
+    ghost use Rattle.at_broadcast.specs.TwoNodes.{IsFinal, KeepsUp, SharesBalances, SharesPrefixes};
 
     /// A node to which nothing was delivered: nothing is validated, and the balances are the openings. It keeps a copy
-    /// of the book. Memory is taken in proportion to the product of processes and accounts.
-    pub fn new(alloc: Global, book: &Book) -> Result<Node, NoMemory>
+    /// of the book. Memory is taken in proportion to the product of logs and accounts.
+    pub fn new(alloc: Global, book: &LogBook) -> Result<Node, AllocError>
         ensures { IfOk result (λ n. n ≡ starting_state book.now) }
     {
         let progress = Progress::new(alloc, book)?;
         Ok(Node { progress })
     }
 
-    /// Takes a message of a sender. It answers false where that number of the sender was delivered before. Else the
+    /// Takes a message of a log, the sender's. It answers false where that number of the log was delivered before. Else the
     /// message is delivered, and with it all that it makes valid are validated: in whatever order the same messages come,
     /// the same are validated in the end.
     ///
-    /// A delivery that makes k messages valid takes at most (k + 1) n tests of a next message for n processes, and
-    /// a test takes n look-ups, each in time that grows with the logarithm of the messages of one sender (at most 256). Memory is taken
-    /// for the message alone, before anything changes.
-    pub fn deliver(&mut self, sender: u32, number: u32, message: &Message) -> Result<bool, NoMemory>
-        requires sender_in { sender < self.old.book.processes }
+    /// A delivery that makes k messages valid takes at most (k + 1) n tests of a next message for n logs, and
+    /// a test takes n look-ups, each in time that grows with the logarithm of the messages of one log. Memory is taken for
+    /// the message and for places up to its number, before anything changes, and all messages are kept.
+    pub fn deliver(
+        &mut self,
+        sender: u32,
+        number: u32,
+        message: &Message,
+    ) -> Result<bool, AllocError>
+        requires sender_in { sender < self.old.book.logs }
         requires number_in { number < MESSAGES_MAX }
-        requires message_in { IsMessageOn self.old.book message.now }
+        requires message_in { IsMessageOn self.old.book.logs (length self.old.book.accounts) message.now }
         ensures fresh { IfOk result (λ new. IsTrue new
             ↔ (message_of self.old.messages sender number ≡ None)) }
         ensures again { result ≡ Ok false → self.new ≡ self.old }
@@ -72,7 +78,7 @@ impl Node {
         ensures prefix { HasPrefixes self.new }
         ensures agree { AgreesWithAll self.new }
         ensures solvent { IsSolvent self.new }
-        ensures total { sum self.new.balances ≡ total_of self.new.book }
+        ensures total { sum self.new.balances ≡ total_on_logs self.new.book }
     {
         if self.progress.is_delivered(sender, number) {
             return Ok(false);
@@ -82,13 +88,53 @@ impl Node {
         Ok(true)
     }
 
-    /// How many messages of process `p` are validated.
+    /// Tells a proof what holds of the node beside any other of the same logs. It does nothing when it runs.
+    pub fn known(&self)
+        ensures node { IsNode self.now }
+        ensures keeps_up { KeepsUp self.now }
+        ensures is_final { IsFinal self.now }
+        ensures prefixes { SharesPrefixes self.now }
+        ensures balances { SharesBalances self.now }
+    {
+        let _ = &self.progress;
+    }
+
+    /// How many logs there are.
+    pub fn logs(&self) -> u32
+        ensures { result ≡ self.now.book.logs }
+    {
+        self.progress.logs()
+    }
+
+    /// How many accounts there are.
+    pub fn accounts(&self) -> u32
+        ensures { result ≡ length self.now.book.accounts }
+    {
+        self.progress.accounts()
+    }
+
+    /// How many messages of log `p` are validated.
     pub fn validated(&self, p: u32) -> u32
-        requires { p < self.now.book.processes }
+        requires { p < self.now.book.logs }
         ensures count { result ≡ slice_index self.now.validated p }
         ensures node { IsNode self.now }
     {
         self.progress.validated(p)
+    }
+
+    /// How many messages of each log are validated.
+    pub fn counts(&self) -> LogCounts
+        ensures { result ≡ self.now.validated }
+    {
+        self.progress.counts()
+    }
+
+    /// The one log that debits the account, if any.
+    pub fn log_of(&self, account: u32) -> Option<u32>
+        requires { account < length self.now.book.accounts }
+        ensures { result ≡ (account_on_logs self.now.book account).log }
+    {
+        self.progress.log_of(account)
     }
 
     /// The balance of the account at the validated counts.

@@ -1,36 +1,35 @@
 //! How far a node is.
 
-ghost use Rattle.std.specs.Prelude.{◌≡◌, ◌+◌, ◌≤◌, ◌<◌, ◌^◌, ◌↔◌, ℕ, pos, ◌≤ℤ◌, [], ◌∷◌, length, map, replicate, slice_index, None, Some, IsTrue, IfOk, OnOk, OnErr, IfSome, IfNone, is_some};
-ghost use Rattle.at_base.specs.Counts.{Covers};
-ghost use Rattle.at_ledger.specs.Book.{IsBook, account_of};
+ghost use Rattle.std.specs.Prelude.{◌≡◌, ◌+◌, ◌≤◌, ◌<◌, ◌^◌, ◌↔◌, ℕ, pos, ◌≤ℤ◌, [], ◌∷◌, length, map, replicate, slice_index, sum, None, Some, IsTrue, IfOk, OnOk, OnErr, IfSome, IfNone, is_some};
+ghost use Rattle.at_broadcast.specs.Prelude.{Covers, AreTargetsOn, amount_of, credited};
+ghost use Rattle.at_broadcast.specs.LogBook.{IsLogBook, account_on_logs};
 ghost use Rattle.at_broadcast.specs.Messages.{IsMessageOn, message_credit, message_of, sum_of_first, with_message};
 ghost use Rattle.at_broadcast.specs.Sender.{new_sender};
 ghost use Rattle.at_broadcast.specs.Validated.{IsValid, balance_at, one_more_of};
 ghost use Rattle.at_broadcast.specs.declared.message.Message.{Message};
 ghost use Rattle.at_broadcast.specs.declared.message.TheConstants.{MESSAGES_MAX};
 
-use crate::NoMemory;
+use crate::counts::LogCounts;
+use crate::log_book::LogBook;
 use crate::message::Message;
 use crate::sender::Sender;
-use at_base::Counts;
-use at_ledger::Book;
-use std::alloc::Global;
+use at_ledger::Targets;
+use std::alloc::{AllocError, Global};
 use std::marker::Model;
 
-/// What a valid message moves.
-#[derive(Clone, Copy)]
-pub(crate) struct Transfer {
-    pub(crate) sender: u32,
+/// What a valid message of a log moves.
+#[derive(Drop)]
+pub(crate) struct Payout {
+    pub(crate) log: u32,
     pub(crate) from: u32,
-    pub(crate) to: u32,
-    pub(crate) amount: u64,
+    pub(crate) targets: Targets,
 }
 
 /// What was delivered, how much of it is validated, and the balances there. Further messages may be valid.
 #[derive(Drop)]
 pub(crate) struct Progress {
-    book: Book,
-    validated: Counts,
+    book: LogBook,
+    validated: LogCounts,
     senders: Vec<Sender>,
     balances: Vec<u64>,
 }
@@ -55,7 +54,7 @@ impl Progress {
     ghost use Rattle.at_broadcast.specs.Node.{IsSteady, IsValidNext, left, starting_state};
 
     /// Nothing delivered, and the openings.
-    pub(crate) fn new(alloc: Global, book: &Book) -> Result<Progress, NoMemory>
+    pub(crate) fn new(alloc: Global, book: &LogBook) -> Result<Progress, AllocError>
         ensures start { IfOk result (λ p. p ≡ starting_state book.now) }
         ensures steady { IfOk result IsSteady }
     {
@@ -63,18 +62,47 @@ impl Progress {
         let balances = openings(alloc, book)?;
         Ok(Progress {
             book: book.copy(alloc)?,
-            validated: Counts::zeros(book.processes()),
+            validated: LogCounts::zeros(book.logs()),
             senders,
             balances,
         })
     }
 
-    /// How many messages of the process are validated.
+    /// How many logs there are.
+    pub(crate) fn logs(&self) -> u32
+        ensures { result ≡ self.now.book.logs }
+    {
+        self.book.logs()
+    }
+
+    /// How many accounts there are.
+    pub(crate) fn accounts(&self) -> u32
+        ensures { result ≡ length self.now.book.accounts }
+    {
+        self.book.accounts()
+    }
+
+    /// How many messages of the log are validated.
     pub(crate) fn validated(&self, p: u32) -> u32
-        requires { p < self.now.book.processes }
+        requires { p < self.now.book.logs }
         ensures { result ≡ slice_index self.now.validated p }
     {
         self.validated.get(p)
+    }
+
+    /// How many messages of each log are validated.
+    pub(crate) fn counts(&self) -> LogCounts
+        ensures { result ≡ self.now.validated }
+    {
+        self.validated.copy()
+    }
+
+    /// The one log that debits the account, if any.
+    pub(crate) fn log_of(&self, account: u32) -> Option<u32>
+        requires { account < length self.now.book.accounts }
+        ensures { result ≡ (account_on_logs self.now.book account).log }
+    {
+        self.book.log_of(account)
     }
 
     /// The balance of the account.
@@ -87,7 +115,7 @@ impl Progress {
 
     /// Whether the message of this sender and number was delivered.
     pub(crate) fn is_delivered(&self, sender: u32, number: u32) -> bool
-        requires { sender < self.now.book.processes }
+        requires { sender < self.now.book.logs }
         ensures { result ≡ is_some (message_of self.now.messages sender number) }
     {
         self.senders[sender as usize].message(number).is_some()
@@ -99,11 +127,11 @@ impl Progress {
         sender: u32,
         number: u32,
         message: &Message,
-    ) -> Result<(), NoMemory>
-        requires sender_in { sender < self.old.book.processes }
+    ) -> Result<(), AllocError>
+        requires sender_in { sender < self.old.book.logs }
         requires number_in { number < MESSAGES_MAX }
         requires undelivered { message_of self.old.messages sender number ≡ None }
-        requires message_in { IsMessageOn self.old.book message.now }
+        requires message_in { IsMessageOn self.old.book.logs (length self.old.book.accounts) message.now }
         ensures ok { OnOk result
             (self.new ≡ record self.old
             { messages = with_message self.old.messages sender number message.now }) }
@@ -113,18 +141,18 @@ impl Progress {
     }
 
     /// Validates a message that is valid next. Takes no memory.
-    pub(crate) fn raise(&mut self, transfer: Transfer)
-        requires { IsValidNext self.old transfer }
+    pub(crate) fn raise(&mut self, payout: &Payout)
+        requires { IsValidNext self.old payout.now }
         ensures book { self.new.book ≡ self.old.book }
         ensures messages { self.new.messages ≡ self.old.messages }
-        ensures validated { self.new.validated ≡ one_more_of self.old.validated transfer.sender }
+        ensures validated { self.new.validated ≡ one_more_of self.old.validated payout.now.log }
         ensures left { left self.new.validated + 1 ≡ left self.old.validated }
     {
-        let number = self.validated.get(transfer.sender);
-        self.senders[transfer.sender as usize].credit(number, transfer.to, transfer.amount);
-        self.validated.set(transfer.sender, number + 1);
-        self.balances[transfer.from as usize] -= transfer.amount;
-        self.balances[transfer.to as usize] += transfer.amount;
+        let number = self.validated.get(payout.log);
+        self.senders[payout.log as usize].count(number, &payout.targets);
+        self.validated.set(payout.log, number + 1);
+        self.balances[payout.from as usize] -= payout.targets.sum() as u64;
+        credit(&mut self.balances, &payout.targets);
     }
 
     /// Validates messages until no next one is valid. Takes no memory.
@@ -135,29 +163,29 @@ impl Progress {
         ensures done { (p : ℕ) (m : Message)
             → ¬ IsValid self.new.book self.new.messages self.new.validated p m }
     {
-        while let Some(transfer) = self.first_valid() {
-            self.raise(transfer);
+        while let Some(payout) = self.first_valid() {
+            self.raise(&payout);
         }
     }
 
-    /// What a valid message moves, of the lowest process whose next one is.
-    fn first_valid(&self) -> Option<Transfer>
+    /// What a valid message moves, of the lowest log whose next one is.
+    fn first_valid(&self) -> Option<Payout>
         ensures some { IfSome result (IsValidNext self.now) }
         ensures none { IfNone result ((p : ℕ) (m : Message)
             → ¬ IsValid self.now.book self.now.messages self.now.validated p m) }
         ensures steady { IsSteady self.now }
     {
-        for p in 0..self.book.processes() {
-            if let Some(transfer) = self.valid_of(p) {
-                return Some(transfer);
+        for p in 0..self.book.logs() {
+            if let Some(payout) = self.valid_of(p) {
+                return Some(payout);
             }
         }
         None
     }
 
-    /// What the next message of the process moves, if it is valid.
-    fn valid_of(&self, p: u32) -> Option<Transfer>
-        requires { p < self.now.book.processes }
+    /// What the next message of the log moves, if it is valid.
+    fn valid_of(&self, p: u32) -> Option<Payout>
+        requires { p < self.now.book.logs }
         ensures some { IfSome result (IsValidNext self.now) }
         ensures none { IfNone result ((m : Message)
             → ¬ IsValid self.now.book self.now.messages self.now.validated p m) }
@@ -166,85 +194,87 @@ impl Progress {
         if !self.is_valid(p, message) {
             return None;
         }
-        Some(Transfer {
-            sender: p,
+        Some(Payout {
+            log: p,
             from: message.from,
-            to: message.to,
-            amount: message.amount,
+            targets: message.targets.copy(),
         })
     }
 
-    /// Whether the next message of the process is valid.
+    /// Whether the next message of the log is valid.
     fn is_valid(&self, p: u32, message: &Message) -> bool
-        requires process_in { p < self.now.book.processes }
-        requires message_in { IsMessageOn self.now.book message.now }
+        requires log_in { p < self.now.book.logs }
+        requires message_in { IsMessageOn self.now.book.logs (length self.now.book.accounts) message.now }
         requires next { message_of self.now.messages p (slice_index self.now.validated p)
             ≡ Some message.now }
         ensures { IsTrue result
             ↔ IsValid self.now.book self.now.messages self.now.validated p message.now }
     {
-        self.is_one_owner(p, message.from)
+        self.book.log_of(message.from) == Some(p)
             && message.deps.get(p) == self.validated.get(p)
             && self.validated.covers(&message.deps)
-            && self.covers_amount(message)
+            && self.covers_amounts(message)
     }
 
-    /// Whether the balance at `deps` covers the amount: the balance less what came since. A balance below zero covers nothing.
-    fn covers_amount(&self, message: &Message) -> bool
-        requires message_in { IsMessageOn self.now.book message.now }
+    /// Whether the balance at `deps` covers the amounts: the balance less what came since. A balance below zero covers nothing.
+    fn covers_amounts(&self, message: &Message) -> bool
+        requires message_in { IsMessageOn self.now.book.logs (length self.now.book.accounts) message.now }
         requires covered { Covers self.now.validated message.now.deps }
-        ensures { (p : ℕ) → (account_of self.now.book message.now.from).owners ≡ p ∷ []
+        ensures { (p : ℕ) → (account_on_logs self.now.book message.now.from).log ≡ Some p
             → slice_index message.now.deps p ≡ slice_index self.now.validated p
-            → (IsTrue result ↔ (pos message.now.amount ≤ℤ balance_at self.now.book self.now.messages
+            → (IsTrue result ↔ (pos (amount_of message.now.targets) ≤ℤ balance_at self.now.book self.now.messages
             message.now.deps message.now.from)) }
     {
         let left_out = self.left_out(message.from, &message.deps);
-        u128::from(message.amount) + left_out <= u128::from(self.balances[message.from as usize])
+        message.targets.sum() + left_out <= u128::from(self.balances[message.from as usize])
     }
 
     /// What came to the account by validated messages that `deps` leaves out.
-    fn left_out(&self, account: u32, deps: &Counts) -> u128
+    fn left_out(&self, account: u32, deps: &LogCounts) -> u128
         requires account_in { account < length self.now.book.accounts }
-        requires sized { length deps.now ≡ self.now.book.processes }
+        requires sized { length deps.now ≡ self.now.book.logs }
         requires covered { Covers self.now.validated deps.now }
         ensures sum { result + sum_of_first (message_credit account) self.now.messages deps.now
             ≡ sum_of_first (message_credit account) self.now.messages self.now.validated }
-        ensures small { result ≤ 2 ^ 76 }
+        ensures small { result ≤ 2 ^ 104 }
     {
         let mut sum = 0u128;
-        for q in 0..self.book.processes() {
+        for q in 0..self.book.logs() {
             sum += self.senders[q as usize].since(account, deps.get(q));
         }
         sum
     }
-
-    /// Whether the process is the one owner of the account.
-    fn is_one_owner(&self, p: u32, account: u32) -> bool
-        requires { account < length self.now.book.accounts }
-        ensures { IsTrue result ↔ ((account_of self.now.book account).owners ≡ p ∷ []) }
-    {
-        self.book.owner_count(account) == 1 && self.book.owner(account, 0) == p
-    }
 }
 
-/// A sender for each process, of whom nothing was delivered.
-fn new_senders(alloc: Global, book: &Book) -> Result<Vec<Sender>, NoMemory>
+/// A sender for each log, of whom nothing was delivered.
+fn new_senders(alloc: Global, book: &LogBook) -> Result<Vec<Sender>, AllocError>
     ensures { IfOk result (λ senders. senders.items
-        ≡ replicate book.now.processes (new_sender (length book.now.accounts))) }
+        ≡ replicate book.now.logs (new_sender (length book.now.accounts))) }
 {
     let accounts = book.accounts();
     let mut senders = Vec::new(alloc);
-    for _process in 0..book.processes() {
+    for _log in 0..book.logs() {
         senders.push(Sender::new(alloc, accounts)?)?;
     }
     Ok(senders)
 }
 
+/// Adds each amount to its target, in order.
+fn credit(balances: &mut [u64], targets: &Targets)
+    requires targets_in { AreTargetsOn (length balances.old) targets.now }
+    requires fits { sum balances.old + amount_of targets.now < 2 ^ 64 }
+    ensures { balances.new ≡ credited balances.old targets.now }
+{
+    for i in 0..targets.len() {
+        balances[targets.to(i) as usize] += targets.amount(i);
+    }
+}
+
 /// The openings of the accounts.
-fn openings(alloc: Global, book: &Book) -> Result<Vec<u64>, NoMemory>
+fn openings(alloc: Global, book: &LogBook) -> Result<Vec<u64>, AllocError>
     ensures openings { IfOk result
         (λ balances. balances.items ≡ map (λ t. t.opening) book.now.accounts) }
-    ensures checked { IsBook book.now }
+    ensures checked { IsLogBook book.now }
 {
     let mut balances = Vec::new(alloc);
     for account in 0..book.accounts() {

@@ -1,20 +1,21 @@
 //! What a node has of one sender.
 
-ghost use Rattle.std.specs.Prelude.{◌≡◌, ◌+◌, ◌*◌, ◌^◌, ◌<◌, ◌≤◌, length, replicate, All, IfOk, OnOk, OnErr, option_copied};
+ghost use Rattle.std.specs.Prelude.{◌≡◌, ◌+◌, ◌*◌, ◌^◌, ◌<◌, ◌≤◌, [], length, replicate, All, IfOk, OnOk, OnErr, option_copied};
 ghost use Rattle.at_broadcast.specs.Credits.{amount_since};
-ghost use Rattle.at_broadcast.specs.Messages.{no_messages};
 ghost use Rattle.at_broadcast.specs.Sender.{no_credits};
+ghost use Rattle.at_broadcast.specs.declared.message.TheConstants.{MESSAGES_MAX};
 
-use crate::NoMemory;
 use crate::credits::Credits;
-use crate::message::{MESSAGES_MAX, Message};
-use std::alloc::Global;
+use crate::delivered::Delivered;
+use crate::message::Message;
+use at_ledger::Targets;
+use std::alloc::{AllocError, Global};
 use std::marker::Model;
 
 /// Its messages by number, as far as they were delivered, and for each account what the validated ones brought there.
 #[derive(Drop)]
 pub(crate) struct Sender {
-    messages: Vec<Option<Message>>,
+    messages: Delivered,
     credits: Vec<Credits>,
 }
 
@@ -23,52 +24,67 @@ impl Model for Sender {
 
     ghost Value = { SenderState };
 
-    ghost view = { λ s. record { messages = s.messages.items; credits = s.credits.items } };
+    ghost view = { λ s. record { messages = s.messages; credits = s.credits.items } };
 }
 
 impl Sender {
+    ghost use Rattle.at_broadcast.specs.Prelude.{AreTargetsOn};
     ghost use Rattle.at_broadcast.specs.Messages.{message_at, no_messages};
-    ghost use Rattle.at_broadcast.specs.Sender.{credits_to, message_counted, no_credits, stored};
+    ghost use Rattle.at_broadcast.specs.Sender.{HasRoomFor, IsStored, MakesRoom, credits_to, message_counted, no_credits};
 
     /// Nothing delivered.
-    pub(crate) fn new(alloc: Global, accounts: u32) -> Result<Sender, NoMemory>
+    pub(crate) fn new(alloc: Global, accounts: u32) -> Result<Sender, AllocError>
         ensures { IfOk result
             (λ s. s ≡ record { messages = no_messages; credits = replicate accounts no_credits }) }
     {
-        let messages = no_messages(alloc)?;
         let credits = no_credits(alloc, accounts)?;
-        Ok(Sender { messages, credits })
+        Ok(Sender {
+            messages: Delivered::new(alloc),
+            credits,
+        })
     }
 
     /// The message of this number, if it was delivered.
     pub(crate) fn message(&self, number: u32) -> Option<&Message>
         ensures { option_copied result ≡ message_at self.now.messages number }
     {
-        self.messages.get(number as usize)?.as_ref()
+        self.messages.get(number)
     }
 
-    /// Keeps a message, and makes room for the credit that it will be.
-    pub(crate) fn store(&mut self, number: u32, message: &Message) -> Result<(), NoMemory>
-        requires number { number < length self.old.messages }
-        requires target { message.now.to < length self.old.credits }
-        requires room { (credits_to self.old message.now.to).room + 1 < 2 ^ 32 }
-        ensures ok { OnOk result (self.new ≡ stored self.old number message.now) }
-        ensures err { OnErr result (self.new ≡ self.old) }
+    /// Keeps a message, and makes room for the credits that it will be.
+    pub(crate) fn store(&mut self, number: u32, message: &Message) -> Result<(), AllocError>
+        requires number { number < MESSAGES_MAX }
+        requires targets { AreTargetsOn (length self.old.credits) message.now.targets }
+        ensures ok { OnOk result (IsStored self.old number message.now self.new) }
+        ensures messages { OnErr result (self.new.messages ≡ self.old.messages) }
+        ensures err { OnErr result (MakesRoom [] self.old self.new) }
     {
-        self.credits[message.to as usize].make_room()?;
-        self.messages[number as usize] = Some(message.copy());
+        self.make_room(&message.targets)?;
+        self.messages.put(number, message)
+    }
+
+    /// Makes room for a credit to each target. Where memory runs out some of it is made.
+    fn make_room(&mut self, targets: &Targets) -> Result<(), AllocError>
+        requires { AreTargetsOn (length self.old.credits) targets.now }
+        ensures messages { self.new.messages ≡ self.old.messages }
+        ensures ok { OnOk result (MakesRoom targets.now self.old self.new) }
+        ensures err { OnErr result (MakesRoom [] self.old self.new) }
+    {
+        for i in 0..targets.len() {
+            self.credits[targets.to(i) as usize].make_room()?;
+        }
         Ok(())
     }
 
-    /// Counts what the message of this number brings to an account. Takes no memory.
-    pub(crate) fn credit(&mut self, number: u32, to: u32, amount: u64)
-        requires target { to < length self.old.credits }
-        requires room { 0 < (credits_to self.old to).room }
-        requires later { All (λ c. c.number < number) (credits_to self.old to).list }
-        requires few { length (credits_to self.old to).list < 2 ^ 32 }
-        ensures { self.new ≡ message_counted self.old number to amount }
+    /// Counts what the message of this number brings to its targets. Takes no memory.
+    pub(crate) fn count(&mut self, number: u32, targets: &Targets)
+        requires targets { AreTargetsOn (length self.old.credits) targets.now }
+        requires room { HasRoomFor targets.now number self.old }
+        ensures { self.new ≡ message_counted self.old number targets.now }
     {
-        self.credits[to as usize].push(number, amount);
+        for i in 0..targets.len() {
+            self.credits[targets.to(i) as usize].push(number, targets.amount(i));
+        }
     }
 
     /// What the validated messages of this number and above brought to the account.
@@ -81,20 +97,8 @@ impl Sender {
     }
 }
 
-/// No message of any number.
-#[tactic(auto, unfolding(crate::specs::Messages::no_messages))]
-fn no_messages(alloc: Global) -> Result<Vec<Option<Message>>, NoMemory>
-    ensures { IfOk result (λ messages. messages.items ≡ no_messages) }
-{
-    let mut messages = Vec::new(alloc);
-    for _number in 0..MESSAGES_MAX {
-        messages.push(None)?;
-    }
-    Ok(messages)
-}
-
 /// No credit to any account.
-fn no_credits(alloc: Global, accounts: u32) -> Result<Vec<Credits>, NoMemory>
+fn no_credits(alloc: Global, accounts: u32) -> Result<Vec<Credits>, AllocError>
     ensures { IfOk result (λ credits. credits.items ≡ replicate accounts no_credits) }
 {
     let mut credits = Vec::new(alloc);

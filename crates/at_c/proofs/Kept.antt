@@ -1,26 +1,8 @@
 -- What the types of callers and of ledgers keep.
 use Rattle.std.proofs.Common.{◌≡◌, append_assoc, append-nil, ℕ, ◌+◌, ◌<◌, ◌≤◌, suc, List, [], ◌∷◌, ◌++◌, length, sym, ap, subst, ◌∙◌, arith, length-append, replicate, All, inl, inr, ◌-◌}
-use Rattle.std.proofs.Math.ListN.{get_or-append}
-use Rattle.std.proofs.Math.Seq.{get_or-append_right, get_or-append_seam}
-use Rattle.std.proofs.lemmas.Bool.{cases_lt}
-use Rattle.std.proofs.lemmas.List.{get_or-replicate, length-replicate, map-append}
-use Rattle.std.proofs.lemmas.List.Elements.{All-append, All-nil, All-push, All-replicate}
+use Rattle.at_c.proofs.Prelude.{get_or-append, get_or-append_right, get_or-append_seam, cases_lt, get_or-replicate, length-replicate, map-append, All-append, All-nil, All-push, All-replicate, BoardTerms, IsCallOn, Call, calls_of, Receipt, stands-CallMade, CallMade, AreAccountedFor, IsAccountedFor, AreNewPasses, IsNewPass, IsPassOf, PassTerms, Stands, one_more_call, OwnCallerTerms, IsCaller, IsOpened, IsStillOpen, OpenedTerms, LearnsNote, SharedTerms, Outcome}
 use Rattle.std.specs.Prelude.{slice_index_or}
-use Rattle.at_board.specs.Knowledge.Seats.{BoardTerms}
-use Rattle.at_ledger.specs.Call.{IsCallOn}
-use Rattle.at_ledger.specs.declared.call.Call.{Call}
-use Rattle.at_log.specs.Receipts.{calls_of}
-use Rattle.at_log.specs.declared.receipt.Receipt.{Receipt}
-use Rattle.at_object.proofs.Laws.Calls.{stands-CallMade}
-use Rattle.at_object.specs.Calls.{CallMade}
-use Rattle.at_object.specs.Closings.{AreAccountedFor, IsAccountedFor}
-use Rattle.at_object.specs.Passes.{AreNewPasses, IsNewPass, IsPassOf, PassTerms, Stands, one_more_call}
-use Rattle.at_c.specs.Callers.{OwnCallerTerms, IsCaller}
 use Rattle.at_c.specs.Given.{AreReceipts}
-use Rattle.at_c.specs.Ledgers.{IsOpened, IsStillOpen, OpenedTerms}
-use Rattle.at_c.specs.Notes.{LearnsNote}
-use Rattle.at_c.specs.Shared.{SharedTerms}
-use Rattle.at_c.specs.declared.outcome.Outcome.{Outcome}
 
 -- a caller by its parts
 abbrev pub caller_of : SharedTerms → PassTerms → List Receipt → ℕ → OwnCallerTerms

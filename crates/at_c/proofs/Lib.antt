@@ -1,3 +1,4 @@
+pub mod Prelude
 pub mod Kept
 mod Lines
 mod Near

@@ -1,17 +1,6 @@
 -- The lines of a closed ledger name accounts of its book.
 use Rattle.std.proofs.Common.{◌≡◌, ℕ, ◌<◌, ◌==◌, Bool, true, false, cond, List, [], ◌∷◌, length, map, All, refl, sym, subst, ◌∙◌, eq-eqb, arith}
-use Rattle.std.proofs.lemmas.List.{get_or-map, length-map}
-use Rattle.std.proofs.lemmas.List.Elements.{All-cons, All-head, All-nil, All-tail}
-use Rattle.at_ledger.specs.Book.{BookTerms}
-use Rattle.at_ledger.specs.Call.{IsCallOn, IsLineOn}
-use Rattle.at_ledger.specs.Run.{Whole, lines_of}
-use Rattle.at_ledger.specs.declared.call.Call.{Call}
-use Rattle.at_ledger.specs.declared.call.Line.{Line}
-use Rattle.at_journal.specs.Calls.{calls_in}
-use Rattle.at_log.specs.ClosingTerms.{ClosingTerms}
-use Rattle.at_log.specs.Coherent.{Coherent}
-use Rattle.at_log.specs.Receipts.{calls_of}
-use Rattle.at_log.specs.declared.receipt.Receipt.{Receipt}
+use Rattle.at_c.proofs.Prelude.{get_or-map, length-map, All-cons, All-head, All-nil, All-tail, BookTerms, IsCallOn, IsLineOn, Whole, lines_of, Call, Line, calls_in, ClosingTerms, Coherent, calls_of, Receipt}
 use Rattle.at_c.specs.Given.{AreReceipts}
 
 call-kept : (holds : Call → Type 0) (t : Bool) (l : Line) (rest : List Line)

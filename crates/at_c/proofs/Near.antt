@@ -1,15 +1,6 @@
 -- A pay-out to accounts of which some are too far, and the same with near ones in their places: a caller answers both the same.
 use Rattle.std.proofs.Common.{◌≡◌, ℕ, ◌<◌, ◌≤◌, List, [], ◌∷◌, length, refl, sym, ap, subst, ◌∙◌, arith, min, Option, None, Some}
-use Rattle.std.proofs.lemmas.List.Elements.{All-head, All-tail}
-use Rattle.at_ledger.specs.Call.{AreTargetsOn, IsCallOn, TargetPair}
-use Rattle.at_ledger.specs.declared.call.Call.{Call}
-use Rattle.at_c.specs.Callers.{OwnCallerTerms}
-use Rattle.at_c.specs.Exports.{CallerAnswers, HandleAnswers, pairs_of}
-use Rattle.at_c.specs.Near.{near_account, near_pairs_of}
-use Rattle.at_c.specs.declared.held.Held.{Held}
-use Rattle.at_c.specs.declared.outcome.Answer.{Answer}
-use Rattle.at_c.specs.declared.outcome.Outcome.{Outcome}
-use Rattle.at_c.specs.declared.target.Target.{Target}
+use Rattle.at_c.proofs.Prelude.{All-head, All-tail, AreTargetsOn, IsCallOn, TargetPair, Call, OwnCallerTerms, CallerAnswers, HandleAnswers, pairs_of, near_account, near_pairs_of, Held, Answer, Outcome, Target}
 
 -- near targets that are there are the targets
 near_pairs_of-there : (n : ℕ) (ts : List Target) → n ≤ 1024 → AreTargetsOn n (near_pairs_of ts) → near_pairs_of ts ≡ pairs_of ts

@@ -1,33 +1,16 @@
 -- What a handle holds may be moved to another thread: each part of it by itself, since one search over all of them meets its limit.
-use base.Fraction.{full_share}
-use base.Shift.{Keyless}
+use Rattle.at_c.proofs.Prelude.{full_share, Keyless, lone, RattleType, Ptr, block_ptr, null_ptr, fields, shape, to, Struct, exits_of, AllSend, IsSend, IsSync, owning_send, part_keyless, sendable, struct_send, view_send, view_sync, declared_send, declared_sync, variants_send, chain-Keyless, crosses, frees, ghosts, lies, quiet, box_owns, right_send, owns_keyless, shares_keyless, Ghosts, Id, Phase, free, away, offset, state, board_seat_sync, table_seat_send, receipt_send, pass_send, owns_held}
 use mir.Raw.{raw}
-use denote.Memory.{lone}
-use denote.RattleType.{RattleType}
-use denote.RawPtr.{Ptr, block_ptr, null_ptr}
-use denote.Struct.Owning.{fields, shape, to}
-use denote.Struct.Struct.{Struct, exits_of}
-use denote.Param.Send.{AllSend, IsSend, IsSync, owning_send, part_keyless, sendable, struct_send, view_send, view_sync}
-use denote.Param.SendFields.{declared_send, declared_sync, variants_send}
-use Rattle.core.proofs.atomic.Sent.{chain-Keyless}
 use Rattle.std.proofs.Common.{ℕ, ◌+◌, ◌∷◌}
 use Rattle.std.specs.Prelude.{Option}
-use Rattle.std.proofs.Crossing.{crosses, frees}
 use Rattle.std.specs.contracts.alloc.Global as heap
-use Rattle.std.specs.contracts.impls.GlobalAllocator.TheImpl.{ghosts}
-use Rattle.std_alloc.proofs.SendSync.{lies, quiet}
-use Rattle.std_alloc.specs.Box.Ownership.{box_owns}
-use Rattle.atomic_table.proofs.Rights.{right_send}
-use Rattle.atomic_table.proofs.Sent.{owns_keyless, shares_keyless}
-use Rattle.atomic_table.specs.declared.shared.TableRule.{Ghosts}
 use Rattle.atomic_table.specs.contracts.send_lease.SendLease as lease
 use Rattle.atomic_table.specs.contracts.owned.Table as table
 use Rattle.atomic_table.specs.contracts.shared.Shared as words
-use Rattle.counted_slot.specs.Counting.{Id, Phase, free, away, shared as apart, offset, state}
+use Rattle.counted_slot.specs.Counting.{shared as apart}
 use Rattle.counted_slot.specs.contracts.Counted as counted
 use Rattle.counted_slot.specs.declared.Fits.{Ghosts as Fitting}
 use Rattle.at_base.specs.contracts.decision.Decision as decision
-use Rattle.at_board.proofs.Sharing.{board_seat_sync, table_seat_send}
 use Rattle.at_board.specs.contracts.seat.BoardSeat as seat
 use Rattle.at_fold.specs.contracts.account_totals.AccountTotals as account
 use Rattle.at_fold.specs.contracts.slot_totals.SlotTotals as slot
@@ -40,12 +23,9 @@ use Rattle.at_object.specs.contracts.pass.Pass as pass
 use Rattle.at_ledger.specs.contracts.book.Book as book
 use Rattle.at_board.specs.contracts.board.Board as board
 use Rattle.at_board.specs.contracts.layout.Layout as layout
-use Rattle.at_log.proofs.Sharing.{receipt_send}
-use Rattle.at_object.proofs.Sharing.{pass_send}
 use Rattle.at_files.specs.contracts.names.Names as names
 use Rattle.at_object.specs.contracts.ledger.Ledger as ledger
 use Rattle.at_c.specs.contracts.caller.Caller as caller
-use Rattle.at_c.specs.Handles.{owns_held}
 use Rattle.at_c.specs.contracts.handle.Handle as handle
 use Rattle.at_c.specs.contracts.held.Held as held
 use Rattle.at_c.specs.contracts.opened.Opened as opened

@@ -1,10 +1,6 @@
 -- Callers as exports see them, what the type of a caller keeps, and what a call leaves.
 use Rattle.std.specs.Prelude.{◌≡◌, ℕ, ◌-◌, ◌^◌, ◌<◌, ◌≤◌, ◌++◌, List, [], ◌∷◌, length}
-use Rattle.at_ledger.specs.declared.call.Call.{Call}
-use Rattle.at_ledger.specs.declared.call.Reply.{Reply}
-use Rattle.at_log.specs.declared.receipt.Receipt.{Receipt}
-use Rattle.at_object.specs.Calls.{CallMade, StaysWithin}
-use Rattle.at_object.specs.Passes.{PassTerms}
+use Rattle.at_c.specs.Prelude.{Call, Reply, Receipt, CallMade, StaysWithin, PassTerms}
 use Rattle.at_c.specs.Given.{IsGivenBack}
 use Rattle.at_c.specs.Notes.{LearnsNote, LeavesNote}
 use Rattle.at_c.specs.declared.outcome.Outcome.{Outcome}

@@ -1,19 +1,6 @@
 -- How a ledger ends: all callers have given their passes back, the ledger is closed, and its report is made.
 use Rattle.std.specs.Prelude.{◌≡◌, ◌^◌, ◌<◌, ℕ, List, length, All}
-use Rattle.at_ledger.specs.Run.{Legal, Whole, last_state}
-use Rattle.at_ledger.specs.State.{balance_of}
-use Rattle.at_ledger.specs.declared.call.Line.{Line}
-use Rattle.at_history.specs.Balances.{balance_after}
-use Rattle.at_board.specs.Knowledge.Seats.{BoardTerms}
-use Rattle.at_files.specs.Names.{AreNamesOf, NameList}
-use Rattle.at_journal.specs.Calls.{calls_in}
-use Rattle.at_journal.specs.Linearizable.{AreTimed, CallTimes, IsLinearizable}
-use Rattle.at_log.specs.Coherent.{Coherent}
-use Rattle.at_log.specs.JournalOrder.{journal_lines, journal_order}
-use Rattle.at_log.specs.declared.receipt.Receipt.{Receipt}
-use Rattle.at_object.specs.Closings.{AreAccountedFor, ClosedTerms, HasAllLogs}
-use Rattle.at_object.specs.Passes.{PassTerms}
-use Rattle.at_report.specs.Report.{IsPrinted, report_text}
+use Rattle.at_c.specs.Prelude.{Legal, Whole, last_state, balance_of, Line, balance_after, BoardTerms, AreNamesOf, NameList, calls_in, AreTimed, CallTimes, IsLinearizable, Coherent, journal_lines, journal_order, Receipt, AreAccountedFor, ClosedTerms, HasAllLogs, PassTerms, IsPrinted, report_text}
 use Rattle.at_c.specs.Given.{AreReceipts}
 
 -- a ledger with the names of its book, all its passes and the receipts of all calls

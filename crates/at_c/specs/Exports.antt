@@ -1,12 +1,6 @@
 -- What exports answer, as numbers and as plain data.
 use Rattle.std.specs.Prelude.{◌≡◌, ℕ, ◌<◌, ◌≤◌, ◌++◌, true, drop, is_some, length, map, Err, List, [], None, Option, Some, ⊤}
-use Rattle.at_files.specs.BookFile.{book_of_records}
-use Rattle.at_files.specs.Records.{file_records}
-use Rattle.at_files.specs.declared.book_fault.BadBook.{BadBook}
-use Rattle.at_ledger.specs.Call.{IsCallOn, TargetPair}
-use Rattle.at_ledger.specs.Limits.{most_targets}
-use Rattle.at_ledger.specs.declared.call.Call.{Call}
-use Rattle.at_ledger.specs.declared.call.Reply.{Reply}
+use Rattle.at_c.specs.Prelude.{book_of_records, file_records, BadBook, IsCallOn, TargetPair, most_targets, Call, Reply}
 use Rattle.at_ledger.specs.declared.call.Reply.TheVariants as reply
 use Rattle.at_c.specs.Callers.{CallerLearns, CallerNotes, OwnCallerTerms, MakesCall}
 use Rattle.at_c.specs.Endings.{EndsAs, GatheredTerms, IsReportOfClosed}

@@ -1,10 +1,6 @@
 -- What a caller gives back to its ledger.
 use Rattle.std.specs.Prelude.{◌≡◌, ◌^◌, ◌<◌, ℕ, List, length, All}
-use Rattle.at_ledger.specs.Call.{IsCallOn}
-use Rattle.at_board.specs.Knowledge.Seats.{BoardTerms}
-use Rattle.at_log.specs.Receipts.{calls_of}
-use Rattle.at_log.specs.declared.receipt.Receipt.{Receipt}
-use Rattle.at_object.specs.Passes.{IsPassOf, PassTerms, Stands}
+use Rattle.at_c.specs.Prelude.{IsCallOn, BoardTerms, calls_of, Receipt, IsPassOf, PassTerms, Stands}
 
 -- so few receipts, of calls that name accounts that are there
 pub record AreReceipts (accounts : ℕ) (receipts : List Receipt) : Type 0 where

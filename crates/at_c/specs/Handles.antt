@@ -1,11 +1,6 @@
 -- What a handle owns.
-use denote.RattleType.{RattleType}
-use denote.RawPtr.{Ptr, block_ptr, null_ptr}
-use base.Fml.{Fml, feq, fex, fsep}
+use Rattle.at_c.specs.Prelude.{RattleType, Ptr, block_ptr, null_ptr, Fml, feq, fex, fsep, Global, ghosts, box_owns}
 use Rattle.std.specs.Prelude.{None, Option, Some}
-use Rattle.std.specs.Global.{Global}
-use Rattle.std.specs.contracts.impls.GlobalAllocator.TheImpl.{ghosts}
-use Rattle.std_alloc.specs.Box.Ownership.{box_owns}
 
 -- at null nothing is held. Any other pointer is that of a box of what is held
 abbrev pub owns_held : (R : RattleType) → Global → Ptr → Option R.Denot → Fml

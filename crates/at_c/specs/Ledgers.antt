@@ -1,10 +1,6 @@
 -- Opened ledgers as exports see them, and what handing out a caller leaves.
 use Rattle.std.specs.Prelude.{◌≡◌, ℕ, ◌+◌, ◌<◌, ◌≤◌, ◌++◌, replicate, List, [], ◌∷◌, length, slice_index_or, All, None, Option, Some}
-use Rattle.at_files.specs.BookFile.{Spells}
-use Rattle.at_files.specs.Records.{file_records}
-use Rattle.at_object.specs.Closings.{IsAccountedFor}
-use Rattle.at_object.specs.Passes.{IsNewPass, PassTerms}
-use Rattle.at_log.specs.declared.receipt.Receipt.{Receipt}
+use Rattle.at_c.specs.Prelude.{Spells, file_records, IsAccountedFor, IsNewPass, PassTerms, Receipt}
 use Rattle.at_c.specs.Callers.{OwnCallerTerms}
 use Rattle.at_c.specs.Endings.{GatheredTerms}
 use Rattle.at_c.specs.Given.{AreReceipts}

@@ -1,6 +1,6 @@
 -- Targets with accounts that fit 16 bits, in place of any.
 use Rattle.std.specs.Prelude.{ℕ, List, map, min}
-use Rattle.at_ledger.specs.Call.{TargetPair}
+use Rattle.at_c.specs.Prelude.{TargetPair}
 use Rattle.at_c.specs.declared.target.Target.{Target}
 
 -- an account that fits stays as it is; in place of another stands the last one that fits, which no book has

@@ -1,11 +1,7 @@
 -- Notes that callers leave for one another.
 use Rattle.std.specs.Prelude.{◌≡◌, ℕ, ◌<◌, ◌≤◌, List}
-use Rattle.at_board.specs.Counting.{raised}
-use Rattle.at_board.specs.Knowledge.Seats.{BoardTerms, IsOf, SeatTerms}
-use Rattle.at_history.specs.Moves.{AreRuns}
-use Rattle.at_history.specs.Publications.{IsPrefix, longer}
-use Rattle.at_log.specs.declared.receipt.Receipt.{Receipt}
-use Rattle.at_object.specs.Passes.{IsPassOf, PassTerms, Stands, asked_by, sent_by}
+use Rattle.at_c.specs.Prelude.{raised, BoardTerms, IsOf, SeatTerms, AreRuns, IsPrefix, longer, Receipt, IsPassOf, PassTerms, Stands, asked_by, sent_by}
+use Rattle.at_c.specs.declared.given.LeftNote.{LeftNote}
 use Rattle.at_c.specs.declared.outcome.Outcome.{Outcome}
 
 -- the pass has made a note: that is one exchange
@@ -37,12 +33,13 @@ pub record HasLearnedNote (ledger : BoardTerms) (note : SeatTerms) (before after
   pub steps_are : after.steps ≡ raised before.steps 1
   pub exchanges_are : after.exchanges ≡ raised before.exchanges 1
 
--- the pass has learned a note that this process has made
+-- the pass has learned a note that this process has left for the pass's own
 pub record LearnsFrom (ledger : BoardTerms) (from : ℕ) (before after : PassTerms) : Type 0 where
-  pub note : SeatTerms
-  pub of_ledger : IsOf note ledger
-  pub from_is : note.knows.first ≡ from
-  pub learned : HasLearnedNote ledger note before after
+  pub left : LeftNote
+  pub of_ledger : IsOf left.note ledger
+  pub from_is : left.note.knows.first ≡ from
+  pub to_is : left.to ≡ before.knows.first
+  pub learned : HasLearnedNote ledger left.note before after
 
 -- a pass was to learn what a process has left for it. Where it isn't done, nothing has changed: there is no such process, it has left
 -- nothing, or another thread just reaches for the place

@@ -1,7 +1,6 @@
 -- The numbers of the causes for which bytes spell no book.
 use Rattle.std.specs.Prelude.{ℕ}
-use Rattle.at_ledger.specs.declared.draft.BookError.{BookError}
-use Rattle.at_files.specs.declared.book_fault.BookWhy.{BookWhy}
+use Rattle.at_c.specs.Prelude.{BookError, BookWhy}
 
 abbrev pub limit_number : BookError → ℕ
 limit_number BookError.NoProcess = 8

@@ -1,11 +1,7 @@
 //! Callers: a pass with its ledger and the receipts of its calls.
 
 ghost use Rattle.std.specs.Prelude.{◌≡◌, ℕ, ◌<◌, ◌≤◌, ◌^◌, [], length, IfErr};
-ghost use Rattle.std.specs.Arc.{arc_value};
-ghost use Rattle.std.specs.Vec.{vec_capacity};
-ghost use Rattle.at_ledger.specs.Call.{IsCallOn};
-ghost use Rattle.at_ledger.specs.Limits.{most_accounts};
-ghost use Rattle.at_object.specs.Passes.{IsNewPass};
+ghost use Rattle.at_c.specs.Prelude.{arc_value, vec_capacity, IsCallOn, most_accounts, IsNewPass};
 ghost use Rattle.at_c.specs.Callers.{CallerLearns, CallerNotes, MakesCall};
 
 use crate::given::Given;
@@ -28,8 +24,7 @@ pub struct Caller {
 }
 
 impl Model for Caller {
-    ghost use Rattle.std.specs.Arc.{arc_value};
-    ghost use Rattle.std.specs.Vec.{vec_capacity};
+    ghost use Rattle.at_c.specs.Prelude.{arc_value, vec_capacity};
     ghost use Rattle.at_c.specs.Callers.{OwnCallerTerms, IsCaller};
 
     ghost Value = { OwnCallerTerms };

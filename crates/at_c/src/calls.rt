@@ -1,8 +1,7 @@
 //! Calls of a caller, as exports make them.
 
 ghost use Rattle.std.specs.Prelude.{◌≡◌, ◌≤◌, false, length, IsTrue, Some};
-ghost use Rattle.at_ledger.specs.Call.{AreTargetsOn, IsCallOn};
-ghost use Rattle.at_ledger.specs.Limits.{most_accounts};
+ghost use Rattle.at_c.specs.Prelude.{AreTargetsOn, IsCallOn, most_accounts};
 ghost use Rattle.at_c.specs.Callers.{OwnCallerTerms};
 ghost use Rattle.at_c.specs.declared.held.Held.{Held};
 ghost use Rattle.at_c.specs.Exports.{CallerAnswers, HandleAnswers, HandlePays};

@@ -5,9 +5,9 @@ ghost use Rattle.at_c.specs.Endings.{IsReportOfClosed};
 
 use at_files::Names;
 use at_journal::journal;
-use at_object::{Closed, NoMemory};
+use at_object::Closed;
 use at_report::report;
-use std::alloc::Global;
+use std::alloc::{AllocError, Global};
 use std::marker::Model;
 
 /// A closed ledger, with the names of its book.
@@ -46,7 +46,7 @@ impl Model for Reported {
 
 impl Ended {
     /// The bytes of the report. The work grows with the calls.
-    fn text(&self, alloc: Global) -> Result<Vec<u8>, NoMemory>
+    fn text(&self, alloc: Global) -> Result<Vec<u8>, AllocError>
         ensures { IfOk result (λ text. IsReportOfClosed self.now.closed self.now.names text.items) }
     {
         let book = self.closed.book();

@@ -1,7 +1,7 @@
 //! The exports: one function of C each, which calls one function of the crate.
 
 ghost use Rattle.std.specs.Prelude.{◌≡◌, length, None};
-ghost use Rattle.at_ledger.specs.declared.call.Call.{Call};
+ghost use Rattle.at_c.specs.Prelude.{Call};
 ghost use Rattle.at_c.specs.Exports.{Closes, GivesBack, HandleAnswers, HandleLearns, HandleNotes, HandlePays, HandsOutTo, WritesOver, Opens, exchanges_by_handle, outcome_number, report_by_handle, steps_by_handle};
 ghost use Rattle.at_c.specs.declared.outcome.Outcome.{Outcome};
 

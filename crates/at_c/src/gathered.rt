@@ -1,9 +1,7 @@
 //! Ledgers whose callers have all given back their passes.
 
 ghost use Rattle.std.specs.Prelude.{◌≡◌, All, IfErr, IfOk, length};
-ghost use Rattle.at_files.specs.Names.{AreNamesOf};
-ghost use Rattle.at_log.specs.Receipts.{lists_in};
-ghost use Rattle.at_object.specs.Closings.{AreAccountedFor};
+ghost use Rattle.at_c.specs.Prelude.{AreNamesOf, contents_of, AreAccountedFor};
 ghost use Rattle.at_c.specs.Endings.{EndsAs};
 ghost use Rattle.at_c.specs.Given.{AreReceipts};
 
@@ -24,7 +22,7 @@ pub struct Gathered {
 }
 
 impl Model for Gathered {
-    ghost use Rattle.at_log.specs.Receipts.{lists_in};
+    ghost use Rattle.at_ledger.specs.Files.{contents_of};
     ghost use Rattle.at_c.specs.Endings.{GatheredTerms, IsGathered};
 
     ghost Value = { GatheredTerms };
@@ -33,14 +31,14 @@ impl Model for Gathered {
       ledger = g.ledger;
       names = g.names;
       passes = g.passes.items;
-      receipts = lists_in g.receipts.items;
+      receipts = contents_of g.receipts.items;
     } };
 
     ghost invariant = { λ g. IsGathered (record {
       ledger = g.ledger;
       names = g.names;
       passes = g.passes.items;
-      receipts = lists_in g.receipts.items;
+      receipts = contents_of g.receipts.items;
     }) };
 }
 
@@ -53,13 +51,13 @@ impl Gathered {
         receipts: Vec<Vec<Receipt>>,
     ) -> Gathered
         requires named { AreNamesOf ledger.book names }
-        requires accounted { AreAccountedFor ledger passes.items (lists_in receipts.items) }
-        requires are { All (AreReceipts (length ledger.book.accounts)) (lists_in receipts.items) }
+        requires accounted { AreAccountedFor ledger passes.items (contents_of receipts.items) }
+        requires are { All (AreReceipts (length ledger.book.accounts)) (contents_of receipts.items) }
         ensures { result ≡ record {
           ledger = ledger;
           names = names;
           passes = passes.items;
-          receipts = lists_in receipts.items;
+          receipts = contents_of receipts.items;
         } }
     {
         Gathered {

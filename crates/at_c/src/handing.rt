@@ -1,7 +1,7 @@
 //! Ledgers and callers in handles.
 
 ghost use Rattle.std.specs.Prelude.{◌≡◌, None, Some};
-ghost use Rattle.std.specs.Option.{is_some};
+ghost use Rattle.at_c.specs.Prelude.{is_some};
 ghost use Rattle.at_c.specs.Exports.{HandedOf, HandsOutTo, Opens, exchanges_of_held, exchanges_by_handle, steps_of_held, steps_by_handle};
 
 use crate::caller::Caller;

@@ -1,7 +1,7 @@
 //! Handles: what a program in C holds.
 
 ghost use Rattle.std.specs.Prelude.{◌≡◌, None, Option, Some};
-ghost use Rattle.std.specs.Option.{option_map};
+ghost use Rattle.at_c.specs.Prelude.{option_map};
 ghost use Rattle.at_c.specs.declared.held.Held.{Held};
 
 use crate::held::Held;

@@ -13,7 +13,7 @@ pub(crate) struct Loose<T, A: Allocator> {
 }
 
 impl<T, A: Allocator> Model for Loose<T, A> {
-    ghost use Rattle.std_alloc.specs.Box.Ownership.{box_owns};
+    ghost use Rattle.at_c.specs.Prelude.{box_owns};
 
     ghost also_owns = { λ l. box_owns (A.dealloc_token l.alloc) T.row l.at l.value };
 }

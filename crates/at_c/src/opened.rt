@@ -1,12 +1,7 @@
 //! Ledgers with the passes that weren't handed out, and with those that came back.
 
 ghost use Rattle.std.specs.Prelude.{◌≡◌, ◌+◌, ◌++◌, ◌<◌, ◌≤◌, [], length, replicate, Err, IfErr, IfOk, IsTrue};
-ghost use Rattle.std.specs.Vec.{vec_capacity};
-ghost use Rattle.at_files.specs.BookFile.{book_of_records};
-ghost use Rattle.at_files.specs.Names.{AreNamesOf};
-ghost use Rattle.at_files.specs.Records.{file_records};
-ghost use Rattle.at_log.specs.Receipts.{lists_in};
-ghost use Rattle.at_object.specs.Passes.{AreNewPasses};
+ghost use Rattle.at_c.specs.Prelude.{vec_capacity, book_of_records, AreNamesOf, file_records, contents_of, AreNewPasses};
 ghost use Rattle.at_c.specs.Ledgers.{GathersPasses, HandsOut, IsNewLedger, IsStillOpen};
 
 use crate::caller::Caller;
@@ -15,8 +10,8 @@ use crate::given::Given;
 use crate::shared::Shared;
 use at_files::{BadBook, Names, ReadBookFault, read_book};
 use at_log::Receipt;
-use at_object::{Ledger, NoMemory, Pass};
-use std::alloc::Global;
+use at_object::{Ledger, Pass};
+use std::alloc::{AllocError, Global};
 use std::collections::VecDeque;
 use std::marker::Model;
 use std::sync::Arc;
@@ -33,9 +28,8 @@ pub struct Opened {
 }
 
 impl Model for Opened {
-    ghost use Rattle.std.specs.Arc.{arc_value};
-    ghost use Rattle.std.specs.Vec.{vec_capacity};
-    ghost use Rattle.at_log.specs.Receipts.{lists_in};
+    ghost use Rattle.at_c.specs.Prelude.{arc_value, vec_capacity};
+    ghost use Rattle.at_ledger.specs.Files.{contents_of};
     ghost use Rattle.at_c.specs.Ledgers.{IsOpened, OpenedTerms};
 
     ghost Value = { OpenedTerms };
@@ -45,7 +39,7 @@ impl Model for Opened {
       handed = o.handed;
       waiting = o.waiting.items;
       passes = o.passes.items;
-      receipts = lists_in o.receipts.items;
+      receipts = contents_of o.receipts.items;
       passes_room = vec_capacity o.passes;
       receipts_room = vec_capacity o.receipts;
     } };
@@ -55,7 +49,7 @@ impl Model for Opened {
       handed = o.handed;
       waiting = o.waiting.items;
       passes = o.passes.items;
-      receipts = lists_in o.receipts.items;
+      receipts = contents_of o.receipts.items;
       passes_room = vec_capacity o.passes;
       receipts_room = vec_capacity o.receipts;
     }) };
@@ -87,7 +81,7 @@ impl Opened {
         ledger: Ledger,
         names: Names,
         waiting: Vec<Pass>,
-    ) -> Result<Opened, NoMemory>
+    ) -> Result<Opened, AllocError>
         requires names { AreNamesOf ledger.book names }
         requires passes { AreNewPasses ledger waiting.items }
         ensures shared { IfOk result (λ o. (o.shared.ledger ≡ ledger) × (o.shared.names ≡ names)) }
@@ -107,7 +101,11 @@ impl Opened {
     }
 
     /// The caller of the next process, with memory for so many receipts, if one is left.
-    pub(crate) fn hand_out(&mut self, alloc: Global, calls: u32) -> Result<Option<Caller>, NoMemory>
+    pub(crate) fn hand_out(
+        &mut self,
+        alloc: Global,
+        calls: u32,
+    ) -> Result<Option<Caller>, AllocError>
         ensures ok { IfOk result (HandsOut calls self.old self.new) }
         ensures err { IfErr result (λ _. self.new ≡ self.old) }
     {
@@ -200,8 +198,8 @@ fn with_unused(
     requires passes { length passes.items + length unused.items ≤ vec_capacity passes }
     requires receipts { length receipts.items + length unused.items ≤ vec_capacity receipts }
     ensures passes { result.0.items ≡ passes.items ++ unused.items }
-    ensures receipts { lists_in result.1.items
-        ≡ lists_in receipts.items ++ replicate (length unused.items) [] }
+    ensures receipts { contents_of result.1.items
+        ≡ contents_of receipts.items ++ replicate (length unused.items) [] }
 {
     for pass in unused {
         passes.push_reserved(pass);

@@ -1,9 +1,7 @@
 //! What the callers of one ledger share.
 
 ghost use Rattle.std.specs.Prelude.{◌≡◌, ◌<◌, ◌/◌, ℕ, length, slice_index_or, IfErr, IfOk, IfSome};
-ghost use Rattle.at_board.specs.Knowledge.Seats.{IsOf};
-ghost use Rattle.at_files.specs.Names.{AreNamesOf};
-ghost use Rattle.at_object.specs.Passes.{IsPassOf};
+ghost use Rattle.at_c.specs.Prelude.{IsOf, AreNamesOf, IsPassOf};
 ghost use Rattle.at_c.specs.Given.{IsGivenBack};
 ghost use Rattle.at_c.specs.Notes.{HasLearnedNote, LearnsNote, LeavesNote, one_note_more};
 ghost use Rattle.at_c.specs.Shared.{AreOwned};
@@ -13,9 +11,9 @@ use crate::given::{Given, LeftNote, Owner};
 use crate::outcome::Outcome;
 use at_files::Names;
 use at_ledger::PROCESSES_MAX;
-use at_object::{Ledger, NoMemory, Pass};
+use at_object::{Ledger, Pass};
 use counted_slot::{Counted, FREE, Fits, TAKEN};
-use std::alloc::Global;
+use std::alloc::{AllocError, Global};
 use std::marker::Model;
 use std::snapshot::Snapshot;
 
@@ -46,7 +44,7 @@ fn places_of<X: Fits<Tag = Owner> + Drop>(
     ledger: &Ledger,
     count: u32,
     each: u32,
-) -> Result<Vec<Counted<Option<X>>>, NoMemory>
+) -> Result<Vec<Counted<Option<X>>>, AllocError>
     requires { 0 < each }
     ensures count { IfOk result (λ places. length places.items ≡ count) }
     ensures owned { IfOk result (λ places. AreOwned ledger.now each places.items) }
@@ -56,6 +54,7 @@ fn places_of<X: Fits<Tag = Owner> + Drop>(
         let owner = Owner {
             ledger: Snapshot::of(ledger),
             process: i / each,
+            to: i % each,
         };
         places.push(Counted::new(None, &owner))?;
     }
@@ -64,7 +63,7 @@ fn places_of<X: Fits<Tag = Owner> + Drop>(
 
 impl Shared {
     /// Takes the memory of all places.
-    pub(crate) fn new(alloc: Global, ledger: Ledger, names: Names) -> Result<Shared, NoMemory>
+    pub(crate) fn new(alloc: Global, ledger: Ledger, names: Names) -> Result<Shared, AllocError>
         requires { AreNamesOf ledger.book names }
         ensures { IfOk result (λ s. (s.ledger ≡ ledger) × (s.names ≡ names)) }
     {
@@ -132,21 +131,24 @@ impl Shared {
         requires to { to < self.now.ledger.book.processes }
         ensures ledger { result.now.ledger.value ≡ self.now.ledger }
         ensures process { result.now.process ≡ from }
+        ensures to { result.now.to ≡ to }
     {
         self.ledger.book().known();
         &self.notes[(from * PROCESSES_MAX + to) as usize]
     }
 
-    /// A note of what the pass has seen.
-    fn noted(&self, pass: &mut Pass) -> LeftNote
+    /// A note of what the pass has seen, for a process.
+    fn noted(&self, pass: &mut Pass, to: u32) -> LeftNote
         requires { IsPassOf pass.old self.now.ledger }
         ensures ledger { IsOf result.note self.now.ledger }
         ensures process { result.note.knows.first ≡ pass.old.knows.first }
         ensures seen { result.note.knows.seen ≡ pass.old.knows.seen }
+        ensures to { result.to ≡ to }
         ensures pass { pass.new ≡ one_note_more pass.old }
     {
         LeftNote {
             note: self.ledger.note(pass),
+            to,
         }
     }
 
@@ -165,14 +167,15 @@ impl Shared {
             claim.done();
             return Outcome::Busy;
         }
-        drop(claim.put(Some(self.noted(pass)), FREE));
+        drop(claim.put(Some(self.noted(pass, to)), FREE));
         Outcome::Done
     }
 
-    /// Takes in a note, so that the pass's later calls come after all that it has seen.
+    /// Takes in a note for its process, so that the pass's later calls come after all that it has seen.
     fn learned(&self, pass: &mut Pass, left: LeftNote)
         requires pass { IsPassOf pass.old self.now.ledger }
         requires note { IsOf left.note self.now.ledger }
+        requires to { left.to ≡ pass.old.knows.first }
         ensures { HasLearnedNote self.now.ledger left.note pass.old pass.new }
     {
         self.ledger.learn(pass, left.note);

@@ -1,59 +1,8 @@
 -- What a call leaves of its pass, whichever way it was made.
 use Rattle.std.proofs.Common.{◌≡◌, ◌≢◌, ℕ, ◌+◌, ◌*◌, ◌<◌, ◌≤◌, Bool, true, false, cond, List, [], ◌∷◌, length, None, Some, refl, sym, ap, subst, ◌∙◌, arith, inl, inr}
-use Rattle.std.proofs.lemmas.Bool.{cases_Bool}
-use Rattle.std.proofs.lemmas.List.Sums.{get_or-le-sum_by}
+use Rattle.at_calling.proofs.Prelude.{cases_Bool, get_or-le-sum_by, is_shared, is_single, slots_of, BookTerms, HasSlot, account_of, is_owner, AreTargetsOn, IsCallOn, TargetPair, first_account, payout_of, Call, Pay, Read, Transfer, Reply, Balance, Done, Full, NotOwner, Short, single_or_shared, IsPrefix-refl, place, IsHistory, owns_of, raised, IsKept, SeatTerms, MayStoreRequest, record_width, Knowledge, Asking, RECORD_WORDS, StandsBehind-cut, length-prefix_of-le, IsBetweenCalls, HasCounted, StaysCounted, TotalSums, first_account-payout, same_payout, is_at_own, is_at_round, key_of, Receipt, IsPass-alone, asking-alone, decided-alone, IsPass-round, IsPass-HasLoaded, between-IsPass, Told-HasLoaded, asking-HasLoaded, owns_of-HasLoaded, PaymentMade-alone, PaymentMade-round, others-le, IsOfOnePass-counted, HasSlot-is_owner, MayStoreRequest-room, sent-room, with_one_call, PaysAlone, PaysInRound, PaymentMade, IsOfOnePass, pass_of, IsPass, PassTerms, counted_anew, others_counted, IsDecidedByBalance, IsRefused, has_used_up, payment_steps, refusal_of, sent_after, shared_steps, single_steps, Rest, HasAllSettled, decides_made, decides_on, cut_behind, snapshot_steps, process-CallMade, AreTargetsOn-single, call_steps-payout, may_exchange-payout, read_or_refused, refusal_in, CallMade, ReadMade, StaysWithin, call_steps, may_exchange, HasSameAsking, append_steps, DecidesFew, settling_steps, IsReadOf, LeavesTotals}
 use Rattle.std.specs.Prelude.{slice_index, sum}
-use Rattle.at_ledger.specs.Account.{is_shared, is_single, slots_of}
-use Rattle.at_ledger.specs.Book.{BookTerms, HasSlot, account_of, is_owner}
-use Rattle.at_ledger.specs.Call.{AreTargetsOn, IsCallOn, TargetPair, first_account, payout_of}
-use Rattle.at_ledger.specs.declared.call.Call.{Call}
-use Rattle.at_ledger.specs.declared.call.Call.TheVariants.{Pay, Read, Transfer}
-use Rattle.at_ledger.specs.declared.call.Reply.{Reply}
-use Rattle.at_ledger.specs.declared.call.Reply.TheVariants.{Balance, Done, Full, NotOwner, Short}
-use Rattle.at_history.proofs.Laws.Covers.{single_or_shared}
-use Rattle.at_history.proofs.Laws.Prefixes.{IsPrefix-refl}
-use Rattle.at_history.specs.Fronts.{place}
-use Rattle.at_history.specs.Histories.{IsHistory}
-use Rattle.at_history.specs.Rounds.{owns_of}
-use Rattle.at_board.specs.Counting.{raised}
-use Rattle.at_board.specs.Knowledge.Seats.{IsKept, SeatTerms}
-use Rattle.at_board.specs.Steps.StoreRequestWord.{MayStoreRequest}
-use Rattle.at_board.specs.Words.Addresses.{record_width}
-use Rattle.at_board.specs.declared.knowledge.Knowledge.{Knowledge}
-use Rattle.at_board.specs.declared.knowledge.Asking.{Asking}
-use Rattle.at_board.specs.declared.words.TheConstants.{RECORD_WORDS}
-use Rattle.at_closing.proofs.Laws.Calls.{StandsBehind-front, length-prefix_of-le}
-use Rattle.at_closing.specs.BetweenCalls.{IsBetweenCalls}
-use Rattle.at_fold.specs.HasCounted.{HasCounted, StaysCounted}
-use Rattle.at_fold.specs.Sums.{TotalSums}
-use Rattle.at_log.proofs.Laws.Replies.{first_account-payout, same_payout}
-use Rattle.at_log.specs.Receipts.{is_at_own, is_at_round}
-use Rattle.at_log.specs.Told.{key_of}
-use Rattle.at_log.specs.declared.receipt.Receipt.{Receipt}
-use Rattle.at_object.proofs.Laws.Alone.{IsPass-alone, asking-alone, decided-alone}
-use Rattle.at_object.proofs.Laws.InRound.{IsPass-round}
-use Rattle.at_object.proofs.Laws.Looked.{IsPass-HasLoaded, between-IsPass, Told-HasLoaded, asking-HasLoaded, owns_of-HasLoaded}
-use Rattle.at_object.proofs.Laws.Made.{PaymentMade-alone, PaymentMade-round, others-le}
-use Rattle.at_object.proofs.Laws.OnePass.{IsOfOnePass-counted}
-use Rattle.at_object.proofs.Laws.Room.{HasSlot-is_owner, MayStoreRequest-room, sent-room}
-use Rattle.at_object.specs.CallCounts.{with_one_call}
-use Rattle.at_object.specs.Paid.{PaysAlone, PaysInRound}
-use Rattle.at_object.specs.Calls.{PaymentMade}
-use Rattle.at_object.specs.Parted.{IsOfOnePass, pass_of}
-use Rattle.at_object.specs.Passes.{IsPass, PassTerms, counted_anew, others_counted}
-use Rattle.at_object.specs.Payments.{IsDecidedByBalance, IsRefused, has_used_up, payment_steps, refusal_of, sent_after, shared_steps, single_steps}
-use Rattle.at_object.specs.declared.parts.Rest.{Rest}
-use Rattle.at_shared.specs.Helpings.{HasAllSettled, decides_made, decides_on}
-use Rattle.at_single.specs.Standing.{front_behind}
-use Rattle.at_single.specs.Standing as single
-use Rattle.at_snapshot.specs.Snapshots.{snapshot_steps}
-use Rattle.at_object.proofs.Laws.Calls.{process-CallMade}
-use Rattle.at_object.proofs.Laws.Within.{AreTargetsOn-single, call_steps-payout, may_exchange-payout, read_or_refused}
-use Rattle.at_calling.specs.Calling.{refusal_in}
-use Rattle.at_object.specs.Calls.{CallMade, ReadMade, StaysWithin, call_steps, may_exchange}
-use Rattle.at_calling.specs.PayingAlone.{HasSameAsking, append_steps}
-use Rattle.at_calling.specs.PayingShared.{DecidesFew, settling_steps}
-use Rattle.at_calling.specs.Reading.{IsReadOf, LeavesTotals}
+use Rattle.at_payments.specs.Standing as single
 
 -- no call is both decided and refused
 pub decided_or_refused : (r : Receipt) → IsDecidedByBalance r → IsRefused r → ⊥
@@ -210,31 +159,31 @@ module _ (b : BookTerms) (start : SeatTerms) (was : Rest) (seat : SeatTerms) (re
 
     module _ (account : ℕ) (r : Receipt) (read : IsReadOf b v w account r) where
       first : w.first ≡ v.first
-      first = ap (λ (t : Knowledge). t.first) read.at_front.loads.same
+      first = ap (λ (t : Knowledge). t.first) read.at_cut.loads.same
 
-      abbrev front : List ℕ
-      front = front_behind w r.at
+      abbrev cut : List ℕ
+      cut = cut_behind w r.at
 
       pub ReadMade-IsReadOf : ReadMade b before after account r
       ReadMade-IsReadOf = record {
         call_is = read.call;
-        at_front = read.at_front.at_front;
+        at_cut = read.at_cut.at_cut;
         reply = read.reply;
         snapshot = read.snapshot;
         placed = λ earlier stands. read.placed earlier;
         stands = λ earlier stands.
-            Told-HasLoaded b v w kept keeps book same_book read.at_front.loads was.totals rest.totals was.sent pass.pass earlier r stands
+            Told-HasLoaded b v w kept keeps book same_book read.at_cut.loads was.totals rest.totals was.sent pass.pass earlier r stands
             (read.placed earlier)
-            (StandsBehind-front v.first v.seen w.seen r front read.snapshot.begins
-            (λ previous. subst (λ p. 2 * place front ≤ key_of p w.seen previous r) first (read.after_front previous)))
-            (ap is_at_own read.at_front.at_front) (ap is_at_round read.at_front.at_front);
-        after_seen = λ previous. omega (arith, read.after_front previous, length-prefix_of-le front v.seen w.seen read.snapshot.begins);
-        begins = read.at_front.loads.more;
-        history = read.at_front.loads.history;
+            (StandsBehind-cut v.first v.seen w.seen r cut read.snapshot.begins
+            (λ previous. subst (λ p. 2 * place cut ≤ key_of p w.seen previous r) first (read.after_cut previous)))
+            (ap is_at_own read.at_cut.at_cut) (ap is_at_round read.at_cut.at_cut);
+        after_seen = λ previous. omega (arith, read.after_cut previous, length-prefix_of-le cut v.seen w.seen read.snapshot.begins);
+        begins = read.at_cut.loads.more;
+        history = read.at_cut.loads.history;
         process_is = first;
-        asked = λ a. ap (λ (t : Asking). length t.announced) (asking-HasLoaded b v w kept keeps book same_book read.at_front.loads a);
+        asked = λ a. ap (λ (t : Asking). length t.announced) (asking-HasLoaded b v w kept keeps book same_book read.at_cut.loads a);
         sent = ap (λ p. owns_of p w.seen) first
-            ∙ owns_of-HasLoaded b v w kept keeps book same_book read.at_front.loads was.totals rest.totals was.sent pass.pass;
+            ∙ owns_of-HasLoaded b v w kept keeps book same_book read.at_cut.loads was.totals rest.totals was.sent pass.pass;
         counted = others_counted-LeavesTotals;
       }
 
@@ -242,11 +191,11 @@ module _ (b : BookTerms) (start : SeatTerms) (was : Rest) (seat : SeatTerms) (re
       IsOfOnePass-IsReadOf stays sent calls =
           IsOfOnePass-counted start seat was rest pass same_board (ReadMade-IsReadOf).process_is calls
           (subst (IsPass w rest.totals) (sym sent)
-          (IsPass-HasLoaded b v w kept keeps book same_book read.at_front.loads was.totals rest.totals was.sent pass.pass
+          (IsPass-HasLoaded b v w kept keeps book same_book read.at_cut.loads was.totals rest.totals was.sent pass.pass
           (HasCounted-StaysCounted b w rest.totals stays) leaves.own_counted))
 
       pub asks-IsReadOf : HasSameAsking v w
-      asks-IsReadOf = asking-HasLoaded b v w kept keeps book same_book read.at_front.loads
+      asks-IsReadOf = asking-HasLoaded b v w kept keeps book same_book read.at_cut.loads
 
       pub MakesWithin-IsReadOf : more_steps ≡ 0 → MakesWithin b before after (Read account) turns 0 r
       MakesWithin-IsReadOf none =

@@ -1,53 +1,9 @@
 -- A call from one turn to the next, and what its answer leaves.
 use Rattle.std.proofs.Common.{◌≡◌, ℕ, ◌+◌, ◌-◌, ◌*◌, ◌<◌, ◌≤◌, ◌↔◌, List, [], ◌∷◌, ◌++◌, IfSome, IsSome, Option, length, None, Some, refl, sym, ap, subst, ◌∙◌, arith, false, true}
-use Rattle.std.specs.List.{sum}
-use Rattle.at_ledger.specs.Account.{is_shared, slots_of}
-use Rattle.at_ledger.specs.Book.{BookTerms, account_of}
-use Rattle.at_ledger.specs.Call.{IsCallOn, TargetPair, first_account}
-use Rattle.at_ledger.specs.declared.call.Call.{Call}
-use Rattle.at_ledger.specs.declared.call.Reply.{Reply}
-use Rattle.at_history.proofs.Laws.Prefixes.{IsPrefix-refl}
-use Rattle.at_history.specs.Moves.{AreRuns}
-use Rattle.at_history.specs.Publications.{IsPrefix}
-use Rattle.at_history.specs.declared.publication.Publication.{Publication}
-use Rattle.at_board.specs.Counting.{raised}
-use Rattle.at_board.specs.Knowledge.Seats.{BoardTerms, IsKept, IsOf, SeatTerms}
-use Rattle.at_board.specs.Words.Addresses.{record_width}
-use Rattle.at_board.specs.declared.knowledge.Asking.{Asking}
-use Rattle.at_board.specs.declared.knowledge.Knowledge.{Knowledge}
-use Rattle.at_board.specs.declared.words.TheConstants.{RECORD_WORDS}
-use Rattle.at_closing.specs.BetweenCalls.{IsBetweenCalls}
-use Rattle.at_fold.specs.HasCounted.{HasCounted, StaysCounted}
-use Rattle.at_fold.specs.Sums.{TotalSums}
-use Rattle.at_log.proofs.Laws.Replies.{first_account-payout}
-use Rattle.at_log.specs.Placed.{IsPlaced}
-use Rattle.at_log.specs.declared.receipt.At.TheVariants.{Previous}
-use Rattle.at_log.specs.declared.receipt.Receipt.{Receipt}
-use Rattle.at_object.proofs.Laws.Looked.{between-IsPass}
-use Rattle.at_object.proofs.Laws.Made.{PaymentMade-refused}
-use Rattle.at_object.specs.Paid.{PaysAlone, PaysInRound}
-use Rattle.at_object.specs.Parted.{IsOfOnePass, pass_of}
-use Rattle.at_object.specs.Passes.{PassTerms, Stands, one_more_call}
-use Rattle.at_object.specs.Payments.{IsRefused, sent_after, single_steps}
-use Rattle.at_object.specs.declared.parts.Rest.{Rest}
-use Rattle.at_shared.specs.Helpings.{decides_made, decides_on}
-use Rattle.at_single.proofs.Laws.Looks.{published-HasLoaded}
-use Rattle.at_snapshot.specs.Collected.{HasLoaded}
-use Rattle.at_snapshot.specs.Snapshots.{snapshot_steps}
+use Rattle.at_calling.proofs.Prelude.{sum, is_shared, slots_of, BookTerms, account_of, IsCallOn, TargetPair, first_account, Call, Reply, IsPrefix-refl, AreRuns, IsPrefix, Publication, raised, BoardTerms, IsKept, IsOf, SeatTerms, record_width, Asking, Knowledge, RECORD_WORDS, IsBetweenCalls, HasCounted, StaysCounted, TotalSums, first_account-payout, IsPlaced, Previous, Receipt, between-IsPass, PaymentMade-refused, PaysAlone, PaysInRound, IsOfOnePass, pass_of, PassTerms, Stands, one_more_call, IsRefused, sent_after, single_steps, Rest, decides_made, decides_on, published-HasLoaded, HasLoaded, snapshot_steps, placed-CallMade, stands-CallMade, call_steps-payout, may_exchange-payout, with_one_call, CallingTerms, IsCallWithin, IsWay, MakesCallStep, call_turns_left, exchanges_made, exchanges_of, pass_before, refusal_in, steps_made, steps_of, CallMade, StaysWithin, call_steps, IsCallStageSo, IsCallingSo, IsMakingStill, TakesCallTurn, IsWithin, IsWithinOneMore, look_turns_left, HasSameAsking, IsPayWithin, PayingAloneTerms, append_steps, pay_turns_left, DecidesFew, PayingSharedTerms, settling_steps, share_exchanges_made, share_steps, share_turns_left, share_turns_most, IsReadOf, LeavesTotals, ReadingTerms, counted_so_far, newly_seen, CallStage, PayAlone, PayShared, Refuse}
 use Rattle.at_calling.proofs.PayingAloneLaws.{HasSameAsking-HasLoaded}
 use Rattle.at_calling.proofs.CallingLaws.{CallMade-PaysAlone, CallMade-PaysInRound, IsOfOnePass-IsReadOf, IsOfOnePass-PaysAlone, IsOfOnePass-PaysInRound, MakesWithin, ReadMade-IsReadOf, StaysWithin-MakesWithin, MakesWithin-IsReadOf, MakesWithin-PaysAlone, MakesWithin-PaysInRound, payment_steps-shared, payment_steps-single, refusal_in-payout, small-refusal_of, payout-IsCallOn}
-use Rattle.at_object.proofs.Laws.Calls.{placed-CallMade, stands-CallMade}
-use Rattle.at_object.proofs.Laws.Within.{call_steps-payout, may_exchange-payout}
-use Rattle.at_object.specs.CallCounts.{with_one_call}
-use Rattle.at_calling.specs.Calling.{CallingTerms, IsCallWithin, IsWay, MakesCallStep, call_turns_left, exchanges_made, exchanges_of, pass_before, refusal_in, steps_made, steps_of}
-use Rattle.at_object.specs.Calls.{CallMade, StaysWithin, call_steps}
-use Rattle.at_calling.specs.KeptCalling.{IsCallStageSo, IsCallingSo, IsMakingStill, TakesCallTurn}
-use Rattle.at_machines.specs.Looking.{IsWithin, IsWithinOneMore, look_turns_left}
-use Rattle.at_calling.specs.PayingAlone.{HasSameAsking, IsPayWithin, PayingAloneTerms, append_steps, pay_turns_left}
-use Rattle.at_calling.specs.PayingShared.{DecidesFew, PayingSharedTerms, settling_steps, share_exchanges_made, share_steps, share_turns_left, share_turns_most}
-use Rattle.at_calling.specs.Reading.{IsReadOf, LeavesTotals, ReadingTerms, counted_so_far, newly_seen}
-use Rattle.at_calling.specs.declared.call_stage.CallStage.{CallStage}
-use Rattle.at_calling.specs.declared.call_stage.CallStage.TheVariants.{PayAlone, PayShared, Read, Refuse}
+use Rattle.at_calling.specs.declared.call_stage.CallStage.TheVariants.{Read}
 
 -- the call that goes on with this stage, of this seat and this rest of its pass
 abbrev pub calling_next : CallingTerms → CallStage → SeatTerms → Rest → CallingTerms

@@ -1,3 +1,4 @@
+pub mod Prelude
 pub mod Laws
 pub mod ReadingLaws
 pub mod PayingAloneLaws

@@ -1,44 +1,6 @@
 -- What a look, and a record after it, let the receipt of a payment be.
 use Rattle.std.proofs.Common.{◌≡◌, ℕ, ◌+◌, ◌<◌, ◌≤◌, ◌*◌, ◌-◌, List, [], ◌∷◌, ◌++◌, get_or, length, set, refl, sym, ap, subst, ◌∙◌, arith}
-use Rattle.std.proofs.lemmas.List.{append_assoc, get_or-set_same, length-append}
-use Rattle.std.proofs.lemmas.List.Sums.{sum_by-set}
-use Rattle.std.specs.List.{sum}
-use Rattle.at_ledger.specs.Book.{BookTerms}
-use Rattle.at_ledger.specs.Call.{TargetPair, amount_of}
-use Rattle.at_ledger.specs.declared.call.Reply.TheVariants.{Done, Short}
-use Rattle.at_history.proofs.Laws.Fronts.{length-IsFront, place-IsFront-le}
-use Rattle.at_history.proofs.Laws.Histories.{ArePublishedBy-IsHistory}
-use Rattle.at_history.specs.Balances.{balance_after}
-use Rattle.at_history.specs.Fronts.{place, prefix_of}
-use Rattle.at_history.specs.Publications.{IsPrefix}
-use Rattle.at_history.specs.Rounds.{owns_of}
-use Rattle.at_history.specs.declared.publication.Entry.{Entry}
-use Rattle.at_history.specs.declared.publication.Publication.{Publication}
-use Rattle.at_board.specs.Knowledge.Parts.{asking_on, no_part, own_part, with_part}
-use Rattle.at_board.specs.Steps.Publish.{Publishes, with_record}
-use Rattle.at_board.specs.Steps.StoreRecordWord.{StoresWord, with_word}
-use Rattle.at_board.specs.declared.knowledge.Knowledge.{Knowledge}
-use Rattle.at_board.specs.declared.knowledge.Part.{Part}
-use Rattle.at_board.specs.declared.words.TheConstants.{RECORD_WORDS}
-use Rattle.at_fold.specs.HasCounted.{HasCounted}
-use Rattle.at_fold.specs.Sums.{TotalSums}
-use Rattle.at_log.specs.declared.receipt.At.TheVariants.{Front, Own}
-use Rattle.at_object.proofs.Laws.Looked.{own_part-HasLoaded}
-use Rattle.at_single.proofs.Laws.Looks.{first-HasLoaded, published-HasLoaded}
-use Rattle.at_single.proofs.Laws.OwnRecords.{owns_of-IsPrefix-take}
-use Rattle.at_single.proofs.Laws.Paid.{IsPaid, IsSnapshot-IsPaid, begins-IsPaid, first-IsPaid, front_behind-IsPaid, more-IsPaid, number-IsPaid, place-IsPaid, prefix_of-IsPaid, record-IsPaid, within-IsPaid}
-use Rattle.at_single.proofs.Laws.Placed.{IsPlaced-done, IsPlaced-short, payment_reply-done, payment_reply-short}
-use Rattle.at_single.specs.Looks.{HasLooked}
-use Rattle.at_single.specs.Standing.{IsOnlyOwner, front_behind, own_record, payment_reply}
-use Rattle.at_snapshot.specs.Collected.{HasLoaded}
-use Rattle.at_snapshot.specs.Snapshots.{IsSnapshot, snapshot_steps}
-use Rattle.at_machines.specs.Appending.{starting_appending}
-use Rattle.at_calling.specs.KeptPayingAlone.{IsPayingAloneSo}
-use Rattle.at_machines.specs.Looking.{IsWithin}
-use Rattle.at_calling.specs.PayingAlone.{AnswersAlone, HasSameAsking, PayingAloneTerms, append_steps}
-use Rattle.at_calling.specs.Reading.{LeavesTotals}
-use Rattle.at_calling.specs.declared.pay_stage.PayStage.{PayStage}
-use Rattle.at_calling.specs.declared.pay_stage.PayStage.TheVariants.{Append}
+use Rattle.at_calling.proofs.Prelude.{append_assoc, get_or-set_same, length-append, sum_by-set, sum, BookTerms, TargetPair, amount_of, Done, Short, length-IsCut, place-IsCut-le, ArePublishedBy-IsHistory, balance_after, place, prefix_of, IsPrefix, owns_of, Entry, Publication, asking_on, no_part, own_part, with_part, Publishes, with_record, StoresWord, with_word, Knowledge, Part, RECORD_WORDS, HasCounted, TotalSums, Cut, Own, own_part-HasLoaded, first-HasLoaded, published-HasLoaded, owns_of-IsPrefix-take, IsPaid, IsSnapshot-IsPaid, begins-IsPaid, first-IsPaid, cut_behind-IsPaid, more-IsPaid, number-IsPaid, place-IsPaid, prefix_of-IsPaid, record-IsPaid, within-IsPaid, IsPlaced-done, IsPlaced-short, payment_reply-done, payment_reply-short, HasLooked, IsOnlyOwner, cut_behind, own_record, payment_reply, HasLoaded, IsSnapshot, snapshot_steps, starting_appending, IsPayingAloneSo, IsWithin, AnswersAlone, HasSameAsking, PayingAloneTerms, append_steps, LeavesTotals, PayStage, Append}
 
 -- loads of lengths, a store of a word of the next record, and publishing leave alone what the process has on an account
 pub HasSameAsking-HasLoaded : (b : BookTerms) (v w : Knowledge) → 0 < length v.parts → HasLoaded b v w → HasSameAsking v w
@@ -77,10 +39,10 @@ length-Publishes-lt b v w x told =
       length-append v.seen told.between,
     )
 
--- a front counts at most what is seen
-pub sum-HasLooked-le : (b : BookTerms) (v w : Knowledge) (was now : TotalSums) (front : List ℕ) → HasLooked b v w was now front → sum front ≤ length w.seen
-sum-HasLooked-le b v w was now front looked =
-    place-IsFront-le b.processes front w.seen looked.snapshot.front (ArePublishedBy-IsHistory b w.seen looked.loads.history)
+-- a cut counts at most what is seen
+pub sum-HasLooked-le : (b : BookTerms) (v w : Knowledge) (was now : TotalSums) (cut : List ℕ) → HasLooked b v w was now cut → sum cut ≤ length w.seen
+sum-HasLooked-le b v w was now cut looked =
+    place-IsCut-le b.processes cut w.seen looked.snapshot.cut (ArePublishedBy-IsHistory b w.seen looked.loads.history)
 
 -- the payment that goes on with this stage, after so many turns of its look, with what its seat knows and its totals have counted
 abbrev pub paying_next : PayingAloneTerms → PayStage → ℕ → Knowledge → TotalSums → PayingAloneTerms
@@ -97,13 +59,13 @@ paying_next s stage looked x now = record {
 
 -- after its look, where the balance covers it, the append of its record comes
 abbrev pub next_append : PayingAloneTerms → Knowledge → List ℕ → PayStage
-next_append s x front = Append (starting_appending x (record { entry = Entry.Own s.from s.targets; view = front }))
+next_append s x cut = Append (starting_appending x (record { entry = Entry.Own s.from s.targets; view = cut }))
 
-pub IsPayingAloneSo-append : (s : PayingAloneTerms) (x : Knowledge) (now : TotalSums) (front : List ℕ) (turns : ℕ) → IsPayingAloneSo s
-    → x.book ≡ s.start.book → HasLooked s.start.book s.start x s.was now front
-    → amount_of s.targets ≤ balance_after s.start.book (prefix_of front x.seen) s.from
-    → IsWithin s.start.book.processes s.was (sum front) turns → IsPayingAloneSo (paying_next s (next_append s x front) turns x now)
-IsPayingAloneSo-append s x now front turns so book looked enough within = record {
+pub IsPayingAloneSo-append : (s : PayingAloneTerms) (x : Knowledge) (now : TotalSums) (cut : List ℕ) (turns : ℕ) → IsPayingAloneSo s
+    → x.book ≡ s.start.book → HasLooked s.start.book s.start x s.was now cut
+    → amount_of s.targets ≤ balance_after s.start.book (prefix_of cut x.seen) s.from
+    → IsWithin s.start.book.processes s.was (sum cut) turns → IsPayingAloneSo (paying_next s (next_append s x cut) turns x now)
+IsPayingAloneSo-append s x now cut turns so book looked enough within = record {
   kept = so.kept;
   book = book;
   asks = HasSameAsking-HasLoaded s.start.book s.start x (omega (arith, so.kept.one_part)) looked.loads;
@@ -118,47 +80,47 @@ IsPayingAloneSo-append s x now front turns so book looked enough within = record
     entry = refl;
     enough = enough;
     few = within;
-    seen = sum-HasLooked-le s.start.book s.start x s.was now front looked;
+    seen = sum-HasLooked-le s.start.book s.start x s.was now cut looked;
     begins = looked.loads.more;
   };
 }
 
-module _ (b : BookTerms) (v w : Knowledge) (was now : TotalSums) (front : List ℕ) (from : ℕ) (targets : List TargetPair)
-    (looked : HasLooked b v w was now front) (owner : IsOnlyOwner b v.first from)
+module _ (b : BookTerms) (v w : Knowledge) (was now : TotalSums) (cut : List ℕ) (from : ℕ) (targets : List TargetPair)
+    (looked : HasLooked b v w was now cut) (owner : IsOnlyOwner b v.first from)
     (room : owns_of v.first v.seen < b.own_room) where
-  -- the balance at the front doesn't cover the payment
-  pub AnswersAlone-short : balance_after b (prefix_of front w.seen) from < amount_of targets
-      → AnswersAlone b v w from targets (Short, Front front)
+  -- the balance at the cut doesn't cover the payment
+  pub AnswersAlone-short : balance_after b (prefix_of cut w.seen) from < amount_of targets
+      → AnswersAlone b v w from targets (Short, Cut cut)
   AnswersAlone-short less call payout = record {
     call_is = refl;
-    reply = payment_reply-short b (prefix_of front w.seen) from targets less;
+    reply = payment_reply-short b (prefix_of cut w.seen) from targets less;
     placed = λ earlier owns.
-        IsPlaced-short b v.first w.seen earlier call from targets front payout owner (omega (arith, owns, room)) looked.snapshot.front less;
-    after_front = λ previous. omega arith;
+        IsPlaced-short b v.first w.seen earlier call from targets cut payout owner (omega (arith, owns, room)) looked.snapshot.cut less;
+    after_cut = λ previous. omega arith;
     snapshot = looked.snapshot;
-    short = λ is. record { at_front = refl; loads = looked.loads };
+    short = λ is. record { at_cut = refl; loads = looked.loads };
     done = λ is. absurd (cc is);
   }
 
-  -- the record that the front covers is published
-  module _ (x : Knowledge) (paid : IsPaid b v w x front from targets) where
-    pub AnswersAlone-done : amount_of targets ≤ balance_after b (prefix_of front w.seen) from
+  -- the record that the cut covers is published
+  module _ (x : Knowledge) (paid : IsPaid b v w x cut from targets) where
+    pub AnswersAlone-done : amount_of targets ≤ balance_after b (prefix_of cut w.seen) from
         → AnswersAlone b v x from targets (Done, Own (own_part v).published)
     AnswersAlone-done enough call payout =
         let number : ℕ = (own_part v).published in
-        let behind : front_behind x (Own number) ≡ front = front_behind-IsPaid b v w x front from targets paid in
+        let behind : cut_behind x (Own number) ≡ cut = cut_behind-IsPaid b v w x cut from targets paid in
         record {
           call_is = refl;
-          reply = payment_reply-done b (prefix_of front w.seen) from targets enough
+          reply = payment_reply-done b (prefix_of cut w.seen) from targets enough
               ∙ ap (λ xs. payment_reply b xs from targets)
-              (sym (ap (λ f. prefix_of f x.seen) behind ∙ prefix_of-IsPaid b v w x front from targets paid));
+              (sym (ap (λ f. prefix_of f x.seen) behind ∙ prefix_of-IsPaid b v w x cut from targets paid));
           placed = λ earlier owns.
               IsPlaced-done b v.first x.seen earlier call from targets number payout owner (omega (arith, owns, room))
-              (within-IsPaid b v w x front from targets paid)
-              (ap (λ (y : Publication). y.entry) (record-IsPaid b v w x front from targets paid))
-              (owns_of-IsPrefix-take v.first number v.seen x.seen (begins-IsPaid b v w x front from targets paid) paid.own ∙ sym owns);
-          after_front = λ previous. omega (arith, ap place behind, place-IsPaid b v w x front from targets paid);
-          snapshot = subst (IsSnapshot b v x) (sym behind) (IsSnapshot-IsPaid b v w x front from targets paid);
+              (within-IsPaid b v w x cut from targets paid)
+              (ap (λ (y : Publication). y.entry) (record-IsPaid b v w x cut from targets paid))
+              (owns_of-IsPrefix-take v.first number v.seen x.seen (begins-IsPaid b v w x cut from targets paid) paid.own ∙ sym owns);
+          after_cut = λ previous. omega (arith, ap place behind, place-IsPaid b v w x cut from targets paid);
+          snapshot = subst (IsSnapshot b v x) (sym behind) (IsSnapshot-IsPaid b v w x cut from targets paid);
           short = λ is. absurd (cc is);
           done = λ is. record {
             at_own = refl;
@@ -168,35 +130,35 @@ module _ (b : BookTerms) (v w : Knowledge) (was now : TotalSums) (front : List �
           };
         }
       where
-        paid_by : front_behind x (Own (own_part v).published) ≡ front → Publishes b w x (own_record v.first (front_behind x (Own (own_part v).published)) from targets)
+        paid_by : cut_behind x (Own (own_part v).published) ≡ cut → Publishes b w x (own_record v.first (cut_behind x (Own (own_part v).published)) from targets)
         paid_by behind =
             subst (λ f. Publishes b w x (own_record v.first f from targets)) (sym behind)
-            (subst (λ p. Publishes b w x (own_record p front from targets)) (first-HasLoaded b v w paid.loads) paid.published)
+            (subst (λ p. Publishes b w x (own_record p cut from targets)) (first-HasLoaded b v w paid.loads) paid.published)
 
     -- what the totals had counted stays counted
     pub HasCounted-IsPaid : HasCounted now b x.seen
-    HasCounted-IsPaid = looked.counted x.seen (more-IsPaid b v w x front from targets paid)
+    HasCounted-IsPaid = looked.counted x.seen (more-IsPaid b v w x cut from targets paid)
 
     pub published-IsPaid : (own_part x).published ≡ (own_part v).published + 1
-    published-IsPaid = paid.last.published ∙ ap (λ k. k + 1) (number-IsPaid b v w x front from targets paid)
+    published-IsPaid = paid.last.published ∙ ap (λ k. k + 1) (number-IsPaid b v w x cut from targets paid)
 
     -- what the totals count then, the own record among it
     module _ (next : TotalSums) (counted : next.upto ≡ set now.upto x.first (own_part x).published) (width looked_turns stored : ℕ)
-        (few : looked_turns ≤ snapshot_steps b.processes + RECORD_WORDS * (sum front - sum was.upto)) (stores : stored ≡ width + 1)
+        (few : looked_turns ≤ snapshot_steps b.processes + RECORD_WORDS * (sum cut - sum was.upto)) (stores : stored ≡ width + 1)
         (known : v.first < b.processes) where
-      sized : length front ≡ b.processes
-      sized = length-IsFront b.processes front w.seen looked.snapshot.front
+      sized : length cut ≡ b.processes
+      sized = length-IsCut b.processes cut w.seen looked.snapshot.cut
 
       first : x.first ≡ v.first
-      first = first-IsPaid b v w x front from targets paid
+      first = first-IsPaid b v w x cut from targets paid
 
-      next_upto : next.upto ≡ set front v.first (own_part x).published
-      next_upto = counted ∙ (ap (λ xs. set xs x.first (own_part x).published) looked.upto ∙ ap (λ p. set front p (own_part x).published) first)
+      next_upto : next.upto ≡ set cut v.first (own_part x).published
+      next_upto = counted ∙ (ap (λ xs. set xs x.first (own_part x).published) looked.upto ∙ ap (λ p. set cut p (own_part x).published) first)
 
-      all : sum next.upto + (own_part v).published ≡ sum front + (own_part x).published
+      all : sum next.upto + (own_part v).published ≡ sum cut + (own_part x).published
       all = omega (
         arith,
-        sum_by-set (λ (n : ℕ). n) front v.first (own_part x).published 0 (omega (arith, known, sized)),
+        sum_by-set (λ (n : ℕ). n) cut v.first (own_part x).published 0 (omega (arith, known, sized)),
         ap (λ (xs : List ℕ). sum xs) next_upto,
         looked.snapshot.own,
       )
@@ -206,7 +168,7 @@ module _ (b : BookTerms) (v w : Knowledge) (was now : TotalSums) (front : List �
         more = omega (arith, all, looked.more);
         own_counted =
             ap (λ xs. get_or xs x.first 0) next_upto
-            ∙ (ap (λ p. get_or (set front v.first (own_part x).published) p 0) first
-            ∙ get_or-set_same front v.first (own_part x).published 0 (omega (arith, known, sized)));
+            ∙ (ap (λ p. get_or (set cut v.first (own_part x).published) p 0) first
+            ∙ get_or-set_same cut v.first (own_part x).published 0 (omega (arith, known, sized)));
         few = omega (arith, few, stores, all, published-IsPaid, looked.more);
       }

@@ -1,30 +1,7 @@
 -- What a turn of a payment from a single account leaves of it.
 use Rattle.std.proofs.Common.{◌≡◌, ℕ, ◌+◌, ◌-◌, ◌<◌, ◌≤◌, ◌↔◌, List, IfSome, IsSome, Option, length, refl, sym, ap, subst, ◌∙◌, arith}
-use Rattle.std.specs.List.{sum}
-use Rattle.at_ledger.specs.Book.{BookTerms}
-use Rattle.at_history.proofs.Laws.Prefixes.{IsPrefix-length, IsPrefix-trans}
-use Rattle.at_history.specs.Publications.{IsPrefix}
-use Rattle.at_history.specs.declared.publication.Publication.{Publication}
-use Rattle.at_board.specs.Knowledge.Parts.{own_part}
-use Rattle.at_board.specs.Knowledge.Seats.{SeatTerms}
-use Rattle.at_board.specs.Words.Addresses.{record_width}
-use Rattle.at_board.specs.declared.knowledge.Knowledge.{Knowledge}
-use Rattle.at_fold.specs.HasCounted.{StaysCounted}
-use Rattle.at_fold.specs.Sums.{TotalSums}
-use Rattle.at_ledger.specs.declared.call.Reply.{Reply}
-use Rattle.at_log.specs.declared.receipt.At.{At}
-use Rattle.at_object.specs.Payments.{single_steps}
-use Rattle.at_single.proofs.Laws.Looks.{published-HasLoaded}
-use Rattle.at_snapshot.specs.Collected.{HasLoaded}
-use Rattle.at_snapshot.specs.Snapshots.{snapshot_steps}
+use Rattle.at_calling.proofs.Prelude.{sum, BookTerms, IsPrefix-length, IsPrefix-trans, IsPrefix, Publication, own_part, SeatTerms, record_width, Knowledge, StaysCounted, TotalSums, Reply, At, single_steps, published-HasLoaded, HasLoaded, snapshot_steps, IsAppendingThen, IsLookingFirst, IsPayStageSo, IsPayingAloneSo, TakesPayTurn, AnswersAlone, HasSameAsking, IsPayWithin, MakesPayStep, PayingAloneTerms, append_steps, pay_turns_left, turns_in, LeavesTotals, SeesOthersStill, counted_so_far, newly_seen, PayStage, Append, Look, AppendingTerms, appending_after, IsWithin, IsWithinOneMore, LookingTerms, MakesLookLoad}
 use Rattle.at_calling.proofs.PayingAloneLaws.{HasSameAsking-HasLoaded, paying_next}
-use Rattle.at_calling.specs.KeptPayingAlone.{IsAppendingThen, IsLookingFirst, IsPayStageSo, IsPayingAloneSo, TakesPayTurn}
-use Rattle.at_calling.specs.PayingAlone.{AnswersAlone, HasSameAsking, IsPayWithin, MakesPayStep, PayingAloneTerms, append_steps, pay_turns_left, turns_in}
-use Rattle.at_calling.specs.Reading.{LeavesTotals, SeesOthersStill, counted_so_far, newly_seen}
-use Rattle.at_calling.specs.declared.pay_stage.PayStage.{PayStage}
-use Rattle.at_calling.specs.declared.pay_stage.PayStage.TheVariants.{Append, Look}
-use Rattle.at_machines.specs.Appending.{AppendingTerms, appending_after}
-use Rattle.at_machines.specs.Looking.{IsWithin, IsWithinOneMore, LookingTerms, MakesLookLoad}
 
 module _ (b : BookTerms) (seen : List Publication) (t : PayingAloneTerms) (so : IsPayingAloneSo t) (book : t.start.book ≡ b) (before after : SeatTerms) (now : TotalSums)
     (mark : Knowledge) (mark_is : mark ≡ after.knows) (totals : TotalSums) (totals_are : totals ≡ now) where

@@ -1,54 +1,6 @@
 -- A payment from a shared account from one turn of helping to the next, and what it answers.
 use Rattle.std.proofs.Common.{◌≡◌, ℕ, ◌≢◌, ◌+◌, ◌*◌, ◌^◌, ◌<◌, ◌≤◌, suc, true, cond, List, [], ◌∷◌, length, sum, Some, refl, sym, ap, subst, ◌∙◌, arith, inl, inr}
-use Rattle.std.proofs.lemmas.Bool.{cases_Bool}
-use Rattle.std.proofs.lemmas.Nat.{mul-le}
-use Rattle.at_ledger.specs.Account.{is_shared, no_account, slots_of}
-use Rattle.at_ledger.specs.Book.{BookTerms, HasSlot, IsBegun, account_of}
-use Rattle.at_ledger.specs.Limits.{most_owners}
-use Rattle.at_ledger.specs.Call.{TargetPair, payout_of}
-use Rattle.at_ledger.specs.declared.call.Reply.{Reply}
-use Rattle.at_history.proofs.Laws.Counts.{length-counts, sum-counts}
-use Rattle.at_history.proofs.Laws.Fronts.{sum-Covers-le}
-use Rattle.at_history.proofs.Laws.Histories.{ArePublishedBy-IsHistory}
-use Rattle.at_history.proofs.Laws.Prefixes.{IsPrefix-trans}
-use Rattle.at_history.specs.Fronts.{places_max}
-use Rattle.at_history.specs.Histories.{IsHistory}
-use Rattle.at_history.specs.Publications.{IsPrefix, counts}
-use Rattle.at_history.specs.Rounds.{is_settled, rounds}
-use Rattle.at_history.specs.declared.publication.Publication.{Publication}
-use Rattle.at_history.specs.declared.request.Request.{Request}
-use Rattle.at_board.specs.Knowledge.Parts.{own_part}
-use Rattle.at_board.specs.Knowledge.Seats.{IsKept}
-use Rattle.at_board.specs.declared.knowledge.Knowledge.{Knowledge}
-use Rattle.at_board.specs.declared.words.TheConstants.{RECORD_WORDS}
-use Rattle.at_fold.specs.HasCounted.{HasCounted}
-use Rattle.at_fold.specs.Sums.{TotalSums}
-use Rattle.at_log.specs.Receipts.{asks_in}
-use Rattle.at_log.specs.declared.receipt.At.{At}
-use Rattle.at_log.specs.declared.receipt.Receipt.{Receipt}
-use Rattle.at_rows.proofs.Laws.Accounts.{HasAccount, HasAccount-IsSeat}
-use Rattle.at_rows.specs.OpenRequests.{request_of}
-use Rattle.at_shared.proofs.Laws.Asked.{StandsAfterSnapshot-SettlesInTurns}
-use Rattle.at_shared.proofs.Laws.Added.{Adds, Adds-HasLoaded, Adds-HasStarted, Adds-trans, HasAccount-Adds}
-use Rattle.at_shared.proofs.Laws.Counting.{steps_after}
-use Rattle.at_shared.proofs.Laws.Turning.{Adds-HelpAnswers, settled-SettlesOwn}
-use Rattle.at_shared.proofs.Laws.Turns.{Adds-HasTurned, AsksOnce-Adds}
-use Rattle.at_shared.specs.HelpingTerms.{HelpingTerms}
-use Rattle.at_shared.specs.Helpings.{HasAllSettled, HasStarted, decides_made, decides_on, heard_on}
-use Rattle.at_shared.specs.PaymentTurns.{HasTurned, SettlesInTurns}
-use Rattle.at_shared.specs.PaymentTurns.HasTurned.{again, none}
-use Rattle.at_shared.specs.Settling.{AsksOnce, asking_steps, round_steps}
-use Rattle.at_shared.specs.declared.helping.HelpTurn.TheVariants.{More, Settled}
-use Rattle.at_single.specs.Standing.{newly_counted}
-use Rattle.at_snapshot.specs.Scans.{SeesOwnRecords}
-use Rattle.at_snapshot.specs.Snapshots.{snapshot_steps}
-use Rattle.at_machines.proofs.Laws.Snapshots.{snapshot_steps-le}
-use Rattle.at_machines.specs.Looking.{IsWithinOneMore}
-use Rattle.at_calling.specs.KeptPayingShared.{HasCountedSo, HasHelped, IsHelpingThen}
-use Rattle.at_calling.specs.PayingShared.{AnswersInRound, DecidesFew, PayingSharedTerms, settling_steps, share_steps, share_turns_most}
-use Rattle.at_calling.specs.Reading.{CountsOthersStill, LeavesTotals, SeesOthersStill, counted_so_far, newly_seen}
-use Rattle.at_calling.specs.Starting.{IsStartOf}
-use Rattle.at_calling.specs.Turning.{IsHelpOf, IsHelpWithin, LeavesSeat, TurningTerms, WaitsOn, help_steps, help_turns_left, help_turns_made}
+use Rattle.at_calling.proofs.Prelude.{cases_Bool, mul-le, is_shared, no_account, slots_of, BookTerms, HasSlot, IsBegun, account_of, most_owners, TargetPair, payout_of, Reply, length-counts, sum-counts, sum-Covers-le, ArePublishedBy-IsHistory, IsPrefix-trans, places_max, IsHistory, IsPrefix, counts, is_settled, rounds, Publication, Request, own_part, IsKept, Knowledge, RECORD_WORDS, HasCounted, TotalSums, asks_in, At, Receipt, HasAccount, HasAccount-IsSeat, request_of, StandsAfterSnapshot-SettlesInTurns, Adds, Adds-HasLoaded, Adds-HasStarted, Adds-trans, HasAccount-Adds, steps_after, Adds-HelpAnswers, settled-SettlesOwn, Adds-HasTurned, AsksOnce-Adds, HelpingTerms, HasAllSettled, HasStarted, decides_made, decides_on, heard_on, HasTurned, SettlesInTurns, again, none, AsksOnce, asking_steps, round_steps, More, Settled, newly_counted, SeesOwnRecords, snapshot_steps, snapshot_steps-le, IsWithinOneMore, HasCountedSo, HasHelped, IsHelpingThen, AnswersInRound, DecidesFew, PayingSharedTerms, settling_steps, share_steps, share_turns_most, CountsOthersStill, LeavesTotals, SeesOthersStill, counted_so_far, newly_seen, IsStartOf, IsHelpOf, IsHelpWithin, LeavesSeat, TurningTerms, WaitsOn, help_steps, help_turns_left, help_turns_made}
 
 -- an account has few slots
 slots_of-le : (b : BookTerms) (a : ℕ) → IsBegun b → a < length b.accounts → slots_of (account_of b a) ≤ most_owners
@@ -299,7 +251,7 @@ module _ (b : BookTerms) (v y z : Knowledge) (a : ℕ) (targets : List TargetPai
         row = request_of h.own ∷ []
 
         adds_look : Adds b v started.looked a []
-        adds_look = Adds-HasLoaded b v started.looked a started.front has_account.part started.loads started.snapshot
+        adds_look = Adds-HasLoaded b v started.looked a started.cut has_account.part started.loads started.snapshot
 
         adds_start : Adds b started.looked helped.started a row
         adds_start =

@@ -1,24 +1,6 @@
 -- What a turn of a payment from a shared account leaves of it.
 use Rattle.std.proofs.Common.{◌≡◌, ℕ, ◌+◌, ◌-◌, ◌<◌, ◌≤◌, None, Some, false, true, List, refl, ap, arith}
-use Rattle.at_ledger.specs.Account.{slots_of}
-use Rattle.at_ledger.specs.Book.{BookTerms, account_of}
-use Rattle.at_history.specs.Fronts.{places_max}
-use Rattle.at_history.specs.Publications.{IsPrefix}
-use Rattle.at_history.specs.declared.publication.Publication.{Publication}
-use Rattle.at_board.specs.Knowledge.Seats.{SeatTerms}
-use Rattle.at_board.specs.declared.knowledge.Knowledge.{Knowledge}
-use Rattle.at_fold.specs.HasCounted.{HasCounted}
-use Rattle.at_fold.specs.Sums.{TotalSums}
-use Rattle.at_ledger.specs.declared.call.Reply.{Reply}
-use Rattle.at_log.specs.declared.receipt.At.{At}
-use Rattle.at_shared.specs.Helpings.{decides_made}
-use Rattle.at_shared.specs.PaymentTurns.{SettlesInTurns}
-use Rattle.at_machines.specs.Looking.{IsWithinOneMore}
-use Rattle.at_calling.specs.KeptPayingShared.{TakesShareTurn}
-use Rattle.at_calling.specs.PayingShared.{AnswersInRound, DecidesFew, MakesShareStep, PayingSharedTerms, settling_steps, share_exchanges_at, share_exchanges_made, share_steps, share_turns_left, share_turns_most, unless_settled, unless_starting}
-use Rattle.at_calling.specs.Reading.{LeavesTotals, counted_so_far, newly_seen}
-use Rattle.at_calling.specs.declared.share_stage.ShareStage.{ShareStage}
-use Rattle.at_calling.specs.declared.share_stage.ShareStage.TheVariants.{Ended, Help, Start}
+use Rattle.at_calling.proofs.Prelude.{slots_of, BookTerms, account_of, places_max, IsPrefix, Publication, SeatTerms, Knowledge, HasCounted, TotalSums, Reply, At, decides_made, SettlesInTurns, IsWithinOneMore, TakesShareTurn, AnswersInRound, DecidesFew, MakesShareStep, PayingSharedTerms, settling_steps, share_exchanges_at, share_exchanges_made, share_steps, share_turns_left, share_turns_most, unless_settled, unless_starting, LeavesTotals, counted_so_far, newly_seen, ShareStage, Ended, Help, Start}
 
 -- a payment in this stage after one more turn, with this known and counted
 abbrev pub share_next : PayingSharedTerms → ShareStage → Knowledge → TotalSums → PayingSharedTerms

@@ -1,53 +1,8 @@
 -- A start from one turn to the next.
 use Rattle.std.proofs.Common.{◌≡◌, ℕ, ◌+◌, ◌-◌, ◌*◌, ◌<◌, ◌≤◌, zero, suc, List, [], ◌∷◌, ◌++◌, Some, length, get_or, set, refl, sym, ap, subst, ◌∙◌, arith}
 use Rattle.std.specs.Prelude.{slice_index, sum}
-use Rattle.at_ledger.specs.Account.{slot_in, slots_of}
-use Rattle.at_ledger.specs.Book.{BookTerms, HasSlot, account_of}
-use Rattle.at_ledger.specs.Call.{TargetPair}
-use Rattle.at_history.proofs.Laws.Prefixes.{IsPrefix-length, IsPrefix-refl, IsPrefix-trans}
-use Rattle.at_history.specs.Fronts.{place, places_max}
-use Rattle.at_history.specs.Publications.{IsPrefix}
-use Rattle.at_history.specs.Rounds.{rounds}
-use Rattle.at_history.specs.Sound.{AreTargets}
-use Rattle.at_history.specs.declared.request.Request.{Request}
-use Rattle.at_board.specs.Knowledge.Candidates.{HasLoadedRows}
-use Rattle.at_board.specs.Knowledge.Parts.{asking_on, no_asking, no_part, own_part, part_asking, seen_as, with_asking}
-use Rattle.at_board.specs.Steps.Announce.{Announces, with_request}
-use Rattle.at_board.specs.Steps.LoadAnnounced.{all_of, with_row}
-use Rattle.at_board.specs.Steps.LoadRequestWord.{LoadsRequestWord, with_loaded}
-use Rattle.at_board.specs.Steps.StoreRequestWord.{StoresRequestWord, with_request_word}
-use Rattle.at_board.specs.Words.Packed.{request_words}
-use Rattle.at_board.specs.declared.knowledge.Asking.{Asking}
-use Rattle.at_board.specs.declared.knowledge.Knowledge.{Knowledge}
-use Rattle.at_board.specs.declared.knowledge.Part.{Part}
-use Rattle.at_board.specs.declared.knowledge.SeenRequest.{SeenRequest}
-use Rattle.at_board.specs.declared.words.TheConstants.{REQUEST_WORDS}
-use Rattle.at_fold.proofs.Laws.MorePublished.{StaysCounted-HasCounted}
-use Rattle.at_fold.specs.HasCounted.{StaysCounted}
-use Rattle.at_fold.specs.Sums.{TotalSums}
-use Rattle.at_rows.proofs.Laws.Accounts.{HasAccount, HasAccount-IsSeat}
-use Rattle.at_rows.specs.Asks.{HasAsked, HasLoadedNothing, MayAskFor, asked_for, opened}
-use Rattle.at_rows.specs.Rows.{AreCandidates, CollectsRows}
-use Rattle.at_rows.specs.declared.open_request.OpenRequest.{OpenRequest}
-use Rattle.at_shared.proofs.Laws.Started.{HasStarted-StartsBy, IsHelping-StartsBy, Keeps-StartsBy, MayAskFor-IsSnapshot, number-StartsBy, own_counted-StartsBy, place-IsSnapshot-le, since-StartsBy}
-use Rattle.at_shared.proofs.Laws.Starting.{Keeps-HasLoaded}
-use Rattle.at_shared.specs.HelpingTerms.{helping_of}
-use Rattle.at_shared.specs.Starting.{StartsBy}
-use Rattle.at_single.proofs.Laws.Looks.{published-HasLoaded}
-use Rattle.at_shared.specs.Helpings.{decides_on}
-use Rattle.at_single.specs.Looks.{HasLooked}
-use Rattle.at_snapshot.specs.Collected.{HasLoaded}
-use Rattle.at_machines.specs.Asking.{AskingTerms, asking_after, request_asked, starting_to_ask}
-use Rattle.at_machines.specs.CollectingRows.{CollectingRowsTerms, MakesNextLoad, rows_after, starting_rows}
-use Rattle.at_calling.specs.KeptStarting.{HasLookedToAsk, IsAskingThen, IsCollectingThen, IsStartStageSo, IsStartingSo}
-use Rattle.at_machines.specs.LoadingRow.{MakesLoadOf, NextRowLoad}
-use Rattle.at_machines.specs.LoadingRow.NextRowLoad.{announced_word, request_word, nothing}
-use Rattle.at_machines.specs.Looking.{IsWithin, IsWithinOneMore}
+use Rattle.at_calling.proofs.Prelude.{slot_in, slots_of, BookTerms, HasSlot, account_of, TargetPair, IsPrefix-length, IsPrefix-refl, IsPrefix-trans, place, places_max, IsPrefix, rounds, AreTargets, Request, HasLoadedRows, asking_on, no_asking, no_part, own_part, part_asking, seen_as, with_asking, Announces, with_request, all_of, with_row, LoadsRequestWord, with_loaded, StoresRequestWord, with_request_word, request_words, Asking, Knowledge, Part, SeenRequest, REQUEST_WORDS, StaysCounted-HasCounted, StaysCounted, TotalSums, HasAccount, HasAccount-IsSeat, HasAsked, HasLoadedNothing, MayAskFor, asked_for, opened, AreCandidates, CollectsRows, OpenRequest, HasStarted-StartsBy, IsHelping-StartsBy, Keeps-StartsBy, MayAskFor-IsSnapshot, number-StartsBy, own_counted-StartsBy, place-IsSnapshot-le, since-StartsBy, Keeps-HasLoaded, helping_of, StartsBy, published-HasLoaded, decides_on, HasLooked, HasLoaded, AskingTerms, asking_after, request_asked, starting_to_ask, CollectingRowsTerms, MakesNextLoad, rows_after, starting_rows, HasLookedToAsk, IsAskingThen, IsCollectingThen, IsStartStageSo, IsStartingSo, MakesLoadOf, NextRowLoad, announced_word, request_word, nothing, IsWithin, IsWithinOneMore, LeavesTotals, counted_so_far, newly_seen, HasSameCounts, IsStartOf, IsStartWithin, StartingTerms, asking_steps_of, start_steps, start_turns_in, StartStage, Ask, Collect}
 use Rattle.at_calling.proofs.PayingAloneLaws.{HasSameAsking-HasLoaded, published-set}
-use Rattle.at_calling.specs.Reading.{LeavesTotals, counted_so_far, newly_seen}
-use Rattle.at_calling.specs.Starting.{HasSameCounts, IsStartOf, IsStartWithin, StartingTerms, asking_steps_of, start_steps, start_turns_in}
-use Rattle.at_calling.specs.declared.start_stage.StartStage.{StartStage}
-use Rattle.at_calling.specs.declared.start_stage.StartStage.TheVariants.{Ask, Collect}
 
 -- a load of a row adds to what was seen
 IsPrefix-MakesLoadOf : (b : BookTerms) (v w : Knowledge) (a slot own : ℕ) (this next : NextRowLoad) → MakesLoadOf b v w a slot own this next → IsPrefix v.seen w.seen
@@ -140,21 +95,21 @@ module _ (t : StartingTerms) (so : IsStartingSo t) where
   HasSlot-IsStartingSo = so.asks.1.slot_in
 
   -- the look has ended
-  module _ (w : Knowledge) (now : TotalSums) (front : List ℕ) (looked : HasLooked t.start.book t.start w t.was now front) where
-    pub place-HasLooked-le : place front ≤ length w.seen
-    place-HasLooked-le = place-IsSnapshot-le t.start.book t.start w front looked.snapshot looked.loads
+  module _ (w : Knowledge) (now : TotalSums) (cut : List ℕ) (looked : HasLooked t.start.book t.start w t.was now cut) where
+    pub place-HasLooked-le : place cut ≤ length w.seen
+    place-HasLooked-le = place-IsSnapshot-le t.start.book t.start w cut looked.snapshot looked.loads
 
-    pub place-HasLooked-few : place front ≤ places_max
+    pub place-HasLooked-few : place cut ≤ places_max
     place-HasLooked-few = omega (arith, place-HasLooked-le, looked.loads.history.few)
 
     pub MayAskFor-HasLooked : (targets : List TargetPair) → AreTargets t.start.book targets
-        → MayAskFor t.start.book w t.account slot_of_start (asked_for targets (place front))
+        → MayAskFor t.start.book w t.account slot_of_start (asked_for targets (place cut))
     MayAskFor-HasLooked targets are =
-        MayAskFor-IsSnapshot t.start.book t.start w t.account slot_of_start targets front has looked.snapshot looked.loads so.asks.1 so.settled are
+        MayAskFor-IsSnapshot t.start.book t.start w t.account slot_of_start targets cut has looked.snapshot looked.loads so.asks.1 so.settled are
 
     pub IsStartingSo-ask : (targets : List TargetPair) (turns : ℕ) → targets ≡ t.targets
-        → IsWithin t.start.book.processes t.was (sum front) turns
-        → IsStartingSo (start_after_look t (Ask (starting_to_ask w t.account targets (place front))) w now turns)
+        → IsWithin t.start.book.processes t.was (sum cut) turns
+        → IsStartingSo (start_after_look t (Ask (starting_to_ask w t.account targets (place cut))) w now turns)
     IsStartingSo-ask targets turns same few = record {
       kept = so.kept;
       book = ap (λ (k : Knowledge). k.book) looked.loads.same;
@@ -168,7 +123,7 @@ module _ (t : StartingTerms) (so : IsStartingSo t) where
         to_ask = record {
           account_is = refl;
           targets_are = same;
-          front = front;
+          cut = cut;
           looked_at = looked;
           since_is = refl;
           few = few;
@@ -194,7 +149,7 @@ module _ (t : StartingTerms) (so : IsStartingSo t) where
           few,
           to_ask.few,
           same.published,
-          place-IsSnapshot-le t.start.book t.start looked to_ask.front to_ask.looked_at.snapshot to_ask.looked_at.loads,
+          place-IsSnapshot-le t.start.book t.start looked to_ask.cut to_ask.looked_at.snapshot to_ask.looked_at.loads,
           IsPrefix-length looked.seen w.seen more,
         )
 
@@ -207,7 +162,7 @@ module _ (t : StartingTerms) (so : IsStartingSo t) where
     HasLookedToAsk-more stage = record {
       account_is = to_ask.account_is;
       targets_are = to_ask.targets_are;
-      front = to_ask.front;
+      cut = to_ask.cut;
       looked_at = to_ask.looked_at;
       since_is = to_ask.since_is;
       few = to_ask.few;
@@ -332,7 +287,7 @@ module _ (t : StartingTerms) (so : IsStartingSo t) where
         (last : HasAsked t.start.book w c.account c.own) where
       parts : StartsBy t.start.book t.start w c.account c.own asked
       parts = record {
-        front = is.to_ask.front;
+        cut = is.to_ask.cut;
         looked = is.looked;
         snapshot = is.to_ask.looked_at.snapshot;
         loads = is.to_ask.looked_at.loads;

@@ -1,33 +1,9 @@
 -- What a turn of a start leaves of it.
 use Rattle.std.proofs.Common.{◌≡◌, ◌≢◌, ℕ, ◌+◌, ◌-◌, ◌<◌, ◌≤◌, ◌↔◌, List, IfSome, IsSome, Option, None, length, false, true, refl, sym, ap, subst, ◌∙◌, arith}
-use Rattle.std.specs.List.{sum}
-use Rattle.at_ledger.specs.Book.{BookTerms}
-use Rattle.at_history.proofs.Laws.Prefixes.{IsPrefix-trans}
-use Rattle.at_history.specs.Publications.{IsPrefix}
-use Rattle.at_history.specs.declared.publication.Publication.{Publication}
-use Rattle.at_board.specs.Knowledge.Seats.{SeatTerms}
-use Rattle.at_board.specs.declared.knowledge.Asking.{Asking}
-use Rattle.at_board.specs.declared.knowledge.Knowledge.{Knowledge}
-use Rattle.at_board.specs.declared.words.TheConstants.{REQUEST_WORDS}
-use Rattle.at_fold.specs.HasCounted.{StaysCounted}
-use Rattle.at_fold.specs.Sums.{TotalSums}
-use Rattle.at_shared.specs.HelpingTerms.{HelpingTerms}
-use Rattle.at_shared.specs.Helpings.{decides_on}
-use Rattle.at_machines.specs.Asking.{AskingTerms}
-use Rattle.at_machines.specs.CollectingRows.{CollectingRowsTerms}
-use Rattle.at_machines.specs.LoadingRow.{NextRowLoad}
-use Rattle.at_machines.specs.LoadingRow.NextRowLoad.{announced_word, request_word, nothing}
-use Rattle.at_machines.specs.Looking.{IsWithin, IsWithinOneMore, LookingTerms, MakesLookLoad}
+use Rattle.at_calling.proofs.Prelude.{sum, BookTerms, IsPrefix-trans, IsPrefix, Publication, SeatTerms, Asking, Knowledge, REQUEST_WORDS, StaysCounted, TotalSums, HelpingTerms, decides_on, AskingTerms, CollectingRowsTerms, NextRowLoad, announced_word, request_word, nothing, IsWithin, IsWithinOneMore, LookingTerms, MakesLookLoad, IsAskingThen, IsCollectingThen, IsLookingToAsk, IsStartStageSo, IsStartingSo, TakesStartTurn, published-HasLoaded, HasLoaded, snapshot_steps, LeavesTotals, counted_so_far, newly_seen, HasSameCounts, IsStartOf, IsStartWithin, MakesStartStep, StartingTerms, asking_steps_of, start_steps, start_turns_after, start_turns_in, unless_ended, StartStage, Ask, Collect}
 use Rattle.at_calling.proofs.PayingAloneLaws.{HasSameAsking-HasLoaded}
 use Rattle.at_calling.proofs.StartingLaws.{HasSameCounts-rows, HasSlot-IsStartingSo, IsStartWithin-HasLookedToAsk, IsStartWithin-IsCollectingThen, StaysCounted-HasLookedToAsk, StaysCounted-IsCollectingThen, counting-HasLookedToAsk, counting-IsCollectingThen, more-rows, start_after, start_after_look}
-use Rattle.at_calling.specs.KeptStarting.{IsAskingThen, IsCollectingThen, IsLookingToAsk, IsStartStageSo, IsStartingSo, TakesStartTurn}
-use Rattle.at_single.proofs.Laws.Looks.{published-HasLoaded}
-use Rattle.at_snapshot.specs.Collected.{HasLoaded}
-use Rattle.at_snapshot.specs.Snapshots.{snapshot_steps}
-use Rattle.at_calling.specs.Reading.{LeavesTotals, counted_so_far, newly_seen}
-use Rattle.at_calling.specs.Starting.{HasSameCounts, IsStartOf, IsStartWithin, MakesStartStep, StartingTerms, asking_steps_of, start_steps, start_turns_after, start_turns_in, unless_ended}
-use Rattle.at_calling.specs.declared.start_stage.StartStage.{StartStage}
-use Rattle.at_calling.specs.declared.start_stage.StartStage.TheVariants.{Ask, Collect, Look}
+use Rattle.at_calling.specs.declared.start_stage.StartStage.TheVariants.{Look}
 
 -- at most so many are left
 unless_ended-le : (most : ℕ) (next : NextRowLoad) → unless_ended most next ≤ most

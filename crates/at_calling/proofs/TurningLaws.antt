@@ -1,51 +1,8 @@
 -- What a look, and a round after it, let the answer of a turn of helping be.
 use Rattle.std.proofs.Common.{◌≡◌, ℕ, ◌+◌, ◌-◌, ◌*◌, ◌<◌, ◌≤◌, List, [], ◌∷◌, ◌++◌, length, set, get_or, get_or-set_same, refl, sym, ap, subst, ◌∙◌, arith, inl, inr}
-use Rattle.std.proofs.lemmas.Bool.{cases_lt}
-use Rattle.std.proofs.lemmas.List.{length-take}
-use Rattle.std.specs.List.{sum}
-use Rattle.at_base.specs.Decision.{word_of}
-use Rattle.at_base.specs.declared.decision.Decision.{Decision}
-use Rattle.at_ledger.specs.Book.{BookTerms}
-use Rattle.at_ledger.specs.declared.call.Reply.{Reply}
-use Rattle.at_history.proofs.Laws.Fronts.{length-IsFront}
-use Rattle.at_history.proofs.Laws.Prefixes.{IsPrefix-length, IsPrefix-refl, IsPrefix-trans}
-use Rattle.at_history.specs.Fronts.{prefix_of}
-use Rattle.at_history.specs.Publications.{IsPrefix}
-use Rattle.at_history.specs.Rounds.{rounds}
-use Rattle.at_board.specs.Knowledge.Agreement.{AgreesWithSeen}
-use Rattle.at_board.specs.Knowledge.Parts.{asking_on, no_part, own_part, part_asking, seen_as}
-use Rattle.at_board.specs.Knowledge.Seats.{IsKept}
-use Rattle.at_board.specs.Steps.LoadRequestWord.{LoadsRequestWord, with_loaded}
-use Rattle.at_board.specs.Steps.StoreRecordWord.{StoresWord, with_word}
-use Rattle.at_board.specs.Words.Addresses.{record_width}
-use Rattle.at_board.specs.declared.knowledge.Asking.{Asking}
-use Rattle.at_board.specs.declared.knowledge.Knowledge.{Knowledge}
-use Rattle.at_board.specs.declared.knowledge.LoadedWord.{LoadedWord}
-use Rattle.at_board.specs.declared.knowledge.Part.{Part}
-use Rattle.at_board.specs.declared.knowledge.SeenRequest.{SeenRequest}
-use Rattle.at_fold.proofs.Laws.LoadedRecords.{sum-caught}
-use Rattle.at_fold.specs.Counted.{IsDecidedIn}
-use Rattle.at_fold.specs.Sums.{TotalSums}
-use Rattle.at_log.specs.declared.receipt.At.{At}
-use Rattle.at_rows.proofs.Laws.Accounts.{HasAccount, asking_on-with_asking}
-use Rattle.at_shared.proofs.Laws.After.{IsAfter, IsAfter-Decides, IsAfter-Publishes, own_part-Decides, own_part-Publishes}
-use Rattle.at_shared.proofs.Laws.Placing.{StandsInRound-IsAnswerOf}
-use Rattle.at_shared.proofs.Laws.Turned.{FindsSettled-turn, HelpsDecide-turn, IsHelping-turn, IsPlaced-turn-found, IsPlaced-turn-own, StandsAfter-turn-found, StandsAfter-turn-own, begins-turn, decides-turn, decides_elsewhere-turn, free-turn, heard-turn, overtaken-turn, process-turn, published-turn, rounds-turn}
-use Rattle.at_shared.specs.HelpTurns.{DecidesNext, IsAnswerOf, NamesOwn}
-use Rattle.at_shared.specs.HelpingTerms.{HelpingTerms}
-use Rattle.at_shared.specs.Helpings.{IsHelping, decides_made, decides_on}
-use Rattle.at_shared.specs.Settling.{round_steps}
-use Rattle.at_shared.specs.declared.helping.HelpTurn.TheVariants.{Settled, More}
-use Rattle.at_single.specs.Looks.{HasLooked}
-use Rattle.at_snapshot.specs.Snapshots.{snapshot_steps}
-use Rattle.at_machines.specs.Deciding.{DecidingTerms, MakesRoundStep, MakesStep, NextOfRound, deciding_after, exchanges_in, left_of_round, round_in}
-use Rattle.at_machines.specs.Deciding.NextOfRound.{exchange, request_word, record_word, nothing}
+use Rattle.at_calling.proofs.Prelude.{cases_lt, length-take, sum, word_of, Decision, BookTerms, Reply, length-IsCut, IsPrefix-length, IsPrefix-refl, IsPrefix-trans, prefix_of, IsPrefix, rounds, AgreesWithSeen, asking_on, no_part, own_part, part_asking, seen_as, IsKept, LoadsRequestWord, with_loaded, StoresWord, with_word, record_width, Asking, Knowledge, LoadedWord, Part, SeenRequest, sum-caught, IsDecidedIn, TotalSums, At, HasAccount, asking_on-with_asking, IsAfter, IsAfter-Decides, IsAfter-Publishes, own_part-Decides, own_part-Publishes, StandsInRound-IsAnswerOf, FindsSettled-turn, HelpsDecide-turn, IsHelping-turn, IsPlaced-turn-found, IsPlaced-turn-own, StandsAfter-turn-found, StandsAfter-turn-own, begins-turn, decides-turn, decides_elsewhere-turn, free-turn, heard-turn, overtaken-turn, process-turn, published-turn, rounds-turn, DecidesNext, IsAnswerOf, NamesOwn, HelpingTerms, IsHelping, decides_made, decides_on, round_steps, Settled, More, HasLooked, snapshot_steps, DecidingTerms, MakesRoundStep, MakesStep, NextOfRound, deciding_after, exchanges_in, left_of_round, round_in, exchange, record_word, IsDecidingThen, IsWithin, IsWithinOneMore, CountsOthersStill, LeavesTotals, SeesOthersStill, counted_so_far, newly_seen, IsHelpOf, IsHelpWithin, LeavesSeat, TurningTerms, WaitsOn, help_steps, Decide}
+use Rattle.at_machines.specs.Deciding.NextOfRound.{request_word, nothing}
 use Rattle.at_calling.proofs.PayingAloneLaws.{length-Publishes-lt, published-with_part}
-use Rattle.at_calling.specs.KeptTurning.{IsDecidingThen}
-use Rattle.at_machines.specs.Looking.{IsWithin, IsWithinOneMore}
-use Rattle.at_calling.specs.Reading.{CountsOthersStill, LeavesTotals, SeesOthersStill, counted_so_far, newly_seen}
-use Rattle.at_calling.specs.Turning.{IsHelpOf, IsHelpWithin, LeavesSeat, TurningTerms, WaitsOn, help_steps}
-use Rattle.at_calling.specs.declared.turn_stage.TurnStage.TheVariants.{Decide}
 
 -- a round has so many steps, and its exchange is the first
 pub left_of_round-le : (n : ℕ) (next : NextOfRound) → left_of_round n next ≤ round_steps n
@@ -200,7 +157,7 @@ module _ (b : BookTerms) (t : TurningTerms) (d e : DecidingTerms) (w : Knowledge
 
     -- and the totals stay
     module _ (now : TotalSums) (same : now ≡ t.totals) where
-      counted-step : sum now.upto ≡ sum d.front
+      counted-step : sum now.upto ≡ sum d.cut
       counted-step = ap (λ (s : TotalSums). sum s.upto) same ∙ ap (λ xs. sum xs) so.looked_at.upto
 
       pub counts_others-step : CountsOthersStill t.start w t.was now
@@ -221,12 +178,12 @@ module _ (b : BookTerms) (t : TurningTerms) (d e : DecidingTerms) (w : Knowledge
           )
 
   -- no less is seen than at the start, of others too
-  begun-step : length t.start.seen ≤ sum d.front
+  begun-step : length t.start.seen ≤ sum d.cut
   begun-step =
       omega (
         arith,
-        IsPrefix-length t.start.seen (prefix_of d.front d.start.seen) so.looked_at.snapshot.begins,
-        length-take (sum d.front) d.start.seen,
+        IsPrefix-length t.start.seen (prefix_of d.cut d.start.seen) so.looked_at.snapshot.begins,
+        length-take (sum d.cut) d.start.seen,
       )
 
   pub seen-step : length t.start.seen ≤ length w.seen
@@ -247,46 +204,46 @@ module _ (b : BookTerms) (t : TurningTerms) (d e : DecidingTerms) (w : Knowledge
     helping_is = ap (λ (c : DecidingTerms). c.helping) after ∙ so.helping_is;
     mark_is = ap (λ (c : DecidingTerms). c.mark) after;
     totals_are = ap (λ (c : DecidingTerms). c.totals) after ∙ (so.totals_are ∙ sym same);
-    looked_at = subst (λ (c : DecidingTerms). HasLooked t.start.book t.start c.start t.was totals c.front) (sym after)
-        (subst (λ (s : TotalSums). HasLooked t.start.book t.start d.start t.was s d.front) (sym same) so.looked_at);
-    few = subst (λ (c : DecidingTerms). IsWithin t.start.book.processes t.was (sum c.front) t.looked) (sym after) so.few;
-    seen = omega (arith, so.seen, longer, ap (λ (c : DecidingTerms). sum c.front) after);
+    looked_at = subst (λ (c : DecidingTerms). HasLooked t.start.book t.start c.start t.was totals c.cut) (sym after)
+        (subst (λ (s : TotalSums). HasLooked t.start.book t.start d.start t.was s d.cut) (sym same) so.looked_at);
+    few = subst (λ (c : DecidingTerms). IsWithin t.start.book.processes t.was (sum c.cut) t.looked) (sym after) so.few;
+    seen = omega (arith, so.seen, longer, ap (λ (c : DecidingTerms). sum c.cut) after);
     begins = begins-step;
-    others = omega (arith, so.others, is_step.others, ap (λ (c : DecidingTerms). sum c.front) after);
+    others = omega (arith, so.others, is_step.others, ap (λ (c : DecidingTerms). sum c.cut) after);
     unpublished = unpublished-step goes_on;
     left_is = left_now ∙ ap (λ (c : DecidingTerms). left_of_round c.start.book.processes e.next) (sym after);
     once = omega (arith, so.once, is_step.decides, exchanges_in-step);
   }
 
-module _ (b : BookTerms) (v w : Knowledge) (was now : TotalSums) (front : List ℕ) (h : HelpingTerms) (has : HasAccount v h.account)
-    (looked : HasLooked b v w was now front) (is : IsHelping b v h) where
-  -- the request is decided in the front's records
+module _ (b : BookTerms) (v w : Knowledge) (was now : TotalSums) (cut : List ℕ) (h : HelpingTerms) (has : HasAccount v h.account)
+    (looked : HasLooked b v w was now cut) (is : IsHelping b v h) where
+  -- the request is decided in the cut's records
   pub IsHelpOf-found : (r : ℕ) (d : Decision) (answer : Reply × At) → AgreesWithSeen w
-      → IsDecidedIn (prefix_of front w.seen) h.account h.own.slot h.own.number r d → IsAnswerOf r d answer → IsHelpOf b v w h (Settled answer)
+      → IsDecidedIn (prefix_of cut w.seen) h.account h.own.slot h.own.number r d → IsAnswerOf r d answer → IsHelpOf b v w h (Settled answer)
   IsHelpOf-found r d answer agrees found so = record {
-    answers = inl (FindsSettled-turn b v w h front has looked.snapshot looked.loads is r d found);
+    answers = inl (FindsSettled-turn b v w h cut has looked.snapshot looked.loads is r d found);
     in_round = StandsInRound-IsAnswerOf r d answer so;
-    placed = IsPlaced-turn-found b v w h front has looked.snapshot looked.loads is r d answer agrees found so;
-    after_start = StandsAfter-turn-found b v w h front has looked.snapshot looked.loads is r d answer agrees found so;
+    placed = IsPlaced-turn-found b v w h cut has looked.snapshot looked.loads is r d answer agrees found so;
+    after_start = StandsAfter-turn-found b v w h cut has looked.snapshot looked.loads is r d answer agrees found so;
   }
 
-  -- the round at the front is decided and published
-  module _ (x : Knowledge) (d : Decision) (next : DecidesNext b w x h front d) where
+  -- the round at the cut is decided and published
+  module _ (x : Knowledge) (d : Decision) (next : DecidesNext b w x h cut d) where
     decides_made-decided : decides_made h.account v x ≡ 1
-    decides_made-decided = omega (arith, decides-turn b v w h front has looked.snapshot looked.loads is x d next)
+    decides_made-decided = omega (arith, decides-turn b v w h cut has looked.snapshot looked.loads is x d next)
 
-    pub IsHelpOf-own : (r : ℕ) (answer : Reply × At) → AgreesWithSeen x → r ≡ rounds h.account (prefix_of front w.seen) → NamesOwn h d
+    pub IsHelpOf-own : (r : ℕ) (answer : Reply × At) → AgreesWithSeen x → r ≡ rounds h.account (prefix_of cut w.seen) → NamesOwn h d
         → IsAnswerOf r d answer → IsHelpOf b v x h (Settled answer)
     IsHelpOf-own r answer agrees round names so = record {
-      answers = inr (d, HelpsDecide-turn b v w h front has looked.snapshot looked.loads is x d next, names);
+      answers = inr (d, HelpsDecide-turn b v w h cut has looked.snapshot looked.loads is x d next, names);
       in_round = StandsInRound-IsAnswerOf r d answer so;
-      placed = IsPlaced-turn-own b v w h front has looked.snapshot looked.loads is x d next r answer agrees round names so;
-      after_start = StandsAfter-turn-own b v w h front has looked.snapshot looked.loads is x d next r answer agrees round names so;
+      placed = IsPlaced-turn-own b v w h cut has looked.snapshot looked.loads is x d next r answer agrees round names so;
+      after_start = StandsAfter-turn-own b v w h cut has looked.snapshot looked.loads is x d next r answer agrees round names so;
     }
 
     pub IsHelpOf-other : ¬ NamesOwn h d → IsHelpOf b v x h More
     IsHelpOf-other other = record {
-      answers = (d, HelpsDecide-turn b v w h front has looked.snapshot looked.loads is x d next, other);
+      answers = (d, HelpsDecide-turn b v w h cut has looked.snapshot looked.loads is x d next, other);
       in_round = tt;
       placed = tt;
       after_start = tt;
@@ -294,40 +251,40 @@ module _ (b : BookTerms) (v w : Knowledge) (was now : TotalSums) (front : List �
 
     pub WaitsOn-other : IsKept x → x.book ≡ b → ¬ NamesOwn h d → WaitsOn b v x h
     WaitsOn-other kept book other = record {
-      helping = IsHelping-turn b v w h front has looked.snapshot looked.loads is x d next;
-      decides_more = decides-turn b v w h front has looked.snapshot looked.loads is x d next;
-      rounds_more = rounds-turn b v w h front has looked.snapshot looked.loads is x d next;
-      overtaken = overtaken-turn b v w h front has looked.snapshot looked.loads is x d next kept book other;
+      helping = IsHelping-turn b v w h cut has looked.snapshot looked.loads is x d next;
+      decides_more = decides-turn b v w h cut has looked.snapshot looked.loads is x d next;
+      rounds_more = rounds-turn b v w h cut has looked.snapshot looked.loads is x d next;
+      overtaken = overtaken-turn b v w h cut has looked.snapshot looked.loads is x d next kept book other;
     }
 
     pub LeavesSeat-decided : LeavesSeat v x h.account
     LeavesSeat-decided =
-        let decides = decides-turn b v w h front has looked.snapshot looked.loads is x d next in
+        let decides = decides-turn b v w h cut has looked.snapshot looked.loads is x d next in
         record {
-          heard = heard-turn b v w h front has looked.snapshot looked.loads is x d next;
-          free = free-turn b v w h front has looked.snapshot looked.loads is x d next;
-          begins = begins-turn b v w h front has looked.snapshot looked.loads is x d next;
-          process = process-turn b v w h front has looked.snapshot looked.loads is x d next;
+          heard = heard-turn b v w h cut has looked.snapshot looked.loads is x d next;
+          free = free-turn b v w h cut has looked.snapshot looked.loads is x d next;
+          begins = begins-turn b v w h cut has looked.snapshot looked.loads is x d next;
+          process = process-turn b v w h cut has looked.snapshot looked.loads is x d next;
           decides_few = omega (arith, decides);
           decides_at_most = omega (arith, decides);
-          decides_elsewhere = decides_elsewhere-turn b v w h front has looked.snapshot looked.loads is x d next;
-          published = omega (arith, published-turn b v w h front has looked.snapshot looked.loads is x d next);
+          decides_elsewhere = decides_elsewhere-turn b v w h cut has looked.snapshot looked.loads is x d next;
+          published = omega (arith, published-turn b v w h cut has looked.snapshot looked.loads is x d next);
         }
 
     -- its record is one more that the totals count, and that took no load
-    pub LeavesTotals-decided : (after : TotalSums) (looks turns : ℕ) → v.first < b.processes → after.upto ≡ set front x.first (own_part x).published
-        → IsWithin b.processes was (sum front) looks → turns ≤ looks + round_steps b.processes
+    pub LeavesTotals-decided : (after : TotalSums) (looks turns : ℕ) → v.first < b.processes → after.upto ≡ set cut x.first (own_part x).published
+        → IsWithin b.processes was (sum cut) looks → turns ≤ looks + round_steps b.processes
         → LeavesTotals b v x was after (round_steps b.processes * decides_made h.account v x) turns
     LeavesTotals-decided after looks turns known upto few all =
-        let process : x.first ≡ v.first = process-turn b v w h front has looked.snapshot looked.loads is x d next in
-        let published = published-turn b v w h front has looked.snapshot looked.loads is x d next in
-        let counts : get_or front x.first 0 ≡ (own_part v).published = ap (λ p. get_or front p 0) process ∙ looked.snapshot.own in
-        let inside : x.first < length front = omega (arith, known, process, length-IsFront b.processes front w.seen looked.snapshot.front) in
-        let summed = sum-caught front x.first (own_part x).published inside (omega (arith, counts, published)) in
-        let upto_sum : sum after.upto ≡ sum front + 1 = omega (arith, ap sum upto, summed, counts, published) in
+        let process : x.first ≡ v.first = process-turn b v w h cut has looked.snapshot looked.loads is x d next in
+        let published = published-turn b v w h cut has looked.snapshot looked.loads is x d next in
+        let counts : get_or cut x.first 0 ≡ (own_part v).published = ap (λ p. get_or cut p 0) process ∙ looked.snapshot.own in
+        let inside : x.first < length cut = omega (arith, known, process, length-IsCut b.processes cut w.seen looked.snapshot.cut) in
+        let summed = sum-caught cut x.first (own_part x).published inside (omega (arith, counts, published)) in
+        let upto_sum : sum after.upto ≡ sum cut + 1 = omega (arith, ap sum upto, summed, counts, published) in
         record {
           more = omega (arith, upto_sum, published, looked.more);
-          own_counted = ap (λ (xs : List ℕ). get_or xs x.first 0) upto ∙ get_or-set_same front x.first (own_part x).published 0 inside;
+          own_counted = ap (λ (xs : List ℕ). get_or xs x.first 0) upto ∙ get_or-set_same cut x.first (own_part x).published 0 inside;
           few = omega (
             arith,
             few,

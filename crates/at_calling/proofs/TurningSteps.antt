@@ -1,36 +1,10 @@
 -- What a step of a turn of helping leaves of it.
 use Rattle.std.proofs.Common.{◌≡◌, ℕ, ◌+◌, ◌-◌, ◌*◌, ◌<◌, ◌≤◌, ◌↔◌, List, IfSome, IsSome, Option, None, length, refl, sym, ap, subst, ◌∙◌, arith}
-use Rattle.std.specs.List.{sum}
-use Rattle.at_ledger.specs.Book.{BookTerms}
-use Rattle.at_history.proofs.Laws.Prefixes.{IsPrefix-length}
-use Rattle.at_history.specs.declared.publication.Publication.{Publication}
-use Rattle.at_board.specs.Knowledge.Parts.{own_part}
-use Rattle.at_board.specs.Knowledge.Seats.{SeatTerms}
-use Rattle.at_board.specs.declared.knowledge.Asking.{Asking}
-use Rattle.at_board.specs.declared.knowledge.Knowledge.{Knowledge}
-use Rattle.at_board.specs.declared.knowledge.Part.{Part}
-use Rattle.at_fold.specs.HasCounted.{HasCounted}
-use Rattle.at_fold.specs.Sums.{TotalSums}
-use Rattle.at_object.proofs.Laws.Looked.{own_part-HasLoaded}
-use Rattle.at_rows.proofs.Laws.Accounts.{HasAccount}
-use Rattle.at_shared.specs.Helpings.{decides_made, decides_on}
-use Rattle.at_shared.specs.Settling.{round_steps}
-use Rattle.at_shared.specs.declared.helping.HelpTurn.{HelpTurn}
-use Rattle.at_shared.specs.declared.helping.HelpTurn.TheVariants.{More}
-use Rattle.at_single.proofs.Laws.Looks.{first-HasLoaded, published-HasLoaded}
-use Rattle.at_snapshot.specs.Collected.{HasLoaded}
-use Rattle.at_snapshot.specs.Snapshots.{snapshot_steps}
+use Rattle.at_calling.proofs.Prelude.{sum, BookTerms, IsPrefix-length, Publication, own_part, SeatTerms, Asking, Knowledge, Part, HasCounted, TotalSums, own_part-HasLoaded, HasAccount, decides_made, decides_on, round_steps, HelpTurn, More, first-HasLoaded, published-HasLoaded, HasLoaded, snapshot_steps, IsDecidingThen, IsLookingStill, IsTurnStageSo, IsTurningSo, TakesHelpStep, HasSameAsking, CountsOthersStill, LeavesTotals, counted_so_far, newly_seen, IsHelpOf, IsHelpWithin, LeavesSeat, MakesTurnStep, TurningTerms, WaitsOn, exchanges_at, help_steps, help_turns_in, help_turns_left, TurnStage, Decide, DecidingTerms, MakesRoundStep, NextOfRound, deciding_after, exchanges_in, exchange, record_word, IsWithin, IsWithinOneMore, LookingTerms, MakesLookLoad}
 use Rattle.at_calling.proofs.PayingAloneLaws.{HasSameAsking-HasLoaded}
 use Rattle.at_calling.proofs.TurningLaws.{IsHelpWithin-step, begins-step, decides_made-step, left_of_round-le, others-step, seen-step}
-use Rattle.at_calling.specs.KeptTurning.{IsDecidingThen, IsLookingStill, IsTurnStageSo, IsTurningSo, TakesHelpStep}
-use Rattle.at_calling.specs.PayingAlone.{HasSameAsking}
-use Rattle.at_calling.specs.Reading.{CountsOthersStill, LeavesTotals, counted_so_far, newly_seen}
-use Rattle.at_calling.specs.Turning.{IsHelpOf, IsHelpWithin, LeavesSeat, MakesTurnStep, TurningTerms, WaitsOn, exchanges_at, help_steps, help_turns_in, help_turns_left}
-use Rattle.at_calling.specs.declared.turn_stage.TurnStage.{TurnStage}
-use Rattle.at_calling.specs.declared.turn_stage.TurnStage.TheVariants.{Decide, Look}
-use Rattle.at_machines.specs.Deciding.{DecidingTerms, MakesRoundStep, NextOfRound, deciding_after, exchanges_in}
-use Rattle.at_machines.specs.Deciding.NextOfRound.{exchange, request_word, record_word, nothing}
-use Rattle.at_machines.specs.Looking.{IsWithin, IsWithinOneMore, LookingTerms, MakesLookLoad}
+use Rattle.at_calling.specs.declared.turn_stage.TurnStage.TheVariants.{Look}
+use Rattle.at_machines.specs.Deciding.NextOfRound.{request_word, nothing}
 
 -- loads of lengths alone leave a seat so on an account
 pub LeavesSeat-HasLoaded : (b : BookTerms) (v w : Knowledge) (a : ℕ) → 0 < length v.parts → HasLoaded b v w → (own_part v).held ≡ None → LeavesSeat v w a

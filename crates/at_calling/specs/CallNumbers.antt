@@ -1,10 +1,7 @@
 -- What a call may have taken so far, as numbers: of three processes, account 0 has all as owners and account 1 has one. Whoever changes
 -- what bounds a call at a turn changes these too.
 use Rattle.std.specs.Prelude.{ℕ, ◌+◌, ◌*◌, ◌<◌, ◌≤◌, List}
-use Rattle.at_board.specs.declared.knowledge.Knowledge.{Knowledge}
-use Rattle.at_ledger.specs.declared.call.Call.TheVariants.{Read, Transfer}
-use Rattle.at_object.specs.BoundNumbers.{three_processes}
-use Rattle.at_object.specs.Passes.{PassTerms}
+use Rattle.at_calling.specs.Prelude.{Knowledge, Read, Transfer, three_processes, PassTerms}
 use Rattle.at_calling.specs.Calling.{IsCallWithin}
 use Rattle.at_calling.specs.Reading.{counted_so_far, newly_seen}
 

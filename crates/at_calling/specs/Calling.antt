@@ -1,24 +1,6 @@
 -- Calls of the object that are made one step a turn, by a pass that was taken apart.
 use Rattle.std.specs.Prelude.{◌≡◌, ◌≢◌, ℕ, ◌+◌, ◌*◌, ◌≤◌, false, true, List, Option, Some, None}
-use Rattle.at_ledger.specs.Account.{is_shared, is_single, slots_of}
-use Rattle.at_ledger.specs.Book.{BookTerms, account_of}
-use Rattle.at_ledger.specs.declared.call.Call.{Call}
-use Rattle.at_ledger.specs.declared.call.Reply.{Reply}
-use Rattle.at_board.specs.Knowledge.Seats.{SeatTerms}
-use Rattle.at_board.specs.Words.Addresses.{record_width}
-use Rattle.at_board.specs.declared.knowledge.Knowledge.{Knowledge}
-use Rattle.at_board.specs.declared.step.BoardStep.{BoardStep}
-use Rattle.at_board.specs.declared.words.TheConstants.{RECORD_WORDS}
-use Rattle.at_fold.specs.Sums.{TotalSums}
-use Rattle.at_ledger.specs.Call.{first_account, payout_of}
-use Rattle.at_history.specs.declared.publication.Publication.{Publication}
-use Rattle.at_object.specs.Calls.{call_steps, may_exchange}
-use Rattle.at_object.specs.Parted.{pass_of}
-use Rattle.at_object.specs.Passes.{PassTerms}
-use Rattle.at_object.specs.Payments.{refusal_of}
-use Rattle.at_object.specs.declared.parts.Rest.{Rest}
-use Rattle.at_shared.specs.Helpings.{decides_made}
-use Rattle.at_machines.specs.Looking.{IsWithinOneMore, MakesLookLoad, first_load, length_at, look_turns_left, step_at}
+use Rattle.at_calling.specs.Prelude.{is_shared, is_single, slots_of, BookTerms, account_of, Call, Reply, SeatTerms, record_width, Knowledge, BoardStep, RECORD_WORDS, TotalSums, first_account, payout_of, Publication, call_steps, may_exchange, pass_of, PassTerms, refusal_of, Rest, decides_made, IsWithinOneMore, MakesLookLoad, first_load, length_at, look_turns_left, step_at}
 use Rattle.at_calling.specs.PayingAlone.{MakesPayStep, pay_length_at, pay_publishes_at, pay_step_at, pay_turns_left, turns_made}
 use Rattle.at_calling.specs.PayingShared.{MakesShareStep, share_exchanges_at, share_exchanges_made, share_length_at, share_publishes_at, share_step_at, share_turns_left}
 use Rattle.at_calling.specs.Reading.{counted_so_far, newly_seen}

@@ -1,25 +1,7 @@
 -- What the type of a call in the making keeps of its fields, which no caller sees.
 use Rattle.std.specs.Prelude.{◌≡◌, ◌+◌, ◌++◌, ◌<◌, ◌↔◌, List, [], ◌∷◌, IfSome, IsSome, Option, length}
-use Rattle.at_ledger.specs.Book.{BookTerms}
-use Rattle.at_ledger.specs.Call.{IsCallOn}
-use Rattle.at_history.specs.Moves.{AreRuns}
-use Rattle.at_history.specs.Publications.{IsPrefix}
-use Rattle.at_history.specs.declared.publication.Publication.{Publication}
-use Rattle.at_board.specs.Counting.{raised}
-use Rattle.at_board.specs.Knowledge.Seats.{IsKept, SeatTerms}
-use Rattle.at_board.specs.Words.Addresses.{record_width}
-use Rattle.at_board.specs.declared.knowledge.Knowledge.{Knowledge}
-use Rattle.at_fold.specs.Sums.{TotalSums}
-use Rattle.at_log.specs.Placed.{IsPlaced}
-use Rattle.at_log.specs.declared.receipt.Receipt.{Receipt}
-use Rattle.at_object.specs.Parted.{IsOfOnePass, pass_of}
-use Rattle.at_object.specs.Passes.{Stands}
-use Rattle.at_object.specs.Payments.{IsRefused}
-use Rattle.at_object.specs.declared.parts.Rest.{Rest}
-use Rattle.at_object.specs.CallCounts.{with_one_call}
+use Rattle.at_calling.specs.Prelude.{BookTerms, IsCallOn, AreRuns, IsPrefix, Publication, raised, IsKept, SeatTerms, record_width, Knowledge, TotalSums, IsPlaced, Receipt, IsOfOnePass, pass_of, Stands, IsRefused, Rest, with_one_call, CallMade, StaysWithin, look_turns_left}
 use Rattle.at_calling.specs.Calling.{CallingTerms, IsCallWithin, IsWay, MakesCallStep, call_turns_left, exchanges_made, exchanges_of, pass_before, steps_made, steps_of}
-use Rattle.at_object.specs.Calls.{CallMade, StaysWithin}
-use Rattle.at_machines.specs.Looking.{look_turns_left}
 use Rattle.at_calling.specs.PayingAlone.{pay_turns_left}
 use Rattle.at_calling.specs.PayingShared.{share_turns_left}
 use Rattle.at_calling.specs.declared.call_stage.CallStage.{CallStage}

@@ -1,26 +1,6 @@
 -- What the type of a payment in the making keeps of its fields, which no caller sees.
 use Rattle.std.specs.Prelude.{◌≡◌, ◌+◌, ◌<◌, ◌≤◌, ◌↔◌, List, IfSome, IsSome, Option, length, sum}
-use Rattle.at_ledger.specs.Book.{BookTerms}
-use Rattle.at_ledger.specs.Call.{amount_of}
-use Rattle.at_history.specs.Balances.{balance_after}
-use Rattle.at_history.specs.Fronts.{prefix_of}
-use Rattle.at_history.specs.Publications.{IsPrefix}
-use Rattle.at_history.specs.Rounds.{owns_of}
-use Rattle.at_history.specs.Sound.{AreTargets}
-use Rattle.at_history.specs.declared.publication.Publication.{Publication}
-use Rattle.at_history.specs.declared.publication.Entry.{Entry}
-use Rattle.at_board.specs.Knowledge.Parts.{own_part}
-use Rattle.at_board.specs.Knowledge.Seats.{IsKept, SeatTerms}
-use Rattle.at_board.specs.Words.Addresses.{record_width}
-use Rattle.at_fold.specs.HasCounted.{StaysCounted}
-use Rattle.at_fold.specs.Sums.{TotalSums}
-use Rattle.at_ledger.specs.declared.call.Reply.{Reply}
-use Rattle.at_log.specs.declared.receipt.At.{At}
-use Rattle.at_object.specs.Payments.{single_steps}
-use Rattle.at_single.specs.Looks.{HasLooked}
-use Rattle.at_single.specs.Standing.{IsOnlyOwner}
-use Rattle.at_machines.specs.Appending.{AppendingTerms}
-use Rattle.at_machines.specs.Looking.{IsWithin, IsWithinOneMore, LookingTerms, look_turns_left}
+use Rattle.at_calling.specs.Prelude.{BookTerms, amount_of, balance_after, prefix_of, IsPrefix, owns_of, AreTargets, Publication, Entry, own_part, IsKept, SeatTerms, record_width, StaysCounted, TotalSums, Reply, At, single_steps, HasLooked, IsOnlyOwner, AppendingTerms, IsWithin, IsWithinOneMore, LookingTerms, look_turns_left}
 use Rattle.at_calling.specs.PayingAlone.{AnswersAlone, HasSameAsking, IsPayWithin, MakesPayStep, PayingAloneTerms, append_steps, pay_turns_left, turns_made}
 use Rattle.at_calling.specs.Reading.{LeavesTotals, counted_so_far, newly_seen}
 use Rattle.at_calling.specs.declared.pay_stage.PayStage.{PayStage}
@@ -48,7 +28,7 @@ pub record IsLookingFirst (t : PayingAloneTerms) (l : LookingTerms) : Type 0 whe
   pub totals_are : l.totals ≡ t.totals
   pub left : 0 < look_turns_left l.stage
 
--- the record of the payment is stored: the front of the look is its view, and the balance there covers it. Nothing was published
+-- the record of the payment is stored: the cut of the look is its view, and the balance there covers it. Nothing was published
 pub record IsAppendingThen (t : PayingAloneTerms) (a : AppendingTerms) : Type 0 where
   pub mark_is : a.mark ≡ t.mark
   pub unpublished : (own_part t.mark).published ≡ (own_part t.start).published

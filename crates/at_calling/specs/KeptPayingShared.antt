@@ -1,27 +1,6 @@
 -- What the type of a payment in the making keeps of its fields, which no caller sees.
 use Rattle.std.specs.Prelude.{◌≡◌, ◌≢◌, ℕ, ◌+◌, ◌*◌, ◌<◌, ◌≤◌, ◌↔◌, IfSome, IsSome, List, Option, length, sum}
-use Rattle.at_ledger.specs.Account.{slots_of}
-use Rattle.at_ledger.specs.Book.{BookTerms, HasSlot, account_of}
-use Rattle.at_ledger.specs.Call.{TargetPair}
-use Rattle.at_ledger.specs.declared.call.Reply.{Reply}
-use Rattle.at_history.specs.Publications.{IsPrefix}
-use Rattle.at_history.specs.Rounds.{rounds}
-use Rattle.at_history.specs.declared.publication.Publication.{Publication}
-use Rattle.at_board.specs.Knowledge.Parts.{own_part}
-use Rattle.at_board.specs.Knowledge.Seats.{IsKept, SeatTerms}
-use Rattle.at_board.specs.declared.knowledge.Knowledge.{Knowledge}
-use Rattle.at_board.specs.declared.words.TheConstants.{RECORD_WORDS}
-use Rattle.at_fold.specs.HasCounted.{HasCounted}
-use Rattle.at_fold.specs.Sums.{TotalSums}
-use Rattle.at_log.specs.declared.receipt.At.{At}
-use Rattle.at_shared.specs.HelpingTerms.{HelpingTerms}
-use Rattle.at_shared.specs.Helpings.{HasAllSettled, decides_made, decides_on, heard_on}
-use Rattle.at_shared.specs.PaymentTurns.{HasTurned, SettlesInTurns}
-use Rattle.at_shared.specs.Settling.{asking_steps, round_steps}
-use Rattle.at_single.specs.Standing.{newly_counted}
-use Rattle.at_snapshot.specs.Scans.{SeesOwnRecords}
-use Rattle.at_snapshot.specs.Snapshots.{snapshot_steps}
-use Rattle.at_machines.specs.Looking.{IsWithinOneMore}
+use Rattle.at_calling.specs.Prelude.{slots_of, BookTerms, HasSlot, account_of, TargetPair, Reply, IsPrefix, rounds, Publication, own_part, IsKept, SeatTerms, Knowledge, RECORD_WORDS, HasCounted, TotalSums, At, HelpingTerms, HasAllSettled, decides_made, decides_on, heard_on, HasTurned, SettlesInTurns, asking_steps, round_steps, newly_counted, SeesOwnRecords, snapshot_steps, IsWithinOneMore}
 use Rattle.at_calling.specs.PayingShared.{AnswersInRound, DecidesFew, IsShareWithin, MakesShareStep, PayingSharedTerms, settling_steps, share_exchanges_at, share_exchanges_made, share_steps, share_turns_left}
 use Rattle.at_calling.specs.Reading.{LeavesTotals, counted_so_far, newly_seen}
 use Rattle.at_calling.specs.Starting.{IsStartOf, StartingTerms, start_turns_left, start_turns_made}

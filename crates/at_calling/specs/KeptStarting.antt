@@ -1,27 +1,6 @@
 -- What the type of a start in the making keeps of its fields, which no caller sees.
 use Rattle.std.specs.Prelude.{◌≡◌, ℕ, ◌+◌, ◌<◌, ◌≤◌, ◌↔◌, List, IfSome, IsSome, Option, None, length, sum}
-use Rattle.at_ledger.specs.Book.{BookTerms}
-use Rattle.at_ledger.specs.Call.{TargetPair}
-use Rattle.at_history.specs.Fronts.{place}
-use Rattle.at_history.specs.Publications.{IsPrefix}
-use Rattle.at_history.specs.Sound.{AreTargets}
-use Rattle.at_history.specs.declared.publication.Publication.{Publication}
-use Rattle.at_board.specs.Knowledge.Parts.{asking_on, own_part}
-use Rattle.at_board.specs.Knowledge.Seats.{IsKept, SeatTerms}
-use Rattle.at_board.specs.Steps.Announce.{Announces}
-use Rattle.at_board.specs.Steps.StoreRequestWord.{MayStoreRequest}
-use Rattle.at_board.specs.declared.knowledge.Knowledge.{Knowledge}
-use Rattle.at_board.specs.declared.words.TheConstants.{REQUEST_WORDS}
-use Rattle.at_fold.specs.HasCounted.{StaysCounted}
-use Rattle.at_fold.specs.Sums.{TotalSums}
-use Rattle.at_rows.specs.Asks.{HasLoadedNothing}
-use Rattle.at_rows.specs.OpenRequests.{request_of}
-use Rattle.at_shared.specs.HelpingTerms.{HelpingTerms}
-use Rattle.at_shared.specs.Helpings.{HasAllSettled, decides_on}
-use Rattle.at_single.specs.Looks.{HasLooked}
-use Rattle.at_machines.specs.Asking.{AskingTerms}
-use Rattle.at_machines.specs.CollectingRows.{CollectingRowsTerms}
-use Rattle.at_machines.specs.Looking.{IsWithin, IsWithinOneMore, LookingTerms, look_turns_left}
+use Rattle.at_calling.specs.Prelude.{BookTerms, TargetPair, place, IsPrefix, AreTargets, Publication, asking_on, own_part, IsKept, SeatTerms, Announces, MayStoreRequest, Knowledge, REQUEST_WORDS, StaysCounted, TotalSums, HasLoadedNothing, request_of, HelpingTerms, HasAllSettled, decides_on, HasLooked, AskingTerms, CollectingRowsTerms, IsWithin, IsWithinOneMore, LookingTerms, look_turns_left}
 use Rattle.at_calling.specs.Reading.{LeavesTotals, counted_so_far, newly_seen}
 use Rattle.at_calling.specs.Starting.{HasSameCounts, IsStartOf, IsStartWithin, MakesStartStep, StartingTerms, asking_steps_of, start_steps, start_turns_left, start_turns_made}
 use Rattle.at_calling.specs.declared.start_stage.StartStage.{StartStage}
@@ -49,15 +28,15 @@ pub record IsLookingToAsk (t : StartingTerms) (l : LookingTerms) : Type 0 where
   pub totals_are : l.totals ≡ t.totals
   pub left : 0 < look_turns_left l.stage
 
--- the look has ended at this moment, and the request has the targets and the place of its front. Nothing was published or decided since
+-- the look has ended at this moment, and the request has the targets and the place of its cut. Nothing was published or decided since
 -- the start
 pub record HasLookedToAsk (t : StartingTerms) (looked : Knowledge) (account : ℕ) (targets : List TargetPair) (since : ℕ) : Type 0 where
   pub account_is : account ≡ t.account
   pub targets_are : targets ≡ t.targets
-  pub front : List ℕ
-  pub looked_at : HasLooked t.start.book t.start looked t.was t.totals front
-  pub since_is : since ≡ place front
-  pub few : IsWithin t.start.book.processes t.was (sum front) t.looked
+  pub cut : List ℕ
+  pub looked_at : HasLooked t.start.book t.start looked t.was t.totals cut
+  pub since_is : since ≡ place cut
+  pub few : IsWithin t.start.book.processes t.was (sum cut) t.looked
   pub same : HasSameCounts t.start t.mark account
   pub more : IsPrefix looked.seen t.mark.seen
 

@@ -1,19 +1,6 @@
 -- What the type of a turn of helping in the making keeps of its fields, which no caller sees.
 use Rattle.std.specs.Prelude.{◌≡◌, ◌+◌, ◌*◌, ◌<◌, ◌≤◌, ◌↔◌, List, IfSome, IsSome, Option, length, sum}
-use Rattle.at_ledger.specs.Book.{BookTerms}
-use Rattle.at_history.specs.Publications.{IsPrefix}
-use Rattle.at_history.specs.declared.publication.Publication.{Publication}
-use Rattle.at_board.specs.Knowledge.Parts.{own_part}
-use Rattle.at_board.specs.Knowledge.Seats.{IsKept, SeatTerms}
-use Rattle.at_fold.specs.HasCounted.{HasCounted}
-use Rattle.at_fold.specs.Sums.{TotalSums}
-use Rattle.at_shared.specs.Helpings.{IsHelping, decides_made, decides_on}
-use Rattle.at_shared.specs.Settling.{round_steps}
-use Rattle.at_shared.specs.declared.helping.HelpTurn.{HelpTurn}
-use Rattle.at_shared.specs.declared.helping.HelpTurn.TheVariants.{More}
-use Rattle.at_single.specs.Looks.{HasLooked}
-use Rattle.at_machines.specs.Deciding.{DecidingTerms, exchanges_in, left_of_round}
-use Rattle.at_machines.specs.Looking.{IsWithin, IsWithinOneMore, LookingTerms, look_turns_left}
+use Rattle.at_calling.specs.Prelude.{BookTerms, IsPrefix, Publication, own_part, IsKept, SeatTerms, HasCounted, TotalSums, IsHelping, decides_made, decides_on, round_steps, HelpTurn, More, HasLooked, DecidingTerms, exchanges_in, left_of_round, IsWithin, IsWithinOneMore, LookingTerms, look_turns_left}
 use Rattle.at_calling.specs.Reading.{CountsOthersStill, LeavesTotals, SeesOthersStill, counted_so_far, newly_seen}
 use Rattle.at_calling.specs.Turning.{IsHelpOf, IsHelpWithin, LeavesSeat, MakesTurnStep, TurningTerms, WaitsOn, exchanges_at, help_steps, help_turns_left, help_turns_made}
 use Rattle.at_calling.specs.declared.turn_stage.TurnStage.{TurnStage}
@@ -41,16 +28,16 @@ pub record IsLookingStill (t : TurningTerms) (l : LookingTerms) : Type 0 where
   pub left : 0 < look_turns_left l.stage
   pub undecided : decides_on t.mark t.helping.account ≡ decides_on t.start t.helping.account
 
--- the round at the front of the look goes on: its exchange was made or comes next, and nothing was published
+-- the round at the cut of the look goes on: its exchange was made or comes next, and nothing was published
 pub record IsDecidingThen (t : TurningTerms) (d : DecidingTerms) : Type 0 where
   pub helping_is : d.helping ≡ t.helping
   pub mark_is : d.mark ≡ t.mark
   pub totals_are : d.totals ≡ t.totals
-  pub looked_at : HasLooked t.start.book t.start d.start t.was t.totals d.front
-  pub few : IsWithin t.start.book.processes t.was (sum d.front) t.looked
-  pub seen : sum d.front ≤ length t.mark.seen
+  pub looked_at : HasLooked t.start.book t.start d.start t.was t.totals d.cut
+  pub few : IsWithin t.start.book.processes t.was (sum d.cut) t.looked
+  pub seen : sum d.cut ≤ length t.mark.seen
   pub begins : IsPrefix t.start.seen t.mark.seen
-  pub others : sum d.front + (own_part t.mark).published ≤ length t.mark.seen + (own_part t.start).published
+  pub others : sum d.cut + (own_part t.mark).published ≤ length t.mark.seen + (own_part t.start).published
   pub unpublished : (own_part t.mark).published ≡ (own_part t.start).published
   pub left_is : d.left ≡ left_of_round d.start.book.processes d.next
   pub once : decides_on t.mark t.helping.account + exchanges_in d.next ≡ decides_on t.start t.helping.account + 1

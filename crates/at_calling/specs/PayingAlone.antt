@@ -1,24 +1,6 @@
 -- Payments from single accounts that are made one step a turn.
 use Rattle.std.specs.Prelude.{◌≡◌, ℕ, ◌+◌, ◌-◌, ◌*◌, ◌<◌, ◌≤◌, List, Option, None}
-use Rattle.at_ledger.specs.Book.{BookTerms}
-use Rattle.at_ledger.specs.Call.{TargetPair}
-use Rattle.at_ledger.specs.declared.call.Reply.{Reply}
-use Rattle.at_ledger.specs.declared.call.Reply.TheVariants.{Balance, Done, Full, NotOwner}
-use Rattle.at_history.specs.declared.publication.Publication.{Publication}
-use Rattle.at_board.specs.Knowledge.Parts.{asking_on, own_part}
-use Rattle.at_board.specs.Knowledge.Seats.{SeatTerms}
-use Rattle.at_board.specs.Steps.Publish.{Publishes}
-use Rattle.at_board.specs.Words.Addresses.{record_width}
-use Rattle.at_board.specs.declared.knowledge.Knowledge.{Knowledge}
-use Rattle.at_board.specs.declared.step.BoardStep.{BoardStep}
-use Rattle.at_board.specs.declared.words.TheConstants.{RECORD_WORDS}
-use Rattle.at_fold.specs.Sums.{TotalSums}
-use Rattle.at_log.specs.declared.receipt.At.{At}
-use Rattle.at_object.specs.Paid.{PaysAlone}
-use Rattle.at_object.specs.Payments.{single_steps}
-use Rattle.at_shared.specs.Settling.{OnReceipts}
-use Rattle.at_machines.specs.Appending.{StoresNextWord, append_step, publication_of, published_after}
-use Rattle.at_machines.specs.Looking.{MakesLookLoad, length_at, look_turns_left, step_at}
+use Rattle.at_calling.specs.Prelude.{BookTerms, TargetPair, Reply, Balance, Done, Full, NotOwner, Publication, asking_on, own_part, SeatTerms, Publishes, record_width, Knowledge, BoardStep, RECORD_WORDS, TotalSums, At, PaysAlone, single_steps, OnReceipts, StoresNextWord, append_step, publication_of, published_after, MakesLookLoad, length_at, look_turns_left, step_at}
 use Rattle.at_calling.specs.declared.pay_stage.PayStage.{PayStage}
 use Rattle.at_calling.specs.declared.pay_stage.PayStage.TheVariants.{Append, Look, Short}
 
@@ -84,7 +66,7 @@ append_steps width NotOwner = 0
 append_steps width Full = 0
 append_steps width (Balance amount) = 0
 
--- the receipt of each call with this payout says that it was decided at the front of its snapshot
+-- the receipt of each call with this payout says that it was decided at the cut of its snapshot
 abbrev pub AnswersAlone : BookTerms → Knowledge → Knowledge → ℕ → List TargetPair → Reply × At → Type 0
 AnswersAlone b before after from targets answer = OnReceipts from targets answer (λ r. PaysAlone b before after from targets r.call r)
 

@@ -1,22 +1,6 @@
 -- Payments from shared accounts that are made one step a turn.
 use Rattle.std.specs.Prelude.{◌≡◌, ◌≢◌, ℕ, ◌+◌, ◌-◌, ◌*◌, ◌≤◌, List, Option, None}
-use Rattle.at_ledger.specs.Account.{slots_of}
-use Rattle.at_ledger.specs.Book.{BookTerms, account_of}
-use Rattle.at_ledger.specs.Call.{TargetPair}
-use Rattle.at_ledger.specs.declared.call.Reply.{Reply}
-use Rattle.at_history.specs.Fronts.{places_max}
-use Rattle.at_history.specs.declared.publication.Publication.{Publication}
-use Rattle.at_board.specs.Knowledge.Seats.{SeatTerms}
-use Rattle.at_board.specs.declared.knowledge.Knowledge.{Knowledge}
-use Rattle.at_board.specs.declared.step.BoardStep.{BoardStep}
-use Rattle.at_board.specs.declared.words.TheConstants.{RECORD_WORDS}
-use Rattle.at_fold.specs.Sums.{TotalSums}
-use Rattle.at_log.specs.declared.receipt.At.{At}
-use Rattle.at_object.specs.Paid.{PaysInRound}
-use Rattle.at_object.specs.Payments.{shared_steps}
-use Rattle.at_shared.specs.Helpings.{decides_made, decides_on}
-use Rattle.at_shared.specs.Settling.{OnReceipts, asking_steps, round_steps}
-use Rattle.at_snapshot.specs.Snapshots.{snapshot_steps}
+use Rattle.at_calling.specs.Prelude.{slots_of, BookTerms, account_of, TargetPair, Reply, places_max, Publication, SeatTerms, Knowledge, BoardStep, RECORD_WORDS, TotalSums, At, PaysInRound, shared_steps, decides_made, decides_on, OnReceipts, asking_steps, round_steps, snapshot_steps}
 use Rattle.at_calling.specs.Starting.{MakesStartStep, start_length_at, start_step_at}
 use Rattle.at_calling.specs.Turning.{MakesTurnStep, exchanges_at, help_length_at, help_step_at, publishes_at}
 use Rattle.at_calling.specs.declared.share_stage.ShareStage.{ShareStage}

@@ -1,19 +1,6 @@
 -- Reads that are made one load a turn.
 use Rattle.std.specs.Prelude.{◌≡◌, ℕ, ◌+◌, ◌-◌, ◌*◌, ◌≤◌, List, length, slice_index, sum}
-use Rattle.at_ledger.specs.Book.{BookTerms}
-use Rattle.at_ledger.specs.declared.call.Call.TheVariants.{Read}
-use Rattle.at_ledger.specs.declared.call.Reply.TheVariants.{Balance}
-use Rattle.at_history.specs.Balances.{balance_after}
-use Rattle.at_history.specs.Fronts.{prefix_of}
-use Rattle.at_board.specs.Knowledge.Parts.{own_part}
-use Rattle.at_board.specs.declared.knowledge.Knowledge.{Knowledge}
-use Rattle.at_board.specs.declared.words.TheConstants.{RECORD_WORDS}
-use Rattle.at_fold.specs.Sums.{TotalSums}
-use Rattle.at_log.specs.Placed.{IsPlaced}
-use Rattle.at_log.specs.declared.receipt.Receipt.{Receipt}
-use Rattle.at_single.specs.Standing.{StandsAfterFront, StandsAtFront, front_behind, newly_counted}
-use Rattle.at_snapshot.specs.Snapshots.{IsSnapshot, snapshot_steps}
-use Rattle.at_machines.specs.Looking.{LookingTerms}
+use Rattle.at_calling.specs.Prelude.{BookTerms, Read, Balance, balance_after, prefix_of, own_part, Knowledge, RECORD_WORDS, TotalSums, IsPlaced, Receipt, StandsAfterCut, StandsAtCut, cut_behind, newly_counted, IsSnapshot, snapshot_steps, LookingTerms}
 
 -- a read by its account and its look
 pub record ReadingTerms : Type 0 where
@@ -44,11 +31,11 @@ pub record LeavesTotals (b : BookTerms) (before after : Knowledge) (was now : To
   pub own_counted : slice_index now.upto after.first ≡ (own_part after).published
   pub few : turns ≤ snapshot_steps b.processes + more_steps + RECORD_WORDS * newly_counted before after was now
 
--- the receipt of a read whose first turn came after what was known before: the balance at the front of a snapshot, at which it stands
+-- the receipt of a read whose first turn came after what was known before: the balance at the cut of a snapshot, at which it stands
 pub record IsReadOf (b : BookTerms) (before after : Knowledge) (account : ℕ) (r : Receipt) : Type 0 where
   pub call : r.call ≡ Read account
-  pub reply : r.reply ≡ Balance (balance_after b (prefix_of (front_behind after r.at) after.seen) account)
+  pub reply : r.reply ≡ Balance (balance_after b (prefix_of (cut_behind after r.at) after.seen) account)
   pub placed : (earlier : List Receipt) → IsPlaced b before.first after.seen earlier r
-  pub after_front : StandsAfterFront after r
-  pub snapshot : IsSnapshot b before after (front_behind after r.at)
-  pub at_front : StandsAtFront b before after r.at
+  pub after_cut : StandsAfterCut after r
+  pub snapshot : IsSnapshot b before after (cut_behind after r.at)
+  pub at_cut : StandsAtCut b before after r.at

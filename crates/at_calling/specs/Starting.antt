@@ -1,25 +1,6 @@
 -- Payments from shared accounts that are started one step a turn.
 use Rattle.std.specs.Prelude.{◌≡◌, ℕ, ◌+◌, ◌-◌, ◌*◌, ◌<◌, ◌≤◌, List, length, Option, None}
-use Rattle.at_ledger.specs.Account.{slots_of}
-use Rattle.at_ledger.specs.Book.{BookTerms, account_of}
-use Rattle.at_ledger.specs.Call.{TargetPair}
-use Rattle.at_history.specs.Publications.{IsPrefix}
-use Rattle.at_history.specs.declared.publication.Publication.{Publication}
-use Rattle.at_board.specs.Knowledge.Parts.{asking_on, own_part}
-use Rattle.at_board.specs.Knowledge.Seats.{SeatTerms}
-use Rattle.at_board.specs.declared.knowledge.Knowledge.{Knowledge}
-use Rattle.at_board.specs.declared.step.BoardStep.{BoardStep}
-use Rattle.at_board.specs.declared.words.TheConstants.{RECORD_WORDS, REQUEST_WORDS}
-use Rattle.at_fold.specs.Sums.{TotalSums}
-use Rattle.at_shared.specs.HelpingTerms.{HelpingTerms}
-use Rattle.at_shared.specs.Helpings.{HasStarted, IsHelping, decides_on}
-use Rattle.at_shared.specs.Settling.{asking_steps}
-use Rattle.at_snapshot.specs.Snapshots.{snapshot_steps}
-use Rattle.at_machines.specs.Asking.{AnnouncesAsked, StoresNextRequestWord, ask_step}
-use Rattle.at_machines.specs.CollectingRows.{CollectingRowsTerms, MakesNextLoad, rows_after}
-use Rattle.at_machines.specs.LoadingRow.{NextRowLoad, row_step}
-use Rattle.at_machines.specs.LoadingRow.NextRowLoad.{announced_word, request_word, nothing}
-use Rattle.at_machines.specs.Looking.{MakesLookLoad, length_at, look_turns_left, step_at}
+use Rattle.at_calling.specs.Prelude.{slots_of, BookTerms, account_of, TargetPair, IsPrefix, Publication, asking_on, own_part, SeatTerms, Knowledge, BoardStep, RECORD_WORDS, REQUEST_WORDS, TotalSums, HelpingTerms, HasStarted, IsHelping, decides_on, asking_steps, snapshot_steps, AnnouncesAsked, StoresNextRequestWord, ask_step, CollectingRowsTerms, MakesNextLoad, rows_after, NextRowLoad, row_step, announced_word, request_word, nothing, MakesLookLoad, length_at, look_turns_left, step_at}
 use Rattle.at_calling.specs.declared.start_stage.StartStage.{StartStage}
 use Rattle.at_calling.specs.declared.start_stage.StartStage.TheVariants.{Ask, Collect, Look}
 

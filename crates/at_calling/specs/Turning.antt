@@ -1,27 +1,6 @@
 -- Turns of helping that are made one step a turn.
 use Rattle.std.specs.Prelude.{◌≡◌, ◌≢◌, ℕ, ◌+◌, ◌-◌, ◌*◌, ◌≤◌, List, Option, None}
-use Rattle.at_ledger.specs.Account.{slots_of}
-use Rattle.at_ledger.specs.Book.{BookTerms, account_of}
-use Rattle.at_history.specs.Publications.{IsPrefix}
-use Rattle.at_history.specs.Rounds.{rounds}
-use Rattle.at_history.specs.declared.publication.Publication.{Publication}
-use Rattle.at_board.specs.Knowledge.Parts.{own_part}
-use Rattle.at_board.specs.Knowledge.Seats.{SeatTerms}
-use Rattle.at_board.specs.declared.knowledge.Knowledge.{Knowledge}
-use Rattle.at_board.specs.declared.step.BoardStep.{BoardStep}
-use Rattle.at_board.specs.declared.words.TheConstants.{RECORD_WORDS}
-use Rattle.at_fold.specs.Sums.{TotalSums}
-use Rattle.at_log.specs.Placed.{IsPlaced}
-use Rattle.at_log.specs.Receipts.{asks_in}
-use Rattle.at_log.specs.declared.receipt.Receipt.{Receipt}
-use Rattle.at_shared.specs.HelpTurns.{HelpAnswers, OnSettled, OnSettledCalls}
-use Rattle.at_shared.specs.HelpingTerms.{HelpingTerms}
-use Rattle.at_shared.specs.Helpings.{IsHelping, decides_on, heard_on}
-use Rattle.at_shared.specs.Settling.{StandsAfter, StandsInRound, round_steps}
-use Rattle.at_shared.specs.declared.helping.HelpTurn.{HelpTurn}
-use Rattle.at_snapshot.specs.Snapshots.{snapshot_steps}
-use Rattle.at_machines.specs.Deciding.{MakesRoundStep, exchanges_in, publishes_in, step_in_round}
-use Rattle.at_machines.specs.Looking.{MakesLookLoad, length_at, look_turns_left, step_at}
+use Rattle.at_calling.specs.Prelude.{slots_of, BookTerms, account_of, IsPrefix, rounds, Publication, own_part, SeatTerms, Knowledge, BoardStep, RECORD_WORDS, TotalSums, IsPlaced, asks_in, Receipt, HelpAnswers, OnSettled, OnSettledCalls, HelpingTerms, IsHelping, decides_on, heard_on, StandsAfter, StandsInRound, round_steps, HelpTurn, snapshot_steps, MakesRoundStep, exchanges_in, publishes_in, step_in_round, MakesLookLoad, length_at, look_turns_left, step_at}
 use Rattle.at_calling.specs.declared.turn_stage.TurnStage.{TurnStage}
 use Rattle.at_calling.specs.declared.turn_stage.TurnStage.TheVariants.{Decide, Found, Look}
 

@@ -1,12 +1,7 @@
 //! Where a call in the making stands.
 
 ghost use Rattle.std.specs.Prelude.{◌≡◌, ◌<◌, None, Some, length, true};
-ghost use Rattle.at_board.specs.Knowledge.Seats.{IsOf};
-ghost use Rattle.at_ledger.specs.Account.{is_shared, is_single};
-ghost use Rattle.at_ledger.specs.Book.{account_of};
-ghost use Rattle.at_ledger.specs.Call.{AreTargetsOn, IsCallOn, payout_of};
-ghost use Rattle.at_object.specs.Parted.{IsOfOnePass, pass_of};
-ghost use Rattle.at_object.specs.Payments.{refusal_of};
+ghost use Rattle.at_calling.specs.Prelude.{IsOf, is_shared, is_single, account_of, AreTargetsOn, IsCallOn, payout_of, IsOfOnePass, pass_of, refusal_of};
 ghost use Rattle.at_calling.specs.Calling.{IsWay, StartsFrom, call_turns_left, exchanges_made, first_step, next_step, refusal_in, steps_made};
 
 use crate::paying_alone::PayingAlone;

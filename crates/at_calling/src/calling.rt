@@ -1,26 +1,12 @@
 //! A call of a pass that was taken apart, a step a turn.
 
 ghost use Rattle.std.specs.Prelude.{◌≡◌, ℕ, ◌+◌, ◌++◌, ◌<◌, ◌↔◌, List, [], ◌∷◌, IfSome, IsSome, Some, length};
-ghost use Rattle.at_board.specs.Counting.{raised};
-ghost use Rattle.at_board.specs.Knowledge.Overviews.{IsOverviewOf};
-ghost use Rattle.at_board.specs.Knowledge.Seats.{IsOf};
-ghost use Rattle.at_history.specs.Moves.{AreRuns};
-ghost use Rattle.at_history.specs.Publications.{IsPrefix};
-ghost use Rattle.at_history.specs.declared.publication.Publication.{Publication};
-ghost use Rattle.at_ledger.specs.Call.{IsCallOn};
-ghost use Rattle.at_log.specs.Placed.{IsPlaced};
-ghost use Rattle.at_log.specs.declared.receipt.At.{At};
-ghost use Rattle.at_log.specs.declared.receipt.Receipt.{Receipt};
-ghost use Rattle.at_object.specs.Parted.{IsOfOnePass, pass_of};
-ghost use Rattle.at_object.specs.Passes.{Stands};
-ghost use Rattle.at_object.specs.Payments.{IsRefused};
+ghost use Rattle.at_calling.specs.Prelude.{raised, IsOverviewOf, IsOf, AreRuns, IsPrefix, Publication, IsCallOn, IsPlaced, At, Receipt, IsOfOnePass, pass_of, Stands, IsRefused, with_one_call, CallMade, StaysWithin};
 ghost use Rattle.at_calling.specs.KeptCalling.{TakesCallTurn};
 ghost use Rattle.at_calling.specs.PayingAlone.{PayingAloneTerms};
 ghost use Rattle.at_calling.specs.PayingShared.{PayingSharedTerms};
 ghost use Rattle.at_calling.specs.Reading.{ReadingTerms};
-ghost use Rattle.at_object.specs.CallCounts.{with_one_call};
 ghost use Rattle.at_calling.specs.Calling.{IsCallWithin, IsWay, MakesCallStep, StartsFrom, call_turns_left, exchanges_made, exchanges_of, first_step, next_step, pass_before, refusal_in, steps_made, steps_of};
-ghost use Rattle.at_object.specs.Calls.{CallMade, StaysWithin};
 
 use crate::call_stage::CallStage;
 use at_board::{Board, BoardSeat, BoardStep, Overview};

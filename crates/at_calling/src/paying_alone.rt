@@ -1,19 +1,7 @@
 //! A payment from a single account, a step a turn.
 
 ghost use Rattle.std.specs.Prelude.{◌≡◌, ◌+◌, ◌<◌, ◌↔◌, List, IfSome, IsSome, length};
-ghost use Rattle.at_board.specs.Counting.{raised};
-ghost use Rattle.at_board.specs.Knowledge.Overviews.{IsOverviewOf};
-ghost use Rattle.at_board.specs.Knowledge.Seats.{IsOf};
-ghost use Rattle.at_board.specs.Words.Addresses.{record_width};
-ghost use Rattle.at_fold.specs.HasCounted.{HasCounted, StaysCounted};
-ghost use Rattle.at_history.specs.Publications.{IsPrefix};
-ghost use Rattle.at_history.specs.Rounds.{owns_of};
-ghost use Rattle.at_history.specs.declared.publication.Publication.{Publication};
-ghost use Rattle.at_ledger.specs.Call.{AreTargetsOn};
-ghost use Rattle.at_machines.specs.Appending.{AppendingTerms};
-ghost use Rattle.at_machines.specs.Looking.{IsWithinOneMore, LookingTerms, first_load};
-ghost use Rattle.at_object.specs.Payments.{single_steps};
-ghost use Rattle.at_single.specs.Standing.{IsOnlyOwner};
+ghost use Rattle.at_calling.specs.Prelude.{raised, IsOverviewOf, IsOf, record_width, HasCounted, StaysCounted, IsPrefix, owns_of, Publication, AreTargetsOn, AppendingTerms, IsWithinOneMore, LookingTerms, first_load, single_steps, IsOnlyOwner};
 ghost use Rattle.at_calling.specs.KeptPayingAlone.{TakesPayTurn};
 ghost use Rattle.at_calling.specs.PayingAlone.{AnswersAlone, HasSameAsking, IsPayWithin, MakesPayStep, append_steps, pay_step_at, pay_turns_left, turns_made};
 ghost use Rattle.at_calling.specs.Reading.{LeavesTotals, counted_so_far, newly_seen};
@@ -25,11 +13,11 @@ use at_fold::Totals;
 use at_ledger::{Reply, Targets};
 use at_log::{At, Record};
 use at_machines::{Appending, Looking, become_next};
-use at_single::covers;
+use at_payments::covers;
 use std::marker::Model;
 use std::snapshot::Snapshot;
 
-/// A payment in the making: a look, and where the balance at its front covers the payment, the append of its record.
+/// A payment in the making: a look, and where the balance at its cut covers the payment, the append of its record.
 #[derive(Drop)]
 pub struct PayingAlone {
     from: u32,
@@ -113,7 +101,7 @@ impl PayingAlone {
         }
     }
 
-    /// Makes the next step of the payment. Where the balance at the front of the look is below the sum of the amounts, it answers
+    /// Makes the next step of the payment. Where the balance at the cut of the look is below the sum of the amounts, it answers
     /// with the look's last load, and else with the store that publishes its record.
     pub fn turn(
         &mut self,
@@ -195,14 +183,14 @@ impl PayingAlone {
         self.looked = looking.turns();
         self.mark = Snapshot::of(seat);
         self.totals = Snapshot::of(totals);
-        let front = looked?;
+        let cut = looked?;
         seat.known();
         if !covers(totals, self.from, &self.targets) {
             become_next(&mut self.stage, PayStage::Short);
-            return Some((Reply::Short, At::Front(front)));
+            return Some((Reply::Short, At::Cut(cut)));
         }
-        // The front stays one, and what it covers stays covered, whatever others publish before this record.
-        let rec = record_of(self.from, &self.targets, front);
+        // The cut stays one, and what it covers stays covered, whatever others publish before this record.
+        let rec = record_of(self.from, &self.targets, cut);
         become_next(
             &mut self.stage,
             PayStage::Append(Appending::start(seat, rec)),
@@ -246,7 +234,7 @@ impl PayingAlone {
     }
 }
 
-/// The record of a payment, with a front as its view.
+/// The record of a payment, with a cut as its view.
 fn record_of(from: u32, targets: &Targets, view: Counts) -> Record
     ensures { result ≡ record { entry = Entry.Own from targets.now; view = view } }
 {

@@ -1,20 +1,7 @@
 //! A payment from a shared account, a step a turn.
 
 ghost use Rattle.std.specs.Prelude.{◌≡◌, ℕ, ◌+◌, ◌<◌, ◌≤◌, ◌↔◌, IfSome, IsSome, None, length};
-ghost use Rattle.at_board.specs.Counting.{raised};
-ghost use Rattle.at_board.specs.Knowledge.Parts.{own_part};
-ghost use Rattle.at_board.specs.Knowledge.Overviews.{IsOverviewOf};
-ghost use Rattle.at_board.specs.Knowledge.Seats.{IsOf};
-ghost use Rattle.at_board.specs.Steps.StoreRequestWord.{MayStoreRequest};
-ghost use Rattle.at_fold.specs.HasCounted.{HasCounted};
-ghost use Rattle.at_history.specs.Publications.{IsPrefix};
-ghost use Rattle.at_ledger.specs.Account.{slots_of};
-ghost use Rattle.at_ledger.specs.Book.{account_of};
-ghost use Rattle.at_ledger.specs.Call.{AreTargetsOn};
-ghost use Rattle.at_shared.specs.HelpingTerms.{HelpingTerms};
-ghost use Rattle.at_shared.specs.Helpings.{HasAllSettled, decides_made};
-ghost use Rattle.at_shared.specs.PaymentTurns.{SettlesInTurns};
-ghost use Rattle.at_machines.specs.Looking.{IsWithinOneMore, first_load};
+ghost use Rattle.at_calling.specs.Prelude.{raised, own_part, IsOverviewOf, IsOf, MayStoreRequest, HasCounted, IsPrefix, slots_of, account_of, AreTargetsOn, HelpingTerms, HasAllSettled, decides_made, SettlesInTurns, IsWithinOneMore, first_load};
 ghost use Rattle.at_calling.specs.KeptPayingShared.{TakesShareTurn};
 ghost use Rattle.at_calling.specs.PayingShared.{AnswersInRound, DecidesFew, IsShareWithin, MakesShareStep, settling_steps, share_exchanges_at, share_exchanges_made, share_step_at, share_steps, share_turns_left};
 ghost use Rattle.at_calling.specs.Reading.{LeavesTotals, counted_so_far, newly_seen};
@@ -29,7 +16,7 @@ use at_fold::Totals;
 use at_ledger::{Reply, Targets};
 use at_log::At;
 use at_machines::become_next;
-use at_shared::HelpTurn;
+use at_payments::HelpTurn;
 use std::marker::Model;
 use std::snapshot::Snapshot;
 

@@ -1,13 +1,7 @@
 //! A read, a load a turn.
 
 ghost use Rattle.std.specs.Prelude.{◌≡◌, ◌+◌, ◌-◌, ◌<◌, ◌↔◌, IfSome, IsSome, length, sum};
-ghost use Rattle.at_board.specs.Counting.{raised};
-ghost use Rattle.at_board.specs.Knowledge.Overviews.{IsOverviewOf};
-ghost use Rattle.at_board.specs.Knowledge.Seats.{IsOf};
-ghost use Rattle.at_fold.specs.HasCounted.{HasCounted, StaysCounted};
-ghost use Rattle.at_snapshot.specs.Collected.{HasLoaded};
-ghost use Rattle.at_snapshot.specs.Snapshots.{snapshot_steps};
-ghost use Rattle.at_machines.specs.Looking.{IsWithin, IsWithinOneMore, MakesLookLoad, first_load, look_turns_left, step_at};
+ghost use Rattle.at_calling.specs.Prelude.{raised, IsOverviewOf, IsOf, HasCounted, StaysCounted, HasLoaded, snapshot_steps, IsWithin, IsWithinOneMore, MakesLookLoad, first_load, look_turns_left, step_at};
 ghost use Rattle.at_calling.specs.Reading.{IsReadOf, LeavesTotals};
 
 use at_board::{Board, BoardSeat, BoardStep, Overview};
@@ -17,7 +11,7 @@ use at_log::{At, Receipt};
 use at_machines::Looking;
 use std::marker::Model;
 
-/// A read in the making: a look, and the balance at its front.
+/// A read in the making: a look, and the balance at its cut.
 #[derive(Drop)]
 pub struct Reading {
     account: u32,
@@ -102,14 +96,14 @@ impl Reading {
         ensures exchanges { seat.new.exchanges ≡ seat.old.exchanges }
         ensures overview { overview.new ≡ overview.old }
     {
-        let front = self.looking.turn(board, seat, overview, totals)?;
+        let cut = self.looking.turn(board, seat, overview, totals)?;
         seat.known();
         Some(Receipt {
             call: Call::Read {
                 account: self.account,
             },
             reply: Reply::Balance(totals.balance(self.account)),
-            at: At::Front(front),
+            at: At::Cut(cut),
         })
     }
 }

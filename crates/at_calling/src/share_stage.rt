@@ -2,7 +2,7 @@
 
 use crate::starting::Starting;
 use crate::turning::Turning;
-use at_shared::Helping;
+use at_payments::Helping;
 
 /// What the next turn of a payment from a shared account goes on with.
 #[derive(Drop)]

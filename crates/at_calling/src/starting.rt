@@ -1,21 +1,7 @@
 //! The start of a payment from a shared account, a step a turn.
 
 ghost use Rattle.std.specs.Prelude.{◌≡◌, ℕ, ◌+◌, ◌^◌, ◌<◌, ◌↔◌, List, IfSome, IsSome, None, length};
-ghost use Rattle.at_board.specs.Counting.{raised};
-ghost use Rattle.at_board.specs.Knowledge.Parts.{own_part};
-ghost use Rattle.at_board.specs.Knowledge.Overviews.{IsOverviewOf};
-ghost use Rattle.at_board.specs.Knowledge.Seats.{IsOf};
-ghost use Rattle.at_board.specs.Steps.StoreRequestWord.{MayStoreRequest};
-ghost use Rattle.at_fold.specs.HasCounted.{HasCounted, StaysCounted};
-ghost use Rattle.at_history.specs.Fronts.{place};
-ghost use Rattle.at_history.specs.Publications.{IsPrefix};
-ghost use Rattle.at_history.specs.declared.publication.Publication.{Publication};
-ghost use Rattle.at_ledger.specs.Call.{AreTargetsOn};
-ghost use Rattle.at_machines.specs.Asking.{AskingTerms, starting_to_ask};
-ghost use Rattle.at_machines.specs.CollectingRows.{CollectingRowsTerms};
-ghost use Rattle.at_machines.specs.Looking.{IsWithinOneMore, LookingTerms, first_load};
-ghost use Rattle.at_rows.specs.Asks.{MayAskFor, asked_for};
-ghost use Rattle.at_shared.specs.Helpings.{HasAllSettled, decides_on};
+ghost use Rattle.at_calling.specs.Prelude.{raised, own_part, IsOverviewOf, IsOf, MayStoreRequest, HasCounted, StaysCounted, place, IsPrefix, Publication, AreTargetsOn, AskingTerms, starting_to_ask, CollectingRowsTerms, IsWithinOneMore, LookingTerms, first_load, MayAskFor, asked_for, HasAllSettled, decides_on};
 ghost use Rattle.at_calling.specs.KeptStarting.{TakesStartTurn};
 ghost use Rattle.at_calling.specs.Reading.{LeavesTotals, counted_so_far, newly_seen};
 ghost use Rattle.at_calling.specs.Starting.{IsStartOf, IsStartWithin, MakesStartStep, asking_steps_of, start_step_at, start_steps, start_turns_left, start_turns_made};
@@ -26,11 +12,11 @@ use at_board::{Board, BoardSeat, BoardStep, Overview};
 use at_fold::Totals;
 use at_ledger::Targets;
 use at_machines::{Asking, CollectingRows, Looking, become_next};
-use at_shared::Helping;
+use at_payments::Helping;
 use std::marker::Model;
 use std::snapshot::Snapshot;
 
-/// A start in the making: a look, the stores of the request with the place of its front as the `since`, and the loads of the rows.
+/// A start in the making: a look, the stores of the request with the place of its cut as the `since`, and the loads of the rows.
 #[derive(Drop)]
 pub struct Starting {
     account: u32,
@@ -192,10 +178,10 @@ impl Starting {
         self.looked = looking.turns();
         self.mark = Snapshot::of(seat);
         self.totals = Snapshot::of(totals);
-        let front = looked?;
+        let cut = looked?;
         let targets = self.targets.copy();
-        // What is settled at the front stays so, whatever others publish before the request is announced.
-        let asking = asking_at(seat, self.account, targets, &front);
+        // What is settled at the cut stays so, whatever others publish before the request is announced.
+        let asking = asking_at(seat, self.account, targets, &cut);
         become_next(&mut self.stage, StartStage::Ask(asking));
         None
     }
@@ -251,12 +237,12 @@ impl Starting {
     }
 }
 
-/// Asks for these targets with the place of a front as the `since`.
-fn asking_at(seat: &BoardSeat, account: u32, targets: Targets, front: &Counts) -> Asking
-    requires place { place front.now < 2 ^ 32 }
+/// Asks for these targets with the place of a cut as the `since`.
+fn asking_at(seat: &BoardSeat, account: u32, targets: Targets, cut: &Counts) -> Asking
+    requires place { place cut.now < 2 ^ 32 }
     requires may { (slot : ℕ) × MayAskFor seat.now.knows.book seat.now.knows account slot
-        (asked_for targets (place front.now)) }
-    ensures { result ≡ starting_to_ask seat.now.knows account targets (place front.now) }
+        (asked_for targets (place cut.now)) }
+    ensures { result ≡ starting_to_ask seat.now.knows account targets (place cut.now) }
 {
-    Asking::start(seat, account, targets, front.sum())
+    Asking::start(seat, account, targets, cut.sum())
 }

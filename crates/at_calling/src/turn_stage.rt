@@ -7,8 +7,8 @@ use at_machines::{Deciding, Looking};
 pub(crate) enum TurnStage {
     /// The look.
     Look(Looking),
-    /// The next round at its front, until it is decided and published.
+    /// The next round at its cut, until it is decided and published.
     Decide(Deciding),
-    /// Nothing: the request was settled at the look's front.
+    /// Nothing: the request was settled at the look's cut.
     Found,
 }

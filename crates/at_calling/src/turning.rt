@@ -1,18 +1,7 @@
 //! One turn of helping, a step a turn.
 
 ghost use Rattle.std.specs.Prelude.{◌≡◌, ◌+◌, ◌*◌, ◌<◌, ◌≤◌, ◌↔◌, List, IfSome, IsSome, length};
-ghost use Rattle.at_board.specs.Counting.{raised};
-ghost use Rattle.at_board.specs.Knowledge.Parts.{own_part};
-ghost use Rattle.at_board.specs.Knowledge.Overviews.{IsOverviewOf};
-ghost use Rattle.at_board.specs.Knowledge.Seats.{IsOf};
-ghost use Rattle.at_machines.specs.Deciding.{DecidingTerms};
-ghost use Rattle.at_machines.specs.Looking.{IsWithinOneMore, LookingTerms};
-ghost use Rattle.at_fold.specs.HasCounted.{HasCounted};
-ghost use Rattle.at_history.specs.Publications.{IsPrefix};
-ghost use Rattle.at_history.specs.declared.publication.Publication.{Publication};
-ghost use Rattle.at_shared.specs.Helpings.{IsHelping, decides_made, decides_on};
-ghost use Rattle.at_shared.specs.Settling.{round_steps};
-ghost use Rattle.at_shared.specs.declared.helping.HelpTurn.{HelpTurn};
+ghost use Rattle.at_calling.specs.Prelude.{raised, own_part, IsOverviewOf, IsOf, DecidingTerms, IsWithinOneMore, LookingTerms, HasCounted, IsPrefix, Publication, IsHelping, decides_made, decides_on, round_steps, HelpTurn};
 ghost use Rattle.at_calling.specs.KeptTurning.{TakesHelpStep};
 ghost use Rattle.at_calling.specs.Reading.{CountsOthersStill, LeavesTotals, SeesOthersStill, counted_so_far, newly_seen};
 ghost use Rattle.at_calling.specs.Turning.{IsHelpOf, IsHelpWithin, LeavesSeat, MakesTurnStep, WaitsOn, exchanges_at, help_step_at, help_steps, help_turns_left, help_turns_made};
@@ -22,11 +11,11 @@ use at_base::Decision;
 use at_board::{Board, BoardSeat, BoardStep, Overview};
 use at_fold::Totals;
 use at_machines::{Deciding, Looking, become_next};
-use at_shared::{HelpTurn, Helping, answer_in};
+use at_payments::{HelpTurn, Helping, answer_in};
 use std::marker::Model;
 use std::snapshot::Snapshot;
 
-/// A turn of helping in the making: a look, and where the request is unsettled at its front, one round.
+/// A turn of helping in the making: a look, and where the request is unsettled at its cut, one round.
 #[derive(Drop)]
 pub struct Turning {
     stage: TurnStage,
@@ -96,7 +85,7 @@ impl Turning {
         }
     }
 
-    /// Makes the next step of the turn of helping. Where the request is settled at the front of the look, it answers with the
+    /// Makes the next step of the turn of helping. Where the request is settled at the cut of the look, it answers with the
     /// look's last load, and else with the store that publishes the round.
     pub fn turn(
         &mut self,
@@ -203,14 +192,14 @@ impl Turning {
         self.looked = looking.turns();
         self.mark = Snapshot::of(seat);
         self.totals = Snapshot::of(totals);
-        let front = looked?;
+        let cut = looked?;
         seat.known();
         if let Some((round, decision)) = helping.settled(totals) {
             become_next(&mut self.stage, TurnStage::Found);
             return Some(HelpTurn::Settled(answer_in(round, &decision)));
         }
-        // What is proposed is fixed here. Others may publish and decide before the exchange, and the front stays one.
-        let deciding = Deciding::start(board, seat, totals, helping, front);
+        // What is proposed is fixed here. Others may publish and decide before the exchange, and the cut stays one.
+        let deciding = Deciding::start(board, seat, totals, helping, cut);
         become_next(&mut self.stage, TurnStage::Decide(deciding));
         None
     }

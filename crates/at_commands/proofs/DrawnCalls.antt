@@ -1,21 +1,6 @@
 -- What the generator's calls move, and how many of them are a process's.
 use Rattle.std.proofs.Common.{◌≡◌, ◌∙◌, ℕ, ◌+◌, ◌*◌, ◌<◌, ◌≤◌, Bool, true, false, cond, ◌==◌, List, [], ◌∷◌, map, length, get_or, All, sum_by, refl, sym, ap, arith, zero-add, ◌⊎◌, inl, inr}
-use Rattle.std.specs.List.{range_with_len}
-use Rattle.std.proofs.lemmas.Bool.{cond_both, eq-eqb, ne_eqb}
-use Rattle.std.proofs.lemmas.List.{length-map}
-use Rattle.std.proofs.lemmas.List.Elements.{All-cons, All-head, All-map, All-nil, All-tail, All-weaker}
-use Rattle.std.proofs.lemmas.List.FromFn.{get_or-map-range_with_len, length-map-range_with_len}
-use Rattle.std.proofs.lemmas.List.Sums.{length-filter, sum_by-cons, sum_by-le}
-use Rattle.std.proofs.lemmas.Nat.{mod_below}
-use Rattle.at_ledger.specs.Files.{IsPlayable}
-use Rattle.at_ledger.specs.Call.{IsCallOn}
-use Rattle.at_ledger.specs.Run.{Whole, lines_of}
-use Rattle.at_ledger.specs.declared.call.Call.{Call}
-use Rattle.at_ledger.specs.declared.call.Call.TheVariants.{Transfer, Read, Pay}
-use Rattle.at_ledger.specs.declared.call.Line.{Line}
-use Rattle.at_loading.specs.Limits.{MayMake}
-use Rattle.at_commands.specs.Generator.{account_drawn, amount_drawn, call_drawn, calls_drawn, drawn, files_made, kind_drawn, next_state, source_drawn, state_after_calls}
-use Rattle.at_commands.specs.Made.{call_debit, over_files}
+use Rattle.at_commands.proofs.Prelude.{range_with_len, cond_both, eq-eqb, ne_eqb, length-map, All-cons, All-head, All-map, All-nil, All-tail, All-weaker, get_or-map-range_with_len, length-map-range_with_len, length-filter, sum_by-cons, sum_by-le, mod_below, IsPlayable, IsCallOn, Whole, lines_of, Call, Transfer, Read, Pay, Line, MayMake, account_drawn, amount_drawn, call_drawn, calls_drawn, drawn, files_made, kind_drawn, next_state, source_drawn, state_after_calls, call_debit, over_files}
 use Rattle.at_commands.proofs.LineSums.{sum_by-Whole}
 use Rattle.at_commands.proofs.SettledRuns.{debits_in, lines_by}
 

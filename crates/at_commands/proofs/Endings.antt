@@ -1,15 +1,7 @@
 -- What a command leaves, by the text that it made or the refusal that it came to.
 use Rattle.std.proofs.Common.{◌≡◌, ◌≢◌, ◌∙◌, ℕ, Bool, true, List, Option, None, Result, Ok, Err, inl, inr, sym, ap, subst}
-use Rattle.std.specs.Result.{IfErr, IfOk, OnOk}
-use Rattle.at_object.specs.Closings.{ClosedTerms}
-use Rattle.at_report.specs.declared.status.Status.{Status}
-use Rattle.at_report.specs.declared.status.Status.TheVariants.{Done, NoMemory, ReadFault, Usage, WriteFault}
-use Rattle.at_report.specs.declared.status.UsageFault.{UsageFault}
-use Rattle.at_report.specs.declared.status.UsageFault.TheVariants.{Words}
-use Rattle.at_loading.specs.Faults.{IsWritten, Kind, MayRefuseOf}
-use Rattle.at_commands.specs.Claims.{Claim, MayRefuseClaim}
-use Rattle.at_commands.specs.Outcome.{Outcome}
-use Rattle.at_commands.specs.Writing.{Ends, TookAll, TookPrefix, Wrote}
+use Rattle.at_commands.proofs.Prelude.{IfErr, IfOk, OnOk, ClosedTerms, Status, NoMemory, ReadFault, Usage, WriteFault, UsageFault, Words, IsWritten, Kind, MayRefuseOf, Claim, MayRefuseClaim, Outcome, Ends, TookAll, TookPrefix, Wrote}
+use Rattle.at_report.specs.declared.status.Status.TheVariants.{Done}
 
 -- a refusal of the words, and want of memory, is neither
 pub usage-done : (fault : UsageFault) → Usage fault ≡ Done → ⊥

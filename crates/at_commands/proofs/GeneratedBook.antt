@@ -1,16 +1,6 @@
 -- The generator's book breaks no limit.
 use Rattle.std.proofs.Common.{◌≡◌, ℕ, ◌+◌, ◌*◌, ◌^◌, ◌<◌, ◌≤◌, zero, suc, false, None, List, [], ◌∷◌, ◌++◌, map, length, nat_le, nat_lt, refl, ap, arith, sum_by}
-use Rattle.std.specs.List.{range_with_len}
-use Rattle.std.proofs.lemmas.Bool.{cond_both, le-ltb, lt-leb}
-use Rattle.std.proofs.lemmas.List.FromFn.{length-map-range_with_len, length-range_with_len, map-range_with_len_more}
-use Rattle.std.proofs.lemmas.List.Sums.{sum_by-cons}
-use Rattle.at_ledger.specs.Account.{AccountTerms, rounds_room}
-use Rattle.at_ledger.specs.Book.{rounds_of, total_of}
-use Rattle.at_ledger.specs.Draft.{account_fault, owner_fault, owners_fault, with_account}
-use Rattle.at_ledger.specs.Limits.{most_accounts, most_owners, most_rounds}
-use Rattle.std.proofs.Math.Nat.{mul-le-mul, mul_comm, suc-mul}
-use Rattle.at_loading.specs.Limits.{MayMake}
-use Rattle.at_commands.specs.Generator.{book_of_own_accounts, joint_terms, own_terms}
+use Rattle.at_commands.proofs.Prelude.{range_with_len, cond_both, le-ltb, lt-leb, length-map-range_with_len, length-range_with_len, map-range_with_len_more, sum_by-cons, AccountTerms, rounds_room, rounds_of, total_of, account_fault, owner_fault, owners_fault, with_account, most_accounts, most_owners, most_rounds, mul-le-mul, mul_comm, suc-mul, MayMake, book_of_own_accounts, joint_terms, own_terms}
 
 -- an owner that is a process, high enough and not the ninth has no fault
 owner_fault_none : (processes account count least owner : ℕ) → owner < processes → least ≤ owner → count < 8 → owner_fault processes account count least owner ≡ None

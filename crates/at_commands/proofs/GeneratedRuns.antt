@@ -1,27 +1,7 @@
 -- Every legal run of the generator's files settles: it has the text of `make` as its summary.
 use Rattle.std.proofs.Common.{◌≡◌, ◌∙◌, ℕ, ◌+◌, ◌*◌, ◌<◌, ◌≤◌, true, not, cond, List, [], ◌∷◌, ◌++◌, map, length, get_or, refl, sym, ap, subst, arith, zero-add, ◌⊎◌, inl, inr, length-append}
-use Rattle.std.specs.List.{range_with_len}
-use Rattle.std.proofs.lemmas.List.{get_or-map, get_or-replicate, length-map, length-replicate}
-use Rattle.std.proofs.lemmas.List.FromFn.{fill_by_all, get_or-map-range_with_len, get_or-range_with_len, length-map-range_with_len, length-range_with_len}
-use Rattle.std.proofs.lemmas.Nat.{mul-add-lt}
-use Rattle.std.proofs.Math.ListN.{get_or-append}
-use Rattle.std.proofs.Math.Nat.{eq-or-lt_of_le, mul_comm}
-use Rattle.std.proofs.Math.Seq.{get_or-append_seam}
-use Rattle.at_ledger.proofs.Run.{book-run_from}
-use Rattle.at_ledger.proofs.Slots.{slot_in-owner}
-use Rattle.at_ledger.specs.Account.{AccountTerms, no_account}
-use Rattle.at_ledger.specs.Book.{BookTerms, IsBegun, account_of, is_owner}
-use Rattle.at_ledger.specs.State.{LedgerState, asked_position, balance_of, opening_state}
-use Rattle.at_ledger.specs.Run.{Legal, Whole, asked_in, last_state}
-use Rattle.at_ledger.specs.declared.call.Call.{Call}
-use Rattle.at_ledger.specs.declared.call.Call.TheVariants.{Transfer, Read, Pay}
-use Rattle.at_ledger.specs.declared.call.Line.{Line}
-use Rattle.at_files.specs.Names.{NameList, plain_names}
-use Rattle.at_report.specs.Lines.{Words, lines_text}
-use Rattle.at_report.specs.Report.{audit_lines}
-use Rattle.at_report.specs.Summary.{done_in, is_read, made_lines, read_in}
-use Rattle.at_commands.specs.Generator.{book_made, files_made, joint_terms, own_terms}
-use Rattle.at_commands.specs.Made.{AllDone, AllSum, balance_settled, call_credit, call_debit, made, reads_in, state_settled, transfers_in}
+use Rattle.at_commands.proofs.Prelude.{range_with_len, get_or-map, get_or-replicate, length-map, length-replicate, fill_by_all, get_or-map-range_with_len, get_or-range_with_len, length-map-range_with_len, length-range_with_len, mul-add-lt, get_or-append, eq-or-lt_of_le, mul_comm, get_or-append_seam, book-run_from, slot_in-owner, AccountTerms, no_account, BookTerms, IsBegun, account_of, is_owner, LedgerState, asked_position, balance_of, opening_state, Legal, Whole, asked_in, last_state, Call, Transfer, Read, Pay, Line, NameList, plain_names, lines_text, audit_lines, done_in, is_read, made_lines, read_in, book_made, files_made, joint_terms, own_terms, AllDone, AllSum, balance_settled, call_credit, call_debit, made, reads_in, state_settled, transfers_in}
+use Rattle.at_report.specs.Lines.{Words}
 use Rattle.at_commands.proofs.LineSums.{sum_by-Whole}
 use Rattle.at_commands.proofs.SettledSteps.{IsOwnCall, IsSized}
 use Rattle.at_commands.proofs.SettledRuns.{debits_in, IsCovered, IsSettled, IsSettled-IsCovered}

@@ -1,6 +1,6 @@
 -- The states and the calls of the generator, one after another.
 use Rattle.std.proofs.Common.{◌≡◌, ℕ, ◌+◌, zero, suc, refl, ap, add-one, add-suc, add-zero}
-use Rattle.at_commands.specs.Generator.{state_after_call, state_after_calls}
+use Rattle.at_commands.proofs.Prelude.{state_after_call, state_after_calls}
 
 -- no call
 pub state_after_calls_none : (x : ℕ) → state_after_calls x 0 ≡ x

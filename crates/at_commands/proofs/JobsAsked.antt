@@ -1,21 +1,8 @@
 -- Passes with the calls that are asked of them, and the jobs that are made of these.
 use Rattle.std.proofs.Common.{◌≡◌, ℕ, ◌<◌, Bool, true, false, List, [], ◌∷◌, length, get_or, map, refl, sym, ap, subst, ◌∙◌, arith, All, Vec, Err}
-use Rattle.std.proofs.lemmas.List.{ext_get_or, get_or-map, length-map}
-use Rattle.std.proofs.lemmas.List.Elements.{All-cons, All-nil}
-use Rattle.std.specs.Global.{Global}
-use Rattle.std.specs.declared.alloc.AllocError.{AllocError}
-use Rattle.std.specs.Option.{is_some}
+use Rattle.at_commands.proofs.Prelude.{ext_get_or, get_or-map, length-map, All-cons, All-nil, Global, AllocError, is_some, BoardTerms, IsPlayable, Call, AreNewPasses, IsNewPass, PassTerms, AreAsked, MayBeAsked, job_asked, AreJobsFor, Asked, JobTerms, JobRefused}
 use Rattle.std.specs.Prelude.{IfOk, Ok, Result}
-use Rattle.at_board.specs.Knowledge.Seats.{BoardTerms}
-use Rattle.at_ledger.specs.Files.{IsPlayable}
-use Rattle.at_ledger.specs.declared.call.Call.{Call}
-use Rattle.at_object.specs.Passes.{AreNewPasses, IsNewPass, PassTerms}
 use Rattle.at_commands.proofs.JobsMade.{AreJobsFor-made, AreUnmade, IsUnmade, files_of, passes_in}
-use Rattle.at_commands.specs.Asking.{AreAsked, MayBeAsked, job_asked}
-use Rattle.at_commands.specs.Running.{AreJobsFor}
-use Rattle.at_commands.specs.declared.playing.Asked.{Asked}
-use Rattle.at_workers.specs.Jobs.{JobTerms}
-use Rattle.at_workers.specs.declared.job.JobRefused.{JobRefused}
 
 -- the passes, and the calls beside each of them
 abbrev pub passes_asked : List Asked → List PassTerms

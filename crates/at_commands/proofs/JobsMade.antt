@@ -1,12 +1,6 @@
 -- Jobs that are made one after another, of passes and files.
 use Rattle.std.proofs.Common.{◌≡◌, ℕ, ◌<◌, Bool, List, [], length, get_or, map, All, sym, ap, subst, ◌∙◌, arith}
-use Rattle.std.specs.Option.{is_some}
-use Rattle.std.proofs.lemmas.List.{get_or-map, length-map}
-use Rattle.at_board.specs.Knowledge.Seats.{BoardTerms}
-use Rattle.at_ledger.specs.declared.call.Call.{Call}
-use Rattle.at_object.specs.Passes.{AreNewPasses, IsNewPass, PassTerms}
-use Rattle.at_commands.specs.Running.{AreJobsFor}
-use Rattle.at_workers.specs.Jobs.{JobTerms}
+use Rattle.at_commands.proofs.Prelude.{is_some, get_or-map, length-map, BoardTerms, Call, AreNewPasses, IsNewPass, PassTerms, AreJobsFor, JobTerms}
 
 -- the passes and the calls of jobs, and that none of the calls was made, of jobs that note costs or of jobs that don't
 abbrev pub passes_in : List JobTerms → List PassTerms

@@ -1,26 +1,8 @@
 -- Jobs that were run and noted what their calls cost, and the closed ledger beside these costs.
 use Rattle.std.proofs.Common.{◌≡◌, ℕ, zero, suc, ◌<◌, All, true, List, [], ◌∷◌, length, get_or, refl, sym, ap, subst, ◌∙◌, arith, Option, Some, None, Result, Ok, Err, Vec}
-use Rattle.std.specs.Global.{Global}
+use Rattle.at_commands.proofs.Prelude.{Global, IfOk, AllocError, is_some, get_or-map, AllZip-get_or, AllZip-long, AllZip, BoardTerms, contents_of, IsPlayable, Legal-journal_lines, Whole-journal_lines, BookTerms, IsBegun, Call, ClosedTerms, AreCosts, AreJobsFor, IsClosedAfter, IsPlayed, IsPlayedNoting, costs_in, journal_of, CostTerms, TakeCalls, JobTerms, Ran}
 use Rattle.std.specs.Prelude.{IfSome}
-use Rattle.std.specs.Result.{IfOk}
-use Rattle.std.specs.declared.alloc.AllocError.{AllocError}
-use Rattle.std.specs.Option.{is_some}
-use Rattle.std.proofs.lemmas.List.{get_or-map}
-use Rattle.std.proofs.lemmas.List.Elements.{AllZip-get_or}
-use Rattle.std.proofs.lemmas.Slice.Zip.{AllZip-long}
-use Rattle.std.specs.List.{AllZip}
-use Rattle.at_board.specs.Knowledge.Seats.{BoardTerms}
-use Rattle.at_ledger.specs.Files.{IsPlayable}
-use Rattle.at_journal.proofs.JournalRuns.{Legal-journal_lines}
-use Rattle.at_journal.proofs.WholeLaws.{Whole-journal_lines}
-use Rattle.at_ledger.specs.Book.{BookTerms, IsBegun}
-use Rattle.at_ledger.specs.declared.call.Call.{Call}
-use Rattle.at_log.specs.Receipts.{lists_in}
-use Rattle.at_object.specs.Closings.{ClosedTerms}
-use Rattle.at_commands.specs.Running.{AreCosts, AreJobsFor, IsClosedAfter, IsPlayed, IsPlayedNoting, costs_in, journal_of}
 use Rattle.at_commands.proofs.JobsRun.{IsPlayed-journal, receipts_in}
-use Rattle.at_workers.specs.Costs.{CostTerms, TakeCalls}
-use Rattle.at_workers.specs.Jobs.{JobTerms, Ran}
 
 abbrev AreNoting : List JobTerms → Type 0
 AreNoting jobs = All (λ (job : JobTerms). is_some job.costs ≡ true) jobs
@@ -90,7 +72,7 @@ IsPlayed-closed b files closed begun count known run =
 
 pub IfOk-noting : (b : BookTerms) (files : List (List Call)) (left : Result (ClosedTerms × Vec (Vec CostTerms Global) Global) AllocError) → IsBegun b
     → length files ≡ b.processes → All (IsPlayable (length b.accounts)) files → IfOk left (λ r. IsClosedAfter b files r.0)
-    → IfOk left (λ r. AreCosts b r.0.closing.receipts (lists_in r.1.items)) → IfOk left (λ r. IsPlayedNoting b files r.0 (lists_in r.1.items))
+    → IfOk left (λ r. AreCosts b r.0.closing.receipts (contents_of r.1.items)) → IfOk left (λ r. IsPlayedNoting b files r.0 (contents_of r.1.items))
 IfOk-noting b files (Ok (closed, costs)) begun count known run costed =
     record { played = IsPlayed-closed b files closed begun count known run; costed = costed }
 IfOk-noting b files (Err refusal) begun count known run costed = tt

@@ -1,27 +1,8 @@
 -- Jobs that were run: their passes are accounted for by their receipts, which are of the calls of the jobs.
 use Rattle.std.proofs.Common.{◌≡◌, ℕ, ◌^◌, ◌<◌, All, Bool, List, [], ◌∷◌, length, get_or, map, refl, sym, ap, subst, ◌∙◌, arith, Result, Ok, Err, None}
-use Rattle.std.specs.declared.alloc.AllocError.{AllocError}
-use Rattle.std.specs.Result.{IfOk}
-use Rattle.std.proofs.lemmas.List.{get_or-map, length-map}
-use Rattle.std.proofs.lemmas.List.Elements.{AllZip-get_or}
-use Rattle.std.proofs.lemmas.Slice.Zip.{AllZip-long}
-use Rattle.std.specs.List.{AllZip}
-use Rattle.at_ledger.specs.Files.{IsPlayable}
-use Rattle.at_board.specs.Knowledge.Seats.{BoardTerms}
-use Rattle.at_journal.specs.Calls.{calls_in}
-use Rattle.at_ledger.specs.Book.{BookTerms}
-use Rattle.at_ledger.specs.Run.{Legal, Whole}
-use Rattle.at_ledger.specs.declared.call.Call.{Call}
-use Rattle.at_ledger.specs.declared.call.Line.{Line}
-use Rattle.at_log.specs.ClosingTerms.{ClosingTerms}
-use Rattle.at_log.specs.Receipts.{calls_of, lists_in}
-use Rattle.at_log.specs.declared.receipt.Receipt.{Receipt}
-use Rattle.at_object.specs.Closings.{AreAccountedFor, ClosedTerms, IsAccountedFor}
-use Rattle.at_commands.specs.Running.{AreCosts, AreJobsFor, IsClosedAfter, IsPlayed, costs_in, journal_of}
-use Rattle.at_commands.specs.declared.playing.Left.{Left}
+use Rattle.at_commands.proofs.Prelude.{AllocError, IfOk, get_or-map, length-map, AllZip-get_or, AllZip-long, AllZip, contents_of, IsPlayable, BoardTerms, calls_in, BookTerms, Legal, Whole, Call, Line, ClosingTerms, calls_of, Receipt, AreAccountedFor, ClosedTerms, IsAccountedFor, AreCosts, AreJobsFor, IsClosedAfter, IsPlayed, costs_in, journal_of, Left, JobTerms, Ran}
 use Rattle.at_commands.proofs.JobsMade.{files_of, passes_in}
 use Rattle.at_commands.proofs.Laws.RunTotals.{IsLineOn-Whole, sum-last_state}
-use Rattle.at_workers.specs.Jobs.{JobTerms, Ran}
 
 -- the receipts of jobs
 abbrev pub receipts_in : List JobTerms → List (List Receipt)
@@ -67,20 +48,20 @@ abbrev LeftOrNone : Type 0
 LeftOrNone = Result Left AllocError
 
 pub IfOk-accounted : (ledger : BoardTerms) (after : List JobTerms) (left : LeftOrNone) → AreAccountedFor ledger (passes_in after) (receipts_in after)
-    → IfOk left (λ r. r.passes.items ≡ passes_in after) → IfOk left (λ r. lists_in r.receipts.items ≡ receipts_in after)
-    → IfOk left (λ r. AreAccountedFor ledger r.passes.items (lists_in r.receipts.items))
+    → IfOk left (λ r. r.passes.items ≡ passes_in after) → IfOk left (λ r. contents_of r.receipts.items ≡ receipts_in after)
+    → IfOk left (λ r. AreAccountedFor ledger r.passes.items (contents_of r.receipts.items))
 IfOk-accounted ledger after (Ok left) accounted passes receipts = rw (passes, receipts) accounted
 IfOk-accounted ledger after (Err refusal) accounted passes receipts = tt
 
 pub IfOk-receipts : (after : List JobTerms) (files : List (List Call)) (left : LeftOrNone) → map calls_of (receipts_in after) ≡ files
-    → IfOk left (λ r. lists_in r.receipts.items ≡ receipts_in after)
-    → IfOk left (λ r. map calls_of (lists_in r.receipts.items) ≡ files)
+    → IfOk left (λ r. contents_of r.receipts.items ≡ receipts_in after)
+    → IfOk left (λ r. map calls_of (contents_of r.receipts.items) ≡ files)
 IfOk-receipts after files (Ok left) are receipts = rw receipts are
 IfOk-receipts after files (Err refusal) are receipts = tt
 
 pub IfOk-costs : (b : BookTerms) (after : List JobTerms) (left : LeftOrNone) → AreCosts b (receipts_in after) (costs_in after)
-    → IfOk left (λ r. lists_in r.receipts.items ≡ receipts_in after) → IfOk left (λ r. lists_in r.costs.items ≡ costs_in after)
-    → IfOk left (λ r. AreCosts b (lists_in r.receipts.items) (lists_in r.costs.items))
+    → IfOk left (λ r. contents_of r.receipts.items ≡ receipts_in after) → IfOk left (λ r. contents_of r.costs.items ≡ costs_in after)
+    → IfOk left (λ r. AreCosts b (contents_of r.receipts.items) (contents_of r.costs.items))
 IfOk-costs b after (Ok left) costed receipts costs = rw (receipts, costs) costed
 IfOk-costs b after (Err refusal) costed receipts costs = tt
 

@@ -1,14 +1,6 @@
 -- Sums over the lines of a run are sums over the files that the run is whole for.
 use Rattle.std.proofs.Common.{◌≡◌, ◌∙◌, ℕ, ◌+◌, ◌<◌, ◌≤◌, zero, suc, true, false, cond, ◌==◌, List, [], ◌∷◌, map, length, get_or, All, sum_by, refl, sym, ap, arith, zero-add, inl, inr}
-use Rattle.std.specs.List.{range_with_len}
-use Rattle.std.proofs.lemmas.Bool.{cases_order, eq-eqb, ne_eqb}
-use Rattle.std.proofs.lemmas.List.Elements.{All-head, All-tail}
-use Rattle.std.proofs.lemmas.List.FromFn.{fill_by_all, get_or-range_with_len, length-range_with_len}
-use Rattle.std.proofs.lemmas.List.Sums.{sum_by-cons}
-use Rattle.at_ledger.specs.Run.{Whole, lines_of}
-use Rattle.at_ledger.specs.declared.call.Call.{Call}
-use Rattle.at_ledger.specs.declared.call.Line.{Line}
-use Rattle.at_commands.specs.Made.{over_files}
+use Rattle.at_commands.proofs.Prelude.{range_with_len, cases_order, eq-eqb, ne_eqb, All-head, All-tail, fill_by_all, get_or-range_with_len, length-range_with_len, sum_by-cons, Whole, lines_of, Call, Line, over_files}
 
 -- two terms that are the same at each element
 sum_by-same : {X : Type 0} (f g : X → ℕ) (xs : List X) → All (λ x. f x ≡ g x) xs → sum_by f xs ≡ sum_by g xs

@@ -1,15 +1,6 @@
 -- Texts of what was loaded, and of a further file beside it.
 use Rattle.std.proofs.Common.{◌≡◌, ◌∙◌, ℕ, ◌+◌, Bool, true, Result, Ok, Err, Vec, refl}
-use Rattle.std.specs.Global.{Global}
-use Rattle.std.specs.Result.{IfErr, IfOk, OnOk}
-use Rattle.at_broadcast.specs.declared.message.Message.{Message}
-use Rattle.at_report.specs.declared.status.Status.{Status}
-use Rattle.at_loading.specs.Faults.{Kind, MayRefuseOf}
-use Rattle.at_loading.specs.Loading.{Files, LoadedOf, SendsBytes, SpelledOf}
-use Rattle.at_loading.specs.Words.{Delivering}
-use Rattle.at_loading.proofs.Laws.MayRefuse.{MayRefuse-whole}
-use Rattle.at_commands.specs.Delivering.{DeliversLoaded, DeliversSpelled, order_number, sent_loaded}
-use Rattle.at_commands.specs.Nodes.{counts_of}
+use Rattle.at_commands.proofs.Prelude.{Global, IfErr, IfOk, OnOk, Message, Status, Kind, MayRefuseOf, Files, LoadedOf, SendsBytes, SpelledOf, Delivering, MayRefuse-whole, DeliversLoaded, DeliversSpelled, order_number, sent_loaded, counts_of}
 use Rattle.at_commands.proofs.Laws.Deliveries.{broadcast-ordered}
 
 -- no fault is counted by the one nor by the other

@@ -1,25 +1,6 @@
 -- Messages given to nodes, one delivery after another.
 use Rattle.std.proofs.Common.{◌≡◌, ◌≢◌, ◌↔◌, ℕ, ◌+◌, ◌<◌, Bool, true, false, cond, ◌==◌, ◌&&◌, ◌||◌, eq-eqb, List, [], ◌∷◌, ◌++◌, length, map, replicate, slice_set, take, get_or, All, Vec, IsTrue, Option, Some, None, refl, sym, ap, subst, ◌∙◌, inl, inr, arith, get_or-set_same, get_or-set_other}
-use Rattle.std.specs.Global.{Global}
-use Rattle.std.specs.List.{list_any}
-use Rattle.std.proofs.lemmas.Bool.{cases_eq, eqb-true}
-use Rattle.std.proofs.lemmas.List.{get_or-map, get_or-replicate, length-map, length-replicate, length-set, take_more}
-use Rattle.std.proofs.lemmas.List.Folds.{list_any-append}
-use Rattle.at_broadcast.specs.Messages.{IsMessageOn, MessageList, message_of, no_messages, with_message}
-use Rattle.at_broadcast.specs.Node.{IsNode, NodeState, starting_state}
-use Rattle.at_broadcast.specs.declared.message.Message.{Message}
-use Rattle.at_broadcast.proofs.MessageLaws.{message_of-new, message_of-other}
-use Rattle.at_broadcast.proofs.NodeLaws.{IsClosed-IsNode, ShowsBalances-IsNode}
-use Rattle.at_broadcast.proofs.StartLaws.{none-start}
-use Rattle.at_ledger.specs.Files.{contents_of}
-use Rattle.at_files.specs.Deliveries.{IsDelivery}
-use Rattle.at_files.specs.Limits.{most_messages}
-use Rattle.at_files.specs.declared.deliveries.Delivery.{Delivery}
-use Rattle.at_files.proofs.FieldLaws.{both_tests}
-use Rattle.at_ledger.proofs.FileLists.{get_or-contents_of, length-contents_of}
-use Rattle.at_ledger.specs.Book.{BookTerms}
-use Rattle.at_loading.specs.Loading.{LoadedOf}
-use Rattle.at_commands.specs.Nodes.{AreNodesOf, AreSent, IsNodeOf, all_sent, counts_of, gives, message_given}
+use Rattle.at_commands.proofs.Prelude.{Global, list_any, cases_eq, eqb-true, get_or-map, get_or-replicate, length-map, length-replicate, length-set, take_more, list_any-append, LogTerms, single_of, singles_of, IsMessageOn, MessageList, message_of, no_messages, with_message, IsNode, NodeState, starting_state, Message, message_of-new, message_of-other, IsClosed-IsNode, ShowsBalances-IsNode, none-start, contents_of, IsDelivery, most_messages, Delivery, both_tests, get_or-contents_of, length-contents_of, BookTerms, LoadedOf, AreNodesOf, AreSent, IsNodeOf, all_sent, counts_of, gives, message_given}
 
 -- the sender of a delivery has a file, and the file has the message
 pub sender_within : (l : LoadedOf Message) (d : Delivery) → IsDelivery (counts_of l) d → d.sender < length l.files
@@ -54,10 +35,17 @@ number_small l d sent is =
 
 -- a message that is delivered is one on the book
 pub message_known : (l : LoadedOf Message) (d : Delivery) (m : Message) → All (AreSent l.book) l.files → IsDelivery (counts_of l) d
-    → m ≡ get_or (get_or l.files d.sender []) d.number m → IsMessageOn l.book m
+    → m ≡ get_or (get_or l.files d.sender []) d.number m → IsMessageOn l.book.processes (length l.book.accounts) m
 message_known l d m sent is at =
     let known = (sent d.sender [] (sender_within l d is)).known d.number m (number_within l d is) in
-    subst (IsMessageOn l.book) (sym at) known
+    subst (IsMessageOn l.book.processes (length l.book.accounts)) (sym at) known
+
+-- and on the node's book of logs
+pub message_on : (b : BookTerms) (s : NodeState) (m : Message) → s.book ≡ singles_of b → IsMessageOn b.processes (length b.accounts) m
+    → IsMessageOn s.book.logs (length s.book.accounts) m
+message_on b s m book is =
+    subst (λ (l : LogTerms). IsMessageOn l.logs (length l.accounts) m) (sym book)
+    (subst (λ (n : ℕ). IsMessageOn b.processes n m) (sym (length-map b.accounts single_of)) is)
 
 -- a delivery gives its node its message
 gives-itself : (d : Delivery) → gives d.node d.sender d.number d ≡ true
@@ -142,8 +130,8 @@ pub IsNodeOf-deliver : (l : LoadedOf Message) (done : List Delivery) (d : Delive
     → IsNodeOf l done d.node s → IsNodeOf l (done ++ d ∷ []) d.node after
 IsNodeOf-deliver l done d m s after new count sent is at node book fresh again delivered before =
     let steady = before.node.steady in
-    let processes = ap (λ (b : BookTerms). b.processes) before.book in
-    let process : d.sender < s.book.processes = omega (arith, sender_within l d is, count, processes) in
+    let logs = ap (λ (b : LogTerms). b.logs) before.book in
+    let process : d.sender < s.book.logs = omega (arith, sender_within l d is, count, logs) in
     let known : d.sender < length s.messages = omega (arith, process, steady.sized) in
     let within : d.number < length (get_or s.messages d.sender []) = omega (arith, number_small l d sent is, steady.lists d.sender process) in
     record {
@@ -190,19 +178,19 @@ AreNodesOf-next l deliveries i e nodes after inside within each new =
     rw (take_more deliveries i e inside) (AreNodesOf-set l (take i deliveries) (get_or deliveries i e) nodes after within each new)
 
 -- nodes to which nothing was delivered
-pub AreNodesOf-new : (l : LoadedOf Message) (nodes : List NodeState) → nodes ≡ replicate l.book.processes (starting_state l.book) → All IsNode nodes → AreNodesOf l [] nodes
+pub AreNodesOf-new : (l : LoadedOf Message) (nodes : List NodeState) → nodes ≡ replicate l.book.processes (starting_state (singles_of l.book)) → All IsNode nodes → AreNodesOf l [] nodes
 AreNodesOf-new l nodes are steady i s below =
-    let starts : get_or nodes i s ≡ starting_state l.book =
-    ap (λ (all : List NodeState). get_or all i s) are ∙ get_or-replicate l.book.processes i (starting_state l.book) s (omega (arith, below, ap (λ (all : List NodeState). length all) are, length-replicate l.book.processes (starting_state l.book))) in
-    let node : IsNode (starting_state l.book) = subst IsNode starts (steady i s below) in
+    let starts : get_or nodes i s ≡ starting_state (singles_of l.book) =
+    ap (λ (all : List NodeState). get_or all i s) are ∙ get_or-replicate l.book.processes i (starting_state (singles_of l.book)) s (omega (arith, below, ap (λ (all : List NodeState). length all) are, length-replicate l.book.processes (starting_state (singles_of l.book)))) in
+    let node : IsNode (starting_state (singles_of l.book)) = subst IsNode starts (steady i s below) in
     rw starts (record {
       book = refl;
       given = λ p k. none p k (message_of (replicate l.book.processes no_messages) p k) refl;
-      closed = IsClosed-IsNode (starting_state l.book) node;
-      balances = ShowsBalances-IsNode (starting_state l.book) node;
+      closed = IsClosed-IsNode (starting_state (singles_of l.book)) node;
+      balances = ShowsBalances-IsNode (starting_state (singles_of l.book)) node;
       node = node;
     })
   where
     none : (p k : ℕ) (o : Option Message) → message_of (replicate l.book.processes no_messages) p k ≡ o → message_of (replicate l.book.processes no_messages) p k ≡ None
     none p k None is = is
-    none p k (Some m) is = absurd (none-start l.book l.book.processes p k m is)
+    none p k (Some m) is = absurd (none-start (singles_of l.book) l.book.processes p k m is)

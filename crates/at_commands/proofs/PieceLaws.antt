@@ -1,11 +1,6 @@
 -- Texts that are written piece after piece.
 use Rattle.std.proofs.Common.{◌≡◌, ℕ, ◌+◌, List, Vec, [], ◌∷◌, ◌++◌, length, take, drop, get_or, ◌<◌, ap, ◌∙◌, sym, append_assoc, append-nil, arith}
-use Rattle.std.specs.Global.{Global}
-use Rattle.std.proofs.lemmas.Grind.{flat_map-append}
-use Rattle.std.proofs.lemmas.List.{length-append, take-append-drop, take-append-le, take_more}
-use Rattle.std.proofs.Math.Seq.{take-append-add}
-use Rattle.at_io.specs.Sink.{TakesPrefix}
-use Rattle.at_report.specs.Pieces.{joined}
+use Rattle.at_commands.proofs.Prelude.{Global, flat_map-append, length-append, take-append-drop, take-append-le, take_more, take-append-add, TakesPrefix, joined}
 
 abbrev bytes_of : Vec ℕ Global → List ℕ
 bytes_of piece = piece.items

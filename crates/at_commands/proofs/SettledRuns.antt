@@ -1,16 +1,6 @@
 -- Runs in which the balances and the room cover all calls: each transfer is done, and each account is left with its credits and without its debits.
 use Rattle.std.proofs.Common.{◌≡◌, ◌∙◌, ℕ, ◌+◌, ◌<◌, ◌≤◌, Bool, true, false, not, cond, ◌==◌, List, [], ◌∷◌, map, length, All, sum_by, count_by, refl, ap, arith}
-use Rattle.std.proofs.lemmas.Bool.{eq-eqb}
-use Rattle.std.proofs.lemmas.List.Elements.{All-cons, All-head, All-nil, All-tail}
-use Rattle.std.proofs.lemmas.List.Sums.{sum_by-cons}
-use Rattle.at_ledger.specs.Book.{BookTerms}
-use Rattle.at_ledger.specs.State.{LedgerState, Step, asked_of, balance_of, sent_of, step}
-use Rattle.at_ledger.specs.Run.{Run, asked_in, run_after, run_from}
-use Rattle.at_ledger.specs.declared.call.Line.{Line}
-use Rattle.at_ledger.specs.declared.call.Reply.TheVariants.{Done}
-use Rattle.at_ledger.proofs.Run.{run_from-cons, run_from-nil}
-use Rattle.at_report.specs.Summary.{done_in, is_done_reply, is_read}
-use Rattle.at_commands.specs.Made.{call_credit, call_debit}
+use Rattle.at_commands.proofs.Prelude.{eq-eqb, All-cons, All-head, All-nil, All-tail, sum_by-cons, BookTerms, LedgerState, Step, asked_of, balance_of, sent_of, step, Run, asked_in, run_after, run_from, Line, Done, run_from-cons, run_from-nil, done_in, is_done_reply, is_read, call_credit, call_debit}
 use Rattle.at_commands.proofs.SettledSteps.{IsDoneStep, IsDoneStep-step, IsMoved, IsOwnCall, IsSized, MayStep}
 
 -- the lines of one process, and the debits of an account, among these

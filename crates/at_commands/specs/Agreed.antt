@@ -1,8 +1,6 @@
 -- What `agree` prints, and the closed ledger that it keeps.
 use Rattle.std.specs.Prelude.{◌≡◌, ℕ, List, length, Option, Some}
-use Rattle.at_agree.specs.Agreement.{IsAgreement}
-use Rattle.at_object.specs.Closings.{ClosedTerms}
-use Rattle.at_report.specs.Report.{agreed_line}
+use Rattle.at_commands.specs.Prelude.{IsAgreement, ClosedTerms, agreed_line}
 
 -- the closed ledger of a council is kept, on which each process made its four calls with its value. The last receipt of every process
 -- gives this one value, and it is one of the values

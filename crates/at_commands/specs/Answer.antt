@@ -1,14 +1,7 @@
 -- What a command prints.
 use Rattle.std.specs.Prelude.{◌≡◌, ℕ, Bool, true, List, length, sum, sum_by, Ok, Option, Some, None}
-use Rattle.at_ledger.specs.Book.{total_of}
-use Rattle.at_ledger.specs.Run.{Legal, Whole, last_state}
-use Rattle.at_object.specs.Closings.{ClosedTerms}
-use Rattle.at_report.specs.Report.{report_text, checked_line}
-use Rattle.at_loading.specs.Loading.{Files, Loaded, Spelled, loaded}
+use Rattle.at_commands.specs.Prelude.{total_of, Legal, Whole, last_state, ClosedTerms, report_text, checked_line, Files, Loaded, Spelled, loaded, Form, Command, Run, Check}
 use Rattle.at_commands.specs.Running.{IsClosedAfter, journal_of}
-use Rattle.at_loading.specs.Words.{Form}
-use Rattle.at_loading.specs.declared.words.Command.{Command}
-use Rattle.at_loading.specs.declared.words.Command.TheVariants.{Run, Check}
 
 -- the text is the report of the journal of a closed ledger on which the files' calls were made: one legal run of them, each process's
 -- once and in file order. The balances that it prints are the run's last, and their sum is that of the openings

@@ -1,15 +1,7 @@
 -- What each command leaves: its contract. What is the same for all commands stands at `answer`.
 use Rattle.std.specs.Prelude.{◌≡◌, ◌≢◌, ◌⊎◌, ℕ, ⊤, true, List, ◌++◌, length, Option, Some, None, Ok}
-use Rattle.at_io.specs.Sink.{TakesPrefix}
-use Rattle.at_report.specs.declared.status.Status.TheVariants.{Done, NoMemory, ReadFault, Usage, WriteFault}
-use Rattle.at_report.specs.declared.status.UsageFault.TheVariants.{Words}
-use Rattle.at_loading.specs.Faults.{Answers, HasFileNumbers, HasFurtherNumbers, IsFaultless, IsWritten, MayRefuse, MayRefuseOf}
-use Rattle.at_loading.specs.Faults.Kind.{messages, scheduled}
-use Rattle.at_loading.specs.Loading.{Loaded, MayReach, Spelled, loaded}
-use Rattle.at_loading.specs.Words.{Delivering, Form, Replaying, Verifying, Wanted}
-use Rattle.at_loading.specs.Words.Wanted.{Agree, Deliver, Files, Make, Replay, Verify}
-use Rattle.at_loading.specs.declared.numbers.Making.{Making}
-use Rattle.at_loading.specs.declared.words.Command.TheVariants.{Check}
+use Rattle.at_commands.specs.Prelude.{TakesPrefix, Done, NoMemory, ReadFault, Usage, WriteFault, Words, Answers, HasFileNumbers, HasFurtherNumbers, IsFaultless, IsWritten, MayRefuse, MayRefuseOf, messages, scheduled, Loaded, MayReach, Spelled, loaded, Delivering, Form, Replaying, Verifying, Wanted, Agree, Deliver, Make, Replay, Verify, Making, Check}
+use Rattle.at_loading.specs.Words.Wanted.{Files}
 use Rattle.at_commands.specs.Agreed.{KeepsAgreement, PrintsAgreed}
 use Rattle.at_commands.specs.Answer.{PrintsRead}
 use Rattle.at_commands.specs.Claims.{AnswersVerify, Claim, IsRight, IsRightClaim, MayReachClaim, MayRefuseClaim, SpellsClaim, VerifiesSpelled, claimed}

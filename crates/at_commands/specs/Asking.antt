@@ -1,10 +1,7 @@
 -- Passes with the calls that are to be made by them, before there are jobs for these.
 use Rattle.std.specs.Prelude.{◌≡◌, ◌^◌, ◌<◌, Bool, List, [], length, map, All, None, Some, if◌then◌else◌}
-use Rattle.at_ledger.specs.Call.{IsCallOn}
-use Rattle.at_ledger.specs.declared.call.Call.{Call}
-use Rattle.at_object.specs.Passes.{PassTerms, Stands}
+use Rattle.at_commands.specs.Prelude.{IsCallOn, Call, PassTerms, Stands, JobTerms}
 use Rattle.at_commands.specs.declared.playing.Asked.{Asked}
-use Rattle.at_workers.specs.Jobs.{JobTerms}
 
 -- each of the passes with the calls of one of these files, in order
 pub record AreAsked (passes : List PassTerms) (files : List (List Call)) (asked : List Asked) : Type 0 where

@@ -1,14 +1,6 @@
 -- A report beside the files that it should be the report of, and what `verify` says of it.
 use Rattle.std.specs.Prelude.{◌≡◌, ℕ, ◌+◌, ◌⊎◌, ⊤, Bool, true, List, length, Result, Ok, Err}
-use Rattle.at_files.specs.Results.{and_then}
-use Rattle.at_ledger.specs.declared.call.Call.{Call}
-use Rattle.at_report.specs.Report.{verified_line}
-use Rattle.at_report.specs.declared.status.Status.{Status}
-use Rattle.at_report.specs.declared.status.Status.TheVariants.{NoMemory, NotLegal}
-use Rattle.at_verify.specs.Right.{IsFirstWrong, IsReport, IsReportOf}
-use Rattle.at_loading.specs.Faults.{IsWritten, MayRefuse}
-use Rattle.at_loading.specs.Loading.{Files, HoldsFile, Loaded, MayReach, Spelled, fetched, loaded, loaded_shown}
-use Rattle.at_loading.specs.Words.{Verifying}
+use Rattle.at_commands.specs.Prelude.{and_then, Call, verified_line, Status, NoMemory, NotLegal, IsFirstWrong, IsReport, IsReportOf, IsWritten, MayRefuse, Files, HoldsFile, Loaded, MayReach, Spelled, fetched, loaded, loaded_shown, Verifying}
 use Rattle.at_loading.specs.declared.loading.Loaded as program
 
 -- a report's bytes, beside a book and the calls of each process

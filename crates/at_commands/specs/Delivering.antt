@@ -1,18 +1,8 @@
 -- What the files of `deliver` hold, and what it prints of them.
 use Rattle.std.specs.Prelude.{◌≡◌, ℕ, ◌+◌, ◌⊎◌, Bool, true, List, length, Result, Ok, Err}
-use Rattle.at_files.specs.Deliveries.{Delivers, deliveries_of}
-use Rattle.at_files.specs.Records.{file_records}
-use Rattle.at_files.specs.Results.{and_then}
-use Rattle.at_files.specs.declared.deliveries.Delivery.{Delivery}
-use Rattle.at_files.specs.declared.deliveries.OrderWhy.{OrderWhy}
-use Rattle.at_files.specs.declared.spelled.BadRecord.{BadRecord}
-use Rattle.at_broadcast.specs.declared.message.Message.{Message}
-use Rattle.at_report.specs.Lines.{Word}
-use Rattle.at_report.specs.declared.status.Status.{Status}
+use Rattle.at_commands.specs.Prelude.{Delivers, deliveries_of, file_records, and_then, Delivery, OrderWhy, BadRecord, Message, Word, Status, Files, HoldsFile, LoadedOf, MayReachOf, SendsBytes, SpelledOf, all_loaded, fetched, messages_given, Delivering}
 use Rattle.at_report.specs.declared.status.Status.TheVariants as status
-use Rattle.at_loading.specs.Loading.{Files, HoldsFile, LoadedOf, MayReachOf, SendsBytes, SpelledOf, all_loaded, fetched, messages_given}
 use Rattle.at_commands.specs.Nodes.{Broadcast, PrintsNodes, counts_of}
-use Rattle.at_loading.specs.Words.{Delivering}
 
 -- the number of the file of deliveries, which comes after all other files
 abbrev pub order_number : Delivering → ℕ

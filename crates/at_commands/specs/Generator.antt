@@ -1,11 +1,6 @@
 -- The book and the calls that a number gives.
 use Rattle.std.specs.Prelude.{ℕ, ◌+◌, ◌*◌, ◌/◌, ◌%◌, ◌^◌, ◌==◌, List, [], ◌∷◌, ◌++◌, map, zero, suc, if◌then◌else◌}
-use Rattle.std.specs.List.{range_with_len}
-use Rattle.at_ledger.specs.Account.{AccountTerms}
-use Rattle.at_ledger.specs.Book.{BookTerms}
-use Rattle.at_ledger.specs.Draft.{terms_with}
-use Rattle.at_ledger.specs.declared.call.Call.{Call}
-use Rattle.at_ledger.specs.declared.call.Call.TheVariants.{Transfer, Read}
+use Rattle.at_commands.specs.Prelude.{range_with_len, AccountTerms, BookTerms, terms_with, Call, Transfer, Read}
 
 -- the state after a draw
 unfoldable pub next_state : ℕ → ℕ

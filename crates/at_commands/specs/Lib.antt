@@ -1,3 +1,4 @@
+pub mod Prelude
 pub mod Outcome
 pub mod Writing
 pub mod Generator

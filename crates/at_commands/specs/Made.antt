@@ -1,19 +1,9 @@
 -- What `make` prints: openings, credits and debits, whatever the order of the calls.
 use Rattle.std.specs.Prelude.{◌≡◌, ℕ, ◌+◌, ◌-◌, ◌==◌, false, not, All, List, length, map, sum_by, if◌then◌else◌, Option, Some}
-use Rattle.std.specs.List.{range_with_len}
-use Rattle.at_ledger.specs.Book.{BookTerms, account_of}
-use Rattle.at_ledger.specs.Call.{amount_of}
-use Rattle.at_ledger.specs.State.{LedgerState, opening_state}
-use Rattle.at_ledger.specs.Run.{Legal, Whole}
-use Rattle.at_ledger.specs.declared.call.Call.{Call}
-use Rattle.at_ledger.specs.declared.call.Call.TheVariants.{Transfer, Read, Pay}
-use Rattle.at_ledger.specs.declared.call.Line.{Line}
+use Rattle.at_commands.specs.Prelude.{range_with_len, BookTerms, account_of, amount_of, LedgerState, opening_state, Legal, Whole, Call, Transfer, Read, Pay, Line, ClosedTerms, is_read, summary_of, summary_text, Making}
 use Rattle.at_ledger.specs.declared.call.Reply.TheVariants.{Done}
-use Rattle.at_object.specs.Closings.{ClosedTerms}
-use Rattle.at_report.specs.Summary.{is_read, summary_of, summary_text}
 use Rattle.at_commands.specs.Generator.{book_made, files_made}
 use Rattle.at_commands.specs.Running.{IsClosedAfter, journal_of}
-use Rattle.at_loading.specs.declared.numbers.Making.{Making}
 
 -- what the call brings to the account once it is done
 abbrev pub call_credit : ℕ → Call → ℕ

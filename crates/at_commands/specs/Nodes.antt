@@ -1,15 +1,6 @@
 -- Nodes, each of which is given the messages that a list of deliveries names for it.
 use Rattle.std.specs.Prelude.{◌≡◌, ℕ, ◌<◌, ◌≤◌, Bool, ◌&&◌, ◌==◌, List, length, map, All, slice_index_or, Option, Some, None, if◌then◌else◌}
-use Rattle.std.specs.List.{list_any}
-use Rattle.at_broadcast.specs.Messages.{IsMessageOn, MessageList, message_of}
-use Rattle.at_broadcast.specs.Node.{IsNode, NodeState, ShowsBalances}
-use Rattle.at_broadcast.specs.Validated.{IsClosed}
-use Rattle.at_broadcast.specs.declared.message.Message.{Message}
-use Rattle.at_files.specs.Limits.{most_messages}
-use Rattle.at_files.specs.declared.deliveries.Delivery.{Delivery}
-use Rattle.at_ledger.specs.Book.{BookTerms}
-use Rattle.at_report.specs.Nodes.{nodes_text}
-use Rattle.at_loading.specs.Loading.{LoadedOf}
+use Rattle.at_commands.specs.Prelude.{list_any, singles_of, IsMessageOn, MessageList, message_of, IsNode, NodeState, ShowsBalances, IsClosed, Message, most_messages, Delivery, BookTerms, nodes_text, LoadedOf}
 
 -- a book, the messages of each process, and the deliveries
 pub record Broadcast : Type 0 where
@@ -36,7 +27,7 @@ message_given l deliveries node sender number =
 -- the node was given just the messages that the deliveries name for it, in whatever order and however often; what it has
 -- validated is where raising ends for these, and its balances are those there
 pub record IsNodeOf (l : LoadedOf Message) (deliveries : List Delivery) (number : ℕ) (s : NodeState) : Type 0 where
-  pub book : s.book ≡ l.book
+  pub book : s.book ≡ singles_of l.book
   pub given : (p k : ℕ) → message_of s.messages p k ≡ message_given l deliveries number p k
   pub closed : IsClosed s.book s.messages s.validated
   pub balances : ShowsBalances s
@@ -55,5 +46,5 @@ pub record PrintsNodes (c : Broadcast) (text : List ℕ) : Type 0 where
 
 -- messages of one process that can be delivered beside the book
 pub record AreSent (b : BookTerms) (messages : List Message) : Type 0 where
-  pub known : All (IsMessageOn b) messages
+  pub known : All (IsMessageOn b.processes (length b.accounts)) messages
   pub few : length messages ≤ most_messages

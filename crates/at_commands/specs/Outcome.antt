@@ -1,8 +1,6 @@
 -- What a command finds, and what it leaves.
 use Rattle.std.specs.Prelude.{ℕ, Bool, List, Option}
-use Rattle.at_object.specs.Closings.{ClosedTerms}
-use Rattle.at_report.specs.declared.status.Status.{Status}
-use Rattle.at_loading.specs.Loading.{Files}
+use Rattle.at_commands.specs.Prelude.{ClosedTerms, Status, Files}
 
 -- whether the shelf tells its files, these, and its faults before and after
 pub record Found : Type 0 where

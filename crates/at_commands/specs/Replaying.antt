@@ -1,20 +1,7 @@
 -- What the files of `replay` hold, and what it prints of them.
 use Rattle.std.specs.Prelude.{◌≡◌, ℕ, ◌+◌, ◌⊎◌, Bool, true, List, length, sum, Result, Ok, Err}
-use Rattle.at_ledger.specs.Book.{total_of}
-use Rattle.at_ledger.specs.Run.{Legal, Whole, last_state}
-use Rattle.at_files.specs.Records.{file_records}
-use Rattle.at_files.specs.Results.{and_then}
-use Rattle.at_files.specs.Schedule.{Schedules, schedule_of}
-use Rattle.at_files.specs.declared.schedule.ScheduleWhy.{ScheduleWhy}
-use Rattle.at_files.specs.declared.spelled.BadRecord.{BadRecord}
-use Rattle.at_report.specs.Lines.{Word}
-use Rattle.at_report.specs.Report.{report_text}
-use Rattle.at_report.specs.declared.status.Status.{Status}
+use Rattle.at_commands.specs.Prelude.{total_of, Legal, Whole, last_state, file_records, and_then, Schedules, schedule_of, ScheduleWhy, BadRecord, Word, report_text, Status, Files, HoldsFile, Loaded, MayReachOf, PaysReplayBytes, SpelledOf, all_loaded, fetched, replay_calls_given, Replaying, IsReplayBy, Replayed}
 use Rattle.at_report.specs.declared.status.Status.TheVariants as status
-use Rattle.at_loading.specs.Loading.{Files, HoldsFile, Loaded, MayReachOf, PaysReplayBytes, SpelledOf, all_loaded, fetched, replay_calls_given}
-use Rattle.at_loading.specs.Words.{Replaying}
-use Rattle.at_stepper.specs.InTurns.{IsReplayBy}
-use Rattle.at_stepper.specs.declared.replaying.Replayed.{Replayed}
 
 -- a book, the calls of each process, and the schedule of their turns
 pub record Replay : Type 0 where

@@ -1,21 +1,6 @@
 -- Closed ledgers on which files were run.
 use Rattle.std.specs.Prelude.{◌≡◌, ℕ, ◌^◌, ◌<◌, Bool, List, [], flat_map, length, map, slice_index_or, sum, All}
-use Rattle.std.specs.Option.{is_some, option_to_list}
-use Rattle.at_board.specs.Knowledge.Seats.{BoardTerms}
-use Rattle.at_journal.specs.Calls.{AreCallsOf, calls_in, line_at}
-use Rattle.at_journal.specs.declared.keyed.CallAt.{CallAt}
-use Rattle.at_ledger.specs.Book.{BookTerms, total_of, with_usable_room}
-use Rattle.at_ledger.specs.Call.{IsLineOn}
-use Rattle.at_ledger.specs.Run.{Legal, Whole, last_state}
-use Rattle.at_ledger.specs.declared.call.Call.{Call}
-use Rattle.at_ledger.specs.declared.call.Line.{Line}
-use Rattle.at_log.specs.Coherent.{Coherent}
-use Rattle.at_log.specs.JournalOrder.{journal_lines}
-use Rattle.at_log.specs.declared.receipt.Receipt.{Receipt}
-use Rattle.at_object.specs.Closings.{ClosedTerms}
-use Rattle.at_object.specs.Passes.{AreNewPasses, IsNewPass, PassTerms}
-use Rattle.at_workers.specs.Costs.{CostTerms, TakeCalls}
-use Rattle.at_workers.specs.Jobs.{IsReady, JobTerms}
+use Rattle.at_commands.specs.Prelude.{is_some, option_to_list, BoardTerms, AreCallsOf, calls_in, line_at, CallAt, BookTerms, total_of, with_usable_room, IsLineOn, Legal, Whole, last_state, Call, Line, Coherent, journal_lines, Receipt, ClosedTerms, AreNewPasses, IsNewPass, PassTerms, CostTerms, TakeCalls, IsReady, JobTerms}
 
 -- this is a ledger of the book with the own room that can be used, and there is a new pass on it for each process
 pub record HasNewPasses (b : BookTerms) (ledger : BoardTerms) (passes : List PassTerms) : Type 0 where

@@ -1,10 +1,6 @@
 -- What writing a text comes to.
 use Rattle.std.specs.Prelude.{◌≡◌, ℕ, ◌⊎◌, Bool, true, List, ◌++◌, Result, Ok, Err}
-use Rattle.at_io.specs.Faults.{Rose}
-use Rattle.at_io.specs.Sink.{TakesPrefix}
-use Rattle.at_report.specs.FaultText.{fault_line}
-use Rattle.at_report.specs.declared.status.Status.{Status}
-use Rattle.at_report.specs.declared.status.Status.TheVariants.{Done, WriteFault}
+use Rattle.at_commands.specs.Prelude.{Rose, TakesPrefix, fault_line, Status, Done, WriteFault}
 use Rattle.at_commands.specs.Outcome.{Outcome}
 
 -- the sink has taken the text and counted no fault, or it has counted one and taken a prefix

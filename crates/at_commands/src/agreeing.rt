@@ -1,21 +1,24 @@
 //! What `agree` makes of the values that its words propose.
 
 ghost use Rattle.std.specs.Prelude.{◌≡◌, ◌≢◌, ◌≤◌, None, IfOk};
-ghost use Rattle.at_io.specs.Faults.{Rose};
+ghost use Rattle.at_commands.specs.Prelude.{Rose, MayAgreeOn};
 ghost use Rattle.at_commands.specs.Agreed.{PrintsAgreed};
 ghost use Rattle.at_commands.specs.Answered.{AnsweredAgree};
-ghost use Rattle.at_loading.specs.Limits.{MayAgreeOn};
 
 use crate::ending::{Printed, end_keeping};
 use at_agree::agree;
 use at_io::Sink;
-use at_object::{Closed, NoMemory};
+use at_object::Closed;
 use at_report::{Pieces, Status, agreed_text};
-use std::alloc::Global;
+use std::alloc::{AllocError, Global};
 use std::thread::Threads;
 
 /// The line of the value that the processes agree on, each of which proposes one of the values, by threads.
-fn agreement<R: Threads + Sync>(rt: &R, alloc: Global, values: &[u64]) -> Result<Printed, NoMemory>
+fn agreement<R: Threads + Sync>(
+    rt: &R,
+    alloc: Global,
+    values: &[u64],
+) -> Result<Printed, AllocError>
     requires { MayAgreeOn values.now }
     ensures { IfOk result (λ p. PrintsAgreed values.now p.closed p.text) }
 {

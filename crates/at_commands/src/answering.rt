@@ -3,9 +3,7 @@
 ghost use Rattle.std.specs.Prelude.{◌≡◌, ◌≢◌, ◌≤◌, true, None, option_map, IfSome};
 ghost use Rattle.at_commands.specs.Answered.{Leaves, LeavesNoLedger, ReadsNothing};
 ghost use Rattle.at_commands.specs.Writing.{TookLine};
-ghost use Rattle.at_io.specs.Faults.{Rose};
-ghost use Rattle.at_io.specs.Shelf.{SameFiles};
-ghost use Rattle.at_loading.specs.Words.{IsWithinLimits, asked_shown};
+ghost use Rattle.at_commands.specs.Prelude.{Rose, SameFiles, IsWithinLimits, asked_shown};
 
 use crate::agreeing::answer_agree;
 use crate::delivering::answer_deliver;

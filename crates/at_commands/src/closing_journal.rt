@@ -1,9 +1,7 @@
 //! The lines of a closing's calls, which stand in its receipts.
 
 ghost use Rattle.std.specs.Prelude.{◌≡◌, ◌<◌, ◌^◌, length, map, All};
-ghost use Rattle.at_journal.specs.Calls.{AreCallsOf, line_at};
-ghost use Rattle.at_log.specs.ClosingTerms.{receipts_of};
-ghost use Rattle.at_report.specs.Lines.{line_shown};
+ghost use Rattle.at_commands.specs.Prelude.{AreCallsOf, line_at, receipts_of, line_shown};
 
 use at_journal::CallAt;
 use at_log::Closing;

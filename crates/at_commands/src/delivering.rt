@@ -1,17 +1,10 @@
 //! What `deliver` prints of a broadcast.
 
 ghost use Rattle.std.specs.Prelude.{◌≡◌, ◌≢◌, ◌+◌, ◌^◌, ◌<◌, ◌≤◌, ℕ, All, length, map, true, None, Ok, Err, IfOk, IfErr, OnOk};
-ghost use Rattle.at_ledger.specs.Files.{contents_of};
-ghost use Rattle.at_files.specs.Deliveries.{IsDelivery};
-ghost use Rattle.at_files.specs.Limits.{most_messages};
-ghost use Rattle.at_io.specs.Faults.{Rose};
-ghost use Rattle.at_io.specs.Shelf.{SameFiles};
+ghost use Rattle.at_commands.specs.Prelude.{contents_of, IsDelivery, most_messages, Rose, SameFiles, HasFurtherNumbers, Kind, MayRefuseOf, loaded_shown, delivering_shown};
 ghost use Rattle.at_commands.specs.Answered.{AnsweredDeliver};
 ghost use Rattle.at_commands.specs.Delivering.{DeliversLoaded, DeliversSpelled, MayReachBroadcast, SpellsOrder, broadcast, order_beside, order_loaded};
-ghost use Rattle.at_loading.specs.Faults.{HasFurtherNumbers, Kind, MayRefuseOf};
-ghost use Rattle.at_loading.specs.Loading.{loaded_shown};
 ghost use Rattle.at_commands.specs.Nodes.{AreSent, PrintsNodes, counts_of};
-ghost use Rattle.at_loading.specs.Words.{delivering_shown};
 
 use crate::ending::end;
 use crate::nodes::nodes_given;
@@ -93,7 +86,7 @@ fn delivered_text(
         (record { sent = loaded_shown sent.now; deliveries = deliveries.now }) text.items) }
 {
     let nodes = nodes_given(alloc, sent, deliveries)?;
-    nodes_text(alloc, &sent.book, nodes.as_slice())
+    nodes_text(alloc, nodes.as_slice())
 }
 
 /// What `deliver` prints of messages that were loaded, with the deliveries of the file of this name, or why it prints nothing.

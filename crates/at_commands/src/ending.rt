@@ -3,7 +3,7 @@
 
 ghost use Rattle.std.specs.Prelude.{◌≡◌, ◌≤◌, None, IfOk, IfErr};
 ghost use Rattle.at_commands.specs.Writing.{Ends, Wrote};
-ghost use Rattle.at_report.specs.Pieces.{joined};
+ghost use Rattle.at_commands.specs.Prelude.{joined};
 
 use at_io::{Sink, put_all};
 use at_object::Closed;

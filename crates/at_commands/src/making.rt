@@ -3,8 +3,7 @@
 ghost use Rattle.std.specs.Prelude.{◌≡◌, ◌≢◌, ◌≤◌, None, IfOk};
 ghost use Rattle.at_commands.specs.Answered.{AnsweredMake};
 ghost use Rattle.at_commands.specs.Made.{IsMade, SummarizesRun, made};
-ghost use Rattle.at_io.specs.Faults.{Rose};
-ghost use Rattle.at_loading.specs.Limits.{MayMake};
+ghost use Rattle.at_commands.specs.Prelude.{Rose, MayMake};
 
 use crate::ending::{Printed, end_keeping};
 use crate::generating::{Made, generate};

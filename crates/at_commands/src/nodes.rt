@@ -1,14 +1,10 @@
 //! Nodes that messages are delivered to.
 
 ghost use Rattle.std.specs.Prelude.{◌≡◌, ◌^◌, ◌<◌, ◌≤◌, ◌++◌, [], ◌∷◌, length, replicate, map, All, List, Ok, IfOk, OnOk};
-ghost use Rattle.at_broadcast.specs.Node.{IsNode, starting_state};
-ghost use Rattle.at_ledger.specs.Files.{contents_of};
-ghost use Rattle.at_files.specs.Deliveries.{IsDelivery};
-ghost use Rattle.at_files.specs.declared.deliveries.Delivery.{Delivery};
-ghost use Rattle.at_loading.specs.Loading.{loaded_shown};
+ghost use Rattle.at_commands.specs.Prelude.{singles_of, IsNode, starting_state, contents_of, IsDelivery, Delivery, loaded_shown};
 ghost use Rattle.at_commands.specs.Nodes.{AreNodesOf, AreSent, IsNodeOf, counts_of};
 
-use at_broadcast::{Message, Node};
+use at_broadcast::{LogBook, Message, Node};
 use at_files::Delivery;
 use at_ledger::Book;
 use at_loading::Loaded;
@@ -17,13 +13,14 @@ use std::alloc::{AllocError, Global};
 /// A node for each process, to which nothing was delivered.
 fn new_nodes(alloc: Global, book: &Book) -> Result<Vec<Node>, AllocError>
     ensures nodes { IfOk result
-        (λ nodes. nodes.items ≡ replicate book.now.processes (starting_state book.now)) }
+        (λ nodes. nodes.items ≡ replicate book.now.processes (starting_state (singles_of book.now))) }
     ensures steady { IfOk result (λ nodes. All IsNode nodes.items) }
 {
+    let logs = LogBook::of_singles(alloc, book)?;
     let mut nodes = Vec::new(alloc);
     for _process in 0..book.processes() {
-        let node = Node::new(alloc, book)?;
-        let _known = node.validated(0);
+        let node = Node::new(alloc, &logs)?;
+        node.known();
         nodes.push(node)?;
     }
     Ok(nodes)
@@ -38,7 +35,7 @@ fn deliver_one(
     requires count { length sent.now.files.items ≡ sent.now.book.processes }
     requires sent { All (AreSent sent.now.book) (contents_of sent.now.files.items) }
     requires delivery { IsDelivery (counts_of (loaded_shown sent.now)) delivery.now }
-    requires book { node.old.book ≡ sent.now.book }
+    requires book { node.old.book ≡ singles_of sent.now.book }
     ensures { (done : List Delivery)
         → IsNodeOf (loaded_shown sent.now) done delivery.now.node node.old
         → OnOk result
@@ -48,7 +45,7 @@ fn deliver_one(
     let Ok(_) = node.deliver(delivery.sender, delivery.number, message) else {
         return Err(AllocError);
     };
-    let _known = node.validated(delivery.sender);
+    node.known();
     Ok(())
 }
 

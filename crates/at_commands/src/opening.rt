@@ -2,24 +2,20 @@
 
 ghost use Rattle.std.specs.Prelude.{◌≡◌, ◌≤◌, ℕ, length, true, All, Ok, Err, IfOk, IfErr, OnOk};
 ghost use Rattle.at_commands.specs.Running.{HasNewPasses};
-ghost use Rattle.at_io.specs.Shelf.{SameFiles};
-ghost use Rattle.at_ledger.specs.Files.{IsPlayable, contents_of};
-ghost use Rattle.at_loading.specs.Faults.{HasFileNumbers, MayRefuse};
-ghost use Rattle.at_loading.specs.Loading.{IsBookRead, MayReach, Spelled, loaded, loaded_beside, named_book};
-ghost use Rattle.at_loading.specs.Words.{form_shown, words_of};
+ghost use Rattle.at_commands.specs.Prelude.{SameFiles, IsPlayable, contents_of, HasFileNumbers, MayRefuse, IsBookRead, MayReach, Spelled, loaded, loaded_beside, named_book, form_shown, words_of};
 
 use at_files::Names;
 use at_io::Shelf;
 use at_ledger::{Book, Call};
 use at_loading::{Form, load_payments};
-use at_object::{Ledger, NoMemory, Pass};
+use at_object::{Ledger, Pass};
 use at_report::Status;
-use std::alloc::Global;
+use std::alloc::{AllocError, Global};
 use std::thread::{Threads, join_mut};
 
 /// A new ledger of the book with its passes. A board takes memory for all room that its book has, so the ledger is made for the own room
 /// that can be used.
-fn open(alloc: Global, book: &Book) -> Result<(Ledger, Vec<Pass>), NoMemory>
+fn open(alloc: Global, book: &Book) -> Result<(Ledger, Vec<Pass>), AllocError>
     ensures { IfOk result (λ r. HasNewPasses book.now r.0 r.1.items) }
 {
     let usable = book.with_usable_room(alloc)?;
@@ -36,7 +32,7 @@ pub(crate) fn open_and_load<R: Threads, F: Shelf>(
     form: &Form<'_>,
     shelf: &mut F,
 ) -> (
-    Result<(Ledger, Vec<Pass>), NoMemory>,
+    Result<(Ledger, Vec<Pass>), AllocError>,
     Result<Vec<Vec<Call>>, Status>,
 )
     requires { IsBookRead (F.tells shelf.old) (F.file shelf.old) form.now.book.now

@@ -2,21 +2,14 @@
 
 ghost use Rattle.std.specs.Prelude.{◌≡◌, ◌<◌, ◌^◌, ◌++◌, [], length, map, true, All, IfOk, None, Ok, OnOk, Some, if◌then◌else◌};
 ghost use Rattle.at_commands.specs.Asking.{AreAsked, MayBeAsked, job_asked};
-ghost use Rattle.std.specs.Option.{option_map, option_to_list};
-ghost use Rattle.at_ledger.specs.Files.{IsPlayable, contents_of};
-ghost use Rattle.at_ledger.specs.Call.{IsCallOn};
-ghost use Rattle.at_log.specs.Receipts.{calls_of, lists_in};
-ghost use Rattle.at_object.specs.Closings.{AreAccountedFor};
-ghost use Rattle.at_object.specs.Passes.{AreNewPasses, Stands};
+ghost use Rattle.at_commands.specs.Prelude.{option_map, option_to_list, IsPlayable, contents_of, IsCallOn, calls_of, AreAccountedFor, AreNewPasses, Stands, AreCallsOf, line_at, JobTerms};
 ghost use Rattle.at_commands.specs.Running.{AreCosts, AreJobsFor, HasNewPasses, IsClosedAfter, IsPlayed, IsPlayedInOrder, IsPlayedNoting, costs_in, journal_of};
-ghost use Rattle.at_journal.specs.Calls.{AreCallsOf, line_at};
-ghost use Rattle.at_workers.specs.Jobs.{JobTerms};
 
 use at_files::count_calls;
 use at_journal::{CallAt, journal, journal_calls, journal_calls_by_threads};
 use at_ledger::{Book, Call, Line};
 use at_log::Receipt;
-use at_object::{Closed, Ledger, NoMemory, Pass};
+use at_object::{Closed, Ledger, Pass};
 use at_workers::{CallCost, Gate, Job, JobRefused, run_all};
 use std::alloc::{AllocError, Global};
 use std::thread::{Threads, map_vec};
@@ -49,7 +42,11 @@ struct Asked {
 }
 
 /// Each pass with the calls of its process's file.
-fn asked_of(alloc: Global, passes: Vec<Pass>, files: Vec<Vec<Call>>) -> Result<Vec<Asked>, NoMemory>
+fn asked_of(
+    alloc: Global,
+    passes: Vec<Pass>,
+    files: Vec<Vec<Call>>,
+) -> Result<Vec<Asked>, AllocError>
     requires { length passes.items ≡ length files.items }
     ensures { IfOk result (λ r. AreAsked passes.items (contents_of files.items) r.items) }
 {
@@ -66,7 +63,7 @@ fn asked_of(alloc: Global, passes: Vec<Pass>, files: Vec<Vec<Call>>) -> Result<V
 }
 
 /// The jobs, if all of them were made.
-fn all_made(alloc: Global, made: Vec<Result<Job, JobRefused>>) -> Result<Vec<Job>, NoMemory>
+fn all_made(alloc: Global, made: Vec<Result<Job, JobRefused>>) -> Result<Vec<Job>, AllocError>
     ensures { IfOk result (λ jobs. made.items ≡ map Ok jobs.items) }
 {
     let mut jobs = Vec::with_capacity(alloc, made.len())?;
@@ -88,7 +85,7 @@ fn jobs_for<R: Threads + Sync>(
     passes: Vec<Pass>,
     files: Vec<Vec<Call>>,
     notes: bool,
-) -> Result<Vec<Job>, NoMemory>
+) -> Result<Vec<Job>, AllocError>
     requires passes { AreNewPasses ledger.now passes.items }
     requires count { length files.items ≡ ledger.now.book.processes }
     requires known { All (IsPlayable (length ledger.now.book.accounts)) (contents_of files.items) }
@@ -111,9 +108,9 @@ fn jobs_for<R: Threads + Sync>(
 }
 
 /// Adds the costs that a job has noted.
-fn push_noted(all: &mut Vec<Vec<CallCost>>, noted: Option<Vec<CallCost>>) -> Result<(), NoMemory>
-    ensures { OnOk result (lists_in all.new.items
-        ≡ lists_in all.old.items ++ option_to_list (option_map (λ v. v.items) noted)) }
+fn push_noted(all: &mut Vec<Vec<CallCost>>, noted: Option<Vec<CallCost>>) -> Result<(), AllocError>
+    ensures { OnOk result (contents_of all.new.items
+        ≡ contents_of all.old.items ++ option_to_list (option_map (λ v. v.items) noted)) }
 {
     if let Some(costs) = noted {
         all.push(costs)?;
@@ -131,12 +128,12 @@ struct Left {
 }
 
 /// The passes of the jobs, their receipts, and the costs that they have noted.
-fn taken_apart(alloc: Global, jobs: Vec<Job>) -> Result<Left, NoMemory>
+fn taken_apart(alloc: Global, jobs: Vec<Job>) -> Result<Left, AllocError>
     ensures passes { IfOk result
         (λ r. r.passes.items ≡ map (λ (job : JobTerms). job.pass) jobs.items) }
     ensures receipts { IfOk result
-        (λ r. lists_in r.receipts.items ≡ map (λ (job : JobTerms). job.receipts) jobs.items) }
-    ensures costs { IfOk result (λ r. lists_in r.costs.items ≡ costs_in jobs.items) }
+        (λ r. contents_of r.receipts.items ≡ map (λ (job : JobTerms). job.receipts) jobs.items) }
+    ensures costs { IfOk result (λ r. contents_of r.costs.items ≡ costs_in jobs.items) }
 {
     let mut passes = Vec::with_capacity(alloc, jobs.len())?;
     let mut receipts = Vec::with_capacity(alloc, jobs.len())?;
@@ -164,16 +161,16 @@ fn make_calls<R: Threads + Sync, G: Gate + Sync>(
     files: Vec<Vec<Call>>,
     notes: bool,
     gate: &G,
-) -> Result<Left, NoMemory>
+) -> Result<Left, AllocError>
     requires passes { AreNewPasses ledger.now passes.items }
     requires count { length files.items ≡ ledger.now.book.processes }
     requires known { All (IsPlayable (length ledger.now.book.accounts)) (contents_of files.items) }
     ensures accounted { IfOk result
-        (λ r. AreAccountedFor ledger.now r.passes.items (lists_in r.receipts.items)) }
+        (λ r. AreAccountedFor ledger.now r.passes.items (contents_of r.receipts.items)) }
     ensures calls { IfOk result
-        (λ r. map calls_of (lists_in r.receipts.items) ≡ contents_of files.items) }
+        (λ r. map calls_of (contents_of r.receipts.items) ≡ contents_of files.items) }
     ensures costs { notes ≡ true → IfOk result
-        (λ r. AreCosts ledger.now.book (lists_in r.receipts.items) (lists_in r.costs.items)) }
+        (λ r. AreCosts ledger.now.book (contents_of r.receipts.items) (contents_of r.costs.items)) }
 {
     let mut jobs = jobs_for(rt, alloc, ledger, passes, files, notes)?;
     run_all(rt, ledger, jobs.as_mut_slice(), gate);
@@ -189,14 +186,14 @@ fn closed_on<R: Threads + Sync, G: Gate + Sync>(
     files: Vec<Vec<Call>>,
     notes: bool,
     gate: &G,
-) -> Result<(Closed, Vec<Vec<CallCost>>), NoMemory>
+) -> Result<(Closed, Vec<Vec<CallCost>>), AllocError>
     requires passes { AreNewPasses opened.0 opened.1.items }
     requires count { length files.items ≡ opened.0.book.processes }
     requires known { All (IsPlayable (length opened.0.book.accounts)) (contents_of files.items) }
     ensures closed { IfOk result (λ r. IsClosedAfter opened.0.book (contents_of files.items) r.0) }
     ensures costs { notes ≡ true
         → IfOk result
-        (λ r. AreCosts opened.0.book r.0.closing.receipts (lists_in r.1.items)) }
+        (λ r. AreCosts opened.0.book r.0.closing.receipts (contents_of r.1.items)) }
 {
     let (ledger, passes) = opened;
     let left = make_calls(rt, alloc, &ledger, passes, files, notes, gate)?;
@@ -220,12 +217,12 @@ fn closed_after<R: Threads + Sync, G: Gate + Sync>(
     files: Vec<Vec<Call>>,
     notes: bool,
     gate: &G,
-) -> Result<(Closed, Vec<Vec<CallCost>>), NoMemory>
+) -> Result<(Closed, Vec<Vec<CallCost>>), AllocError>
     requires count { length files.items ≡ book.now.processes }
     requires known { All (IsPlayable (length book.now.accounts)) (contents_of files.items) }
     ensures closed { IfOk result (λ r. IsClosedAfter book.now (contents_of files.items) r.0) }
     ensures costs { notes ≡ true
-        → IfOk result (λ r. AreCosts book.now r.0.closing.receipts (lists_in r.1.items)) }
+        → IfOk result (λ r. AreCosts book.now r.0.closing.receipts (contents_of r.1.items)) }
 {
     let opened = Ledger::new(alloc, book)?;
     closed_on(rt, alloc, opened, files, notes, gate)
@@ -239,7 +236,7 @@ pub fn play<R: Threads + Sync, G: Gate + Sync>(
     book: &Book,
     files: Vec<Vec<Call>>,
     gate: &G,
-) -> Result<(Closed, Vec<Line>), NoMemory>
+) -> Result<(Closed, Vec<Line>), AllocError>
     requires count { length files.items ≡ book.now.processes }
     requires known { All (IsPlayable (length book.now.accounts)) (contents_of files.items) }
     ensures { IfOk result (λ r. IsPlayed book.now (contents_of files.items) r.0 r.1.items) }
@@ -257,7 +254,7 @@ fn closed_opened<R: Threads + Sync, G: Gate + Sync>(
     opened: (Ledger, Vec<Pass>),
     files: Vec<Vec<Call>>,
     gate: &G,
-) -> Result<Closed, NoMemory>
+) -> Result<Closed, AllocError>
     requires opened { HasNewPasses book.now opened.0 opened.1.items }
     requires count { length files.items ≡ book.now.processes }
     requires known { All (IsPlayable (length book.now.accounts)) (contents_of files.items) }
@@ -276,7 +273,7 @@ fn calls_in_order<R: Threads + Sync>(
     alloc: Global,
     closed: &Closed,
     by_threads: bool,
-) -> Result<Vec<CallAt>, NoMemory>
+) -> Result<Vec<CallAt>, AllocError>
     requires few { All (λ receipts. length receipts < 2 ^ 32) closed.now.closing.receipts }
     ensures calls { IfOk result (λ calls. AreCallsOf closed.now.closing calls.items) }
     ensures lines { IfOk result
@@ -300,7 +297,7 @@ pub(crate) fn play_in_order<R: Threads + Sync, G: Gate + Sync>(
     opened: (Ledger, Vec<Pass>),
     files: Vec<Vec<Call>>,
     gate: &G,
-) -> Result<(Closed, Vec<CallAt>), NoMemory>
+) -> Result<(Closed, Vec<CallAt>), AllocError>
     requires opened { HasNewPasses book.now opened.0 opened.1.items }
     requires count { length files.items ≡ book.now.processes }
     requires known { All (IsPlayable (length book.now.accounts)) (contents_of files.items) }
@@ -321,11 +318,11 @@ pub fn play_noting<R: Threads + Sync, G: Gate + Sync>(
     book: &Book,
     files: Vec<Vec<Call>>,
     gate: &G,
-) -> Result<(Closed, Vec<Vec<CallCost>>), NoMemory>
+) -> Result<(Closed, Vec<Vec<CallCost>>), AllocError>
     requires count { length files.items ≡ book.now.processes }
     requires known { All (IsPlayable (length book.now.accounts)) (contents_of files.items) }
     ensures { IfOk result
-        (λ r. IsPlayedNoting book.now (contents_of files.items) r.0 (lists_in r.1.items)) }
+        (λ r. IsPlayedNoting book.now (contents_of files.items) r.0 (contents_of r.1.items)) }
 {
     book.known();
     closed_after(rt, alloc, book, files, true, gate)

@@ -1,15 +1,9 @@
 //! What is printed of a run by a schedule.
 
 ghost use Rattle.std.specs.Prelude.{◌≡◌, ◌≢◌, ◌+◌, ◌<◌, ◌≤◌, ℕ, All, length, true, None, Ok, Err, IfOk, IfErr, OnOk};
-ghost use Rattle.at_ledger.specs.Files.{IsPlayable, contents_of};
-ghost use Rattle.at_files.specs.Names.{AreNamesOf};
-ghost use Rattle.at_io.specs.Faults.{Rose};
-ghost use Rattle.at_io.specs.Shelf.{SameFiles};
-ghost use Rattle.at_loading.specs.Faults.{HasFurtherNumbers, Kind, MayRefuseOf};
-ghost use Rattle.at_loading.specs.Loading.{loaded_shown};
+ghost use Rattle.at_commands.specs.Prelude.{IsPlayable, contents_of, AreNamesOf, Rose, SameFiles, HasFurtherNumbers, Kind, MayRefuseOf, loaded_shown, replaying_shown};
 ghost use Rattle.at_commands.specs.Answered.{AnsweredTurns};
 ghost use Rattle.at_commands.specs.Replaying.{MayReachReplay, Printing, PrintsReplay, ReportsReplay, SpellsSchedule, replay_loaded, schedule_loaded};
-ghost use Rattle.at_loading.specs.Words.{replaying_shown};
 
 use crate::ending::end;
 use at_files::{ReadScheduleFault, read_schedule};

@@ -4,14 +4,7 @@ ghost use Rattle.std.specs.Prelude.{◌≡◌, ◌≢◌, ◌≤◌, ℕ, All, l
 ghost use Rattle.at_commands.specs.Answer.{Prints, PrintsRead};
 ghost use Rattle.at_commands.specs.Answered.{AnsweredFiles};
 ghost use Rattle.at_commands.specs.Running.{HasNewPasses};
-ghost use Rattle.at_ledger.specs.Files.{IsPlayable, contents_of};
-ghost use Rattle.at_files.specs.Names.{AreNamesOf};
-ghost use Rattle.at_io.specs.Faults.{Rose};
-ghost use Rattle.at_io.specs.Shelf.{SameFiles};
-ghost use Rattle.at_loading.specs.Faults.{HasFileNumbers, MayRefuse};
-ghost use Rattle.at_loading.specs.Loading.{IsBookRead, MayReach, loaded, named_book};
-ghost use Rattle.at_loading.specs.Words.{form_shown, words_of};
-ghost use Rattle.at_report.specs.Report.{checked_line};
+ghost use Rattle.at_commands.specs.Prelude.{IsPlayable, contents_of, AreNamesOf, Rose, SameFiles, HasFileNumbers, MayRefuse, IsBookRead, MayReach, loaded, named_book, form_shown, words_of, checked_line};
 
 use crate::closing_journal::ClosingJournal;
 use crate::ending::{Printed, end_keeping};

@@ -1,15 +1,9 @@
 //! What `verify` says of a report.
 
 ghost use Rattle.std.specs.Prelude.{◌≡◌, ◌≢◌, ◌≤◌, ℕ, All, length, true, None, Err, IfOk, IfErr, OnOk};
-ghost use Rattle.at_ledger.specs.Files.{IsPlayable, contents_of};
-ghost use Rattle.at_files.specs.Names.{AreNamesOf};
-ghost use Rattle.at_io.specs.Faults.{Rose};
-ghost use Rattle.at_io.specs.Limits.{most_file_bytes};
-ghost use Rattle.at_io.specs.Shelf.{SameFiles};
-ghost use Rattle.at_loading.specs.Faults.{HasFurtherNumbers};
+ghost use Rattle.at_commands.specs.Prelude.{IsPlayable, contents_of, AreNamesOf, Rose, most_file_bytes, SameFiles, HasFurtherNumbers, verifying_shown};
 ghost use Rattle.at_commands.specs.Answered.{AnsweredVerify};
 ghost use Rattle.at_commands.specs.Claims.{MayReachClaim, MayRefuseClaim, RefusesClaim, Verifies, VerifiesSpelled, claim_shown, claimed};
-ghost use Rattle.at_loading.specs.Words.{verifying_shown};
 
 use crate::ending::end;
 use at_files::count_calls;

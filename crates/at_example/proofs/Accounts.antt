@@ -1,10 +1,6 @@
 -- The passes and receipts of a ledger of two processes.
 use Rattle.std.proofs.Common.{◌≡◌, ◌<◌, List, [], ◌∷◌, ◌++◌, ap, get_or, length, subst, sym, ◌∙◌, arith, zero, suc}
-use Rattle.std.proofs.lemmas.List.{get_or_append_left, get_or_at, length-append}
-use Rattle.at_board.specs.Knowledge.Seats.{BoardTerms}
-use Rattle.at_log.specs.declared.receipt.Receipt.{Receipt}
-use Rattle.at_object.specs.Closings.{AreAccountedFor, IsAccountedFor}
-use Rattle.at_object.specs.Passes.{AreNewPasses, IsNewPass, PassTerms}
+use Rattle.at_example.proofs.Prelude.{get_or_append_left, get_or_at, length-append, BoardTerms, Receipt, AreAccountedFor, IsAccountedFor, AreNewPasses, IsNewPass, PassTerms}
 
 pub are_accounted_for_two : (ledger : BoardTerms) (x y : PassTerms) (xs ys : List Receipt) → ledger.book.processes ≡ 2
     → IsAccountedFor ledger 0 x xs → IsAccountedFor ledger 1 y ys → AreAccountedFor ledger (x ∷ y ∷ []) (xs ∷ ys ∷ [])

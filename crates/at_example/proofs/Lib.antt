@@ -1,1 +1,3 @@
+pub mod Prelude
 pub mod Accounts
+mod WorkedWords

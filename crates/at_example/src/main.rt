@@ -1,15 +1,28 @@
 //! The asset transfer object in a program of one's own: two processes pay from accounts of one owner and from one that they share,
 //! one hands the other what it has seen, and the journal of the closed ledger is printed.
+//!
+//! Beside it stand the other pieces of code that the guide quotes: what is printed there is proved here.
 #![tactic(auto)]
+
+mod bytes;
+mod counters;
+mod devices;
+mod selling;
+mod threads;
 
 ghost use Rattle.std.specs.Prelude.{◌≡◌, ◌^◌, ◌<◌, [], ◌∷◌, length, map, All, IfOk};
 ghost use Rattle.at_object.specs.Closings.{AreAccountedFor, IsAccountedFor};
 ghost use Rattle.at_object.specs.Passes.{IsNewPass};
 
+pub use crate::bytes::calls_in;
+pub use crate::counters::{Cost, read_counted};
+pub use crate::devices::copy_file;
+pub use crate::selling::{sell, settle};
+pub use crate::threads::{job_of, make_all};
 use at_journal::journal;
 use at_ledger::{Book, BookBuilder, Call, Line, Reply, State, Targets};
 use at_log::Receipt;
-use at_object::{CloseRefused, Closed, Ledger, NoMemory, Pass};
+use at_object::{CloseRefused, Closed, Ledger, Pass};
 use std::alloc::{AllocError, Global};
 use std::io;
 
@@ -47,7 +60,7 @@ fn deal(ledger: &Ledger, zero: &mut Pass, one: &mut Pass) -> ([Receipt; 3], [Rec
 
 /// Makes the calls on a new ledger of the book, and closes it with all passes and receipts.
 #[tactic(auto, using(crate::proofs::Accounts::are_accounted_for_two))]
-fn closed_after(alloc: Global, book: &Book) -> Result<Closed, NoMemory>
+fn closed_after(alloc: Global, book: &Book) -> Result<Closed, AllocError>
     requires four { length book.now.accounts ≡ 4 }
     requires two { book.now.processes ≡ 2 }
     ensures { IfOk result (λ c. All (λ receipts. length receipts < 2 ^ 32) c.closing.receipts) }
@@ -67,7 +80,7 @@ fn close_twice(
     ledger: Ledger,
     passes: Vec<Pass>,
     receipts: Vec<Vec<Receipt>>,
-) -> Result<Closed, NoMemory>
+) -> Result<Closed, AllocError>
     requires { AreAccountedFor ledger passes.items (map (λ list. list.items) receipts.items) }
     ensures { IfOk result (λ c. c.closing.receipts ≡ map (λ list. list.items) receipts.items) }
 {
@@ -78,7 +91,7 @@ fn close_twice(
 }
 
 /// Closes a ledger whose closing was refused, with what was handed back.
-fn close_again(alloc: Global, refused: CloseRefused) -> Result<Closed, NoMemory>
+fn close_again(alloc: Global, refused: CloseRefused) -> Result<Closed, AllocError>
     requires { AreAccountedFor refused.ledger refused.passes.items (map (λ list. list.items) refused.receipts.items) }
     ensures { IfOk result (λ c. c.closing.receipts
         ≡ map (λ list. list.items) refused.receipts.items) }

@@ -1,32 +1,7 @@
 -- The record of an account is the account with its name, written out.
 use Rattle.std.proofs.Common.{◌≡◌, ℕ, ◌+◌, ◌^◌, ◌<◌, ◌≤◌, Bool, true, false, not, ◌==◌, nat_le, nat_lt, inl, inr, List, [], ◌∷◌, ◌++◌, length, map, All, get_or, Option, Some, None, Result, Ok, Err, if◌then◌else◌, codes, decimal, refl, sym, ◌∙◌, ap, subst, arith}
-use Rattle.std.specs.List.{join_with_byte}
-use Rattle.std.proofs.lemmas.Bool.{eqb-true}
-use Rattle.std.proofs.lemmas.Bool.Decides.{nat_tests}
-use Rattle.std.proofs.lemmas.Cmp.{nat_list_eq_equiv}
-use Rattle.std.proofs.lemmas.Fmt.{length-decimal-le}
-use Rattle.std.proofs.lemmas.List.{length_push}
-use Rattle.std.proofs.lemmas.List.Elements.{All-head, All-push, All-tail}
-use Rattle.std.proofs.lemmas.List.Splits.{join_with_byte-slice_split}
-use Rattle.std.proofs.lemmas.Map.Keys.{IsDistinct-push}
-use Rattle.at_base.specs.Numbers.{number_of}
-use Rattle.at_base.proofs.NumberLaws.{number_of-some}
-use Rattle.at_ledger.specs.Account.{AccountTerms}
-use Rattle.at_ledger.specs.Book.{BookTerms}
-use Rattle.at_ledger.specs.Draft.{account_fault, owners_fault, sums_fault, terms_with, with_account}
-use Rattle.at_ledger.specs.declared.draft.BookError.{BookError}
-use Rattle.at_ledger.specs.declared.draft.BookError.TheVariants.{OwnersNotRising, TooManyAccounts, TooManyOwners}
-use Rattle.at_ledger.specs.Limits.{most_accounts, most_owners}
-use Rattle.at_ledger.proofs.Faults.{choice-none, option_or-none}
-use Rattle.at_ledger.proofs.Owners.{IsAccount-from_none}
-use Rattle.at_files.specs.Names.{AreFormed, AreNames, AreNamesOf, has_name, is_name, position_of}
-use Rattle.at_files.specs.Records.{Fields, before, field_of, number_at, has_shape}
-use Rattle.at_files.specs.BookRecords.{NamedBook, named_terms, numbered_terms, numbers_of, owner_known, owners_named, pieces_of, with_name, with_named, with_named_record, with_plain_record, with_account_record, with_terms, within_limits}
-use Rattle.at_files.specs.BookFile.{fields_of_account, owners_text}
-use Rattle.at_files.specs.declared.book_fault.BookWhy.{BookWhy}
+use Rattle.at_files.proofs.Prelude.{join_with_byte, eqb-true, nat_tests, nat_list_eq_equiv, length-decimal-le, length_push, All-head, All-push, All-tail, join_with_byte-slice_split, IsDistinct-push, number_of, number_of-some, AccountTerms, BookTerms, account_fault, owners_fault, sums_fault, terms_with, with_account, BookError, OwnersNotRising, TooManyAccounts, TooManyOwners, most_accounts, most_owners, choice-none, option_or-none, IsAccount-from_none, AreFormed, AreNames, AreNamesOf, has_name, is_name, position_of, Fields, before, field_of, number_at, has_shape, NamedBook, named_terms, numbered_terms, numbers_of, owner_known, owners_named, pieces_of, with_name, with_named, with_named_record, with_plain_record, with_account_record, with_terms, within_limits, fields_of_account, owners_text, BookWhy, most_name_bytes, and_then}
 use Rattle.at_files.specs.declared.book_fault.BookWhy.TheVariants as why
-use Rattle.at_files.specs.Limits.{most_name_bytes}
-use Rattle.at_files.specs.Results.{and_then}
 use Rattle.at_files.proofs.Faults.{Err≢Ok}
 use Rattle.at_files.proofs.NameLaws.{decimal-AreNames, decimals_below-more, has_name-decimals_below, known_version, position_of-Some}
 use Rattle.at_files.proofs.OwnerLaws.{pieces_of-some}

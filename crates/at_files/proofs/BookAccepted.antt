@@ -1,34 +1,6 @@
 -- A book file that is a book without a fault with its names, written out, is read as this book.
 use Rattle.std.proofs.Common.{◌≡◌, ℕ, ◌+◌, ◌^◌, ◌<◌, ◌≤◌, true, false, ◌⊎◌, inl, inr, ◌==◌, nat_lt, nat_le, List, [], ◌∷◌, ◌++◌, length, map, All, get_or, Some, None, Result, Ok, Err, bytes_eq, codes, decimal, refl, sym, ◌∙◌, ap, subst, append_assoc, append-nil, length-append, arith}
-use Rattle.std.specs.Char.{is_ascii_digit}
-use Rattle.std.specs.List.{IsDistinct, slice_split, join_with_byte}
-use Rattle.std.proofs.lemmas.Bool.{eq-eqb}
-use Rattle.std.proofs.lemmas.Bool.Decides.{nat_tests}
-use Rattle.std.proofs.lemmas.Cmp.{nat_list_eq_equiv}
-use Rattle.std.proofs.lemmas.Fmt.{digits_decimal, decimal_digit, decimal_nonempty}
-use Rattle.std.proofs.lemmas.List.{get_or_append_left, length_push}
-use Rattle.std.proofs.lemmas.List.Elements.{All-cons, All-head, All-tail}
-use Rattle.std.proofs.lemmas.List.Folds.{list_any_none}
-use Rattle.std.proofs.lemmas.List.Sums.{AllPass-from_list_all}
-use Rattle.std.proofs.lemmas.List.Splits.{slice_split_none, slice_split_at}
-use Rattle.std.proofs.lemmas.Map.Keys.{apart_from_distinct}
-use Rattle.std.proofs.Math.Seq.{get_or-append_seam}
-use Rattle.csv.specs.Records.{field_at}
-use Rattle.at_base.specs.Numbers.{number_of}
-use Rattle.at_base.proofs.NumberLaws.{number_of-decimal, own}
-use Rattle.at_ledger.specs.Account.{AccountTerms, rounds_room}
-use Rattle.at_ledger.specs.Book.{BookTerms, IsBook, rounds_of, total_of}
-use Rattle.at_ledger.specs.Draft.{owner_fault, owners_fault, sums_fault, account_fault, accounts_fault, with_account, book_without_accounts}
-use Rattle.at_ledger.specs.declared.draft.BookError.TheVariants.{NoAccount, OwnerOutOfRange, OwnersNotRising, TooManyAccounts, TooManyOwners, RoundsOverLimit, TotalOverLimit}
-use Rattle.at_ledger.specs.Limits.{most_accounts, most_owners, most_processes, most_rounds}
-use Rattle.at_ledger.proofs.Faults.{choice-none, option_or-none}
-use Rattle.at_ledger.proofs.Owners.{IsAccount-from_none}
-use Rattle.at_files.specs.Names.{AreFormed, AreNames, AreNamesOf, NameList, has_name, is_name, is_name_byte}
-use Rattle.at_files.specs.Records.{Fields}
-use Rattle.at_files.specs.BookRecords.{NamedBook, book_begun, limits_of, numbers_of, owners_named, pieces_of, processes_of, version_of, with_named, with_named_record, with_plain_record, with_processes, with_account_record}
-use Rattle.at_files.specs.BookFile.{accounts_from, book_at_end, book_of_records, fields_of_account, fields_of_processes, owners_text, account_records, records_of_book, Spells}
-use Rattle.at_files.specs.declared.book_fault.BadBook.{BadBook}
-use Rattle.at_files.specs.declared.book_fault.ReadBookFault.{ReadBookFault}
+use Rattle.at_files.proofs.Prelude.{is_ascii_digit, IsDistinct, slice_split, join_with_byte, eq-eqb, nat_tests, nat_list_eq_equiv, digits_decimal, decimal_digit, decimal_nonempty, get_or_append_left, length_push, All-cons, All-head, All-tail, list_any_none, AllPass-from_list_all, slice_split_none, slice_split_at, apart_from_distinct, get_or-append_seam, field_at, number_of, number_of-decimal, own, AccountTerms, rounds_room, BookTerms, IsBook, rounds_of, total_of, owner_fault, owners_fault, sums_fault, account_fault, accounts_fault, with_account, book_without_accounts, NoAccount, OwnerOutOfRange, OwnersNotRising, TooManyAccounts, TooManyOwners, RoundsOverLimit, TotalOverLimit, most_accounts, most_owners, most_processes, most_rounds, choice-none, option_or-none, IsAccount-from_none, AreFormed, AreNames, AreNamesOf, NameList, has_name, is_name, is_name_byte, Fields, NamedBook, book_begun, limits_of, numbers_of, owners_named, pieces_of, processes_of, version_of, with_named, with_named_record, with_plain_record, with_processes, with_account_record, accounts_from, book_at_end, book_of_records, fields_of_account, fields_of_processes, owners_text, account_records, records_of_book, Spells, BadBook, ReadBookFault}
 use Rattle.at_files.specs.declared.book_fault.ReadBookFault.TheVariants.{Bad, NoMemory}
 use Rattle.at_files.proofs.AccountLaws.{map-name_in, name_in}
 use Rattle.at_files.proofs.BookLimits.{accounts_fault-IsBook, limits_fault-within}

@@ -1,12 +1,6 @@
 -- A checked book has no fault.
 use Rattle.std.proofs.Common.{◌≡◌, ℕ, ◌+◌, ◌^◌, ◌<◌, ◌≤◌, true, false, ◌==◌, nat_lt, nat_le, List, [], ◌∷◌, length, All, None, sum_by, refl, length-append, arith}
-use Rattle.std.proofs.lemmas.Bool.Decides.{nat_tests}
-use Rattle.std.proofs.lemmas.List.Elements.{All-head, All-tail}
-use Rattle.std.proofs.lemmas.List.Sums.{sum_by-cons, sum_by_push}
-use Rattle.at_ledger.specs.Account.{AccountTerms, IsRisingFrom, rounds_room}
-use Rattle.at_ledger.specs.Book.{BookTerms, IsAccount, IsBook, rounds_of, total_of}
-use Rattle.at_ledger.specs.Draft.{limits_fault, owner_fault, owners_fault, account_fault, accounts_fault, with_account, book_without_accounts}
-use Rattle.at_ledger.specs.Limits.{most_accounts, most_own_room, most_owners, most_processes, most_request_room, most_rounds}
+use Rattle.at_files.proofs.Prelude.{nat_tests, All-head, All-tail, sum_by-cons, sum_by_push, AccountTerms, IsRisingFrom, rounds_room, BookTerms, IsAccount, IsBook, rounds_of, total_of, limits_fault, owner_fault, owners_fault, account_fault, accounts_fault, with_account, book_without_accounts, most_accounts, most_own_room, most_owners, most_processes, most_request_room, most_rounds}
 
 owner_fault-free : (processes account count least owner : ℕ) → owner < processes → least ≤ owner → count < most_owners → owner_fault processes account count least owner ≡ None
 owner_fault-free processes account count least owner known rising few =

@@ -1,20 +1,7 @@
 -- The records of a book file are the book with its names, written out.
 use Rattle.std.proofs.Common.{◌≡◌, ℕ, ◌+◌, Bool, true, false, ◌⊎◌, inl, inr, ◌==◌, nat_le, List, [], ◌∷◌, ◌++◌, length, Result, Ok, Err, if◌then◌else◌, bytes_eq, codes, decimal, refl, sym, ◌∙◌, ap, subst, append_assoc, append-nil, arith}
-use Rattle.std.proofs.lemmas.Fmt.{decimal_digit}
-use Rattle.std.proofs.lemmas.Slice.Eq.{bytes_eq-Decides}
-use Rattle.csv.specs.Records.{field_at}
-use Rattle.at_ledger.specs.Account.{AccountTerms}
-use Rattle.at_ledger.specs.Book.{IsBook, BookTerms}
-use Rattle.at_ledger.specs.declared.draft.BookError.TheVariants.{NoAccount, NoProcess, TooManyProcesses}
-use Rattle.at_ledger.specs.Limits.{most_processes}
-use Rattle.at_files.specs.Names.{NameList, AreNamesOf}
-use Rattle.at_files.specs.Records.{Fields, field_of, has_shape}
-use Rattle.at_files.specs.BookRecords.{NamedBook, book_begun, counted_processes, limits_of, named_processes, processes_of, version_of, with_name, with_process, with_processes, with_account_record}
-use Rattle.at_files.specs.BookFile.{at_line, book_at_end, accounts_from, limits_from, processes_from, book_of_records, account_records, fields_of_processes, records_of_book, Spells}
-use Rattle.at_files.specs.declared.book_fault.BookWhy.{BookWhy}
+use Rattle.at_files.proofs.Prelude.{decimal_digit, bytes_eq-Decides, field_at, AccountTerms, IsBook, BookTerms, NoAccount, NoProcess, TooManyProcesses, most_processes, NameList, AreNamesOf, Fields, field_of, has_shape, NamedBook, book_begun, counted_processes, limits_of, named_processes, processes_of, version_of, with_name, with_process, with_processes, with_account_record, at_line, book_at_end, accounts_from, limits_from, processes_from, book_of_records, account_records, fields_of_processes, records_of_book, Spells, BookWhy, BadBook, and_then}
 use Rattle.at_files.specs.declared.book_fault.BookWhy.TheVariants as why
-use Rattle.at_files.specs.declared.book_fault.BadBook.{BadBook}
-use Rattle.at_files.specs.Results.{and_then}
 use Rattle.at_files.proofs.Faults.{Err≢Ok}
 use Rattle.at_files.proofs.NameLaws.{length-decimals_below}
 use Rattle.at_files.proofs.FieldLaws.{length-has_shape, first-has_shape, two_fields, three_fields, field_of-number_at}

@@ -1,18 +1,7 @@
 -- The walk over the records of a book file.
 use Rattle.std.proofs.Common.{◌≡◌, ℕ, ◌+◌, ◌≤◌, Bool, true, false, ◌⊎◌, inl, inr, ◌==◌, nat_le, nat_lt, List, [], ◌∷◌, length, drop, Option, Some, None, Result, Ok, Err, bytes_eq, codes, if◌then◌else◌, refl, sym, ◌∙◌, ap, subst, arith}
-use Rattle.std.proofs.lemmas.Bool.Decides.{nat_tests}
-use Rattle.std.proofs.lemmas.List.{length_push}
-use Rattle.at_ledger.specs.Book.{BookTerms, IsBook}
-use Rattle.at_ledger.specs.Draft.{limits_fault}
-use Rattle.at_ledger.specs.declared.draft.BookError.TheVariants.{NoProcess, TooManyAccounts, TooManyProcesses}
-use Rattle.at_ledger.specs.Limits.{most_accounts, most_processes}
-use Rattle.at_files.specs.Names.{AreNames, AreNamesOf, NameList, decimals_below}
-use Rattle.at_files.specs.Records.{Fields, field_of, number_at, has_shape}
-use Rattle.at_files.specs.BookRecords.{NamedBook, book_begun, book_with_rooms, counted_processes, limits_of, named_processes, process_count, processes_of, version_of, with_name, with_process, with_processes, with_account_record}
-use Rattle.at_files.specs.BookFile.{at_line, accounts_from, book_at_end}
+use Rattle.at_files.proofs.Prelude.{nat_tests, length_push, BookTerms, IsBook, limits_fault, NoProcess, TooManyAccounts, TooManyProcesses, most_accounts, most_processes, AreNames, AreNamesOf, NameList, decimals_below, Fields, field_of, number_at, has_shape, NamedBook, book_begun, book_with_rooms, counted_processes, limits_of, named_processes, process_count, processes_of, version_of, with_name, with_process, with_processes, with_account_record, at_line, accounts_from, book_at_end, BadBook, and_then}
 use Rattle.at_files.specs.declared.book_fault.BookWhy.TheVariants as why
-use Rattle.at_files.specs.declared.book_fault.BadBook.{BadBook}
-use Rattle.at_files.specs.Results.{and_then}
 use Rattle.at_files.proofs.AccountLaws.{AreNames-name, and_then-leads, with_name-added, with_account_record-adds, within_limits-ok}
 use Rattle.at_files.proofs.NameLaws.{AreNames-decimals_below, AreNames-none, known_version}
 

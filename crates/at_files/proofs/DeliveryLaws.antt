@@ -1,19 +1,6 @@
 -- The record of a delivery is the delivery, written out.
 use Rattle.std.proofs.Common.{◌≡◌, ℕ, ◌≤◌, Bool, true, false, ◌&&◌, ◌==◌, nat_lt, List, length, All, Vec, slice_index, Option, Some, None, Result, Ok, Err, IfErr, IfOk, if◌then◌else◌, refl, ◌∙◌, subst, arith}
-use Rattle.std.specs.Global.{Global}
-use Rattle.std.proofs.lemmas.Bool.{eqb-true, ltb-true}
-use Rattle.std.proofs.lemmas.Bool.Decides.{nat_tests}
-use Rattle.csv.specs.Records.{field_at}
-use Rattle.at_base.proofs.NumberLaws.{number_of-decimal}
-use Rattle.at_files.specs.Limits.{most_deliveries, most_messages}
-use Rattle.at_files.specs.Records.{Fields, number_at}
-use Rattle.at_files.specs.Deliveries.{Delivers, IsDelivery, deliveries_of, delivery_of, delivery_read, fields_of_delivery}
-use Rattle.at_files.specs.declared.deliveries.Delivery.{Delivery}
-use Rattle.at_files.specs.declared.deliveries.OrderWhy.{OrderWhy}
-use Rattle.at_files.specs.declared.deliveries.OrderWhy.TheVariants.{Shape, TooManyDeliveries}
-use Rattle.at_files.specs.declared.spelled.BadRecord.{BadRecord}
-use Rattle.at_files.specs.declared.spelled.ReadFault.{ReadFault}
-use Rattle.at_files.specs.declared.spelled.ReadFault.TheVariants.{Bad, NoMemory}
+use Rattle.at_files.proofs.Prelude.{Global, eqb-true, ltb-true, nat_tests, field_at, number_of-decimal, most_deliveries, most_messages, Fields, number_at, Delivers, IsDelivery, deliveries_of, delivery_of, delivery_read, fields_of_delivery, Delivery, OrderWhy, Shape, TooManyDeliveries, BadRecord, ReadFault, Bad, NoMemory}
 use Rattle.at_files.proofs.FieldLaws.{both_tests, field_of-number_at, three_fields}
 use Rattle.at_files.proofs.SpelledLaws.{AreWritten, IsForm, items_of-map, read-accepts, read-written}
 

@@ -1,13 +1,6 @@
 -- The faults that answers carry.
 use Rattle.std.proofs.Common.{◌≡◌, ℕ, Option, Some, None, Result, Ok, Err, ap}
-use Rattle.at_ledger.specs.declared.draft.BookError.{BookError}
-use Rattle.at_files.specs.BookFile.{at_line}
-use Rattle.at_files.specs.BookRecords.{within_limits}
-use Rattle.at_files.specs.Results.{and_then}
-use Rattle.at_files.specs.declared.book_fault.BadBook.{BadBook}
-use Rattle.at_files.specs.declared.book_fault.BookWhy.{BookWhy}
-use Rattle.at_files.specs.declared.book_fault.BookWhy.TheVariants.{Book}
-use Rattle.at_files.specs.declared.book_fault.ReadBookFault.{ReadBookFault}
+use Rattle.at_files.proofs.Prelude.{BookError, at_line, within_limits, and_then, BadBook, BookWhy, Book, ReadBookFault}
 use Rattle.at_files.specs.declared.book_fault.ReadBookFault.TheVariants.{Bad}
 
 -- a fault is no value. It is stated over plain variables, since `cc` looks at all that is known where it is called

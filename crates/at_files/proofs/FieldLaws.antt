@@ -1,11 +1,6 @@
 -- What a record of a known form holds.
 use Rattle.std.proofs.Common.{◌≡◌, ℕ, zero, suc, ◌+◌, ◌<◌, ◌^◌, Bool, true, false, ◌&&◌, ◌==◌, List, [], ◌∷◌, length, drop, get_or, Some, bytes_eq, decimal, refl, ◌∙◌, arith}
-use Rattle.std.proofs.lemmas.Bool.{eqb-true}
-use Rattle.std.proofs.lemmas.List.{drop_more}
-use Rattle.std.proofs.lemmas.Slice.Eq.{bytes_eq-Decides}
-use Rattle.csv.specs.Records.{field_at}
-use Rattle.at_base.proofs.NumberLaws.{number_of-some}
-use Rattle.at_files.specs.Records.{Fields, field_of, number_at, has_shape}
+use Rattle.at_files.proofs.Prelude.{eqb-true, drop_more, bytes_eq-Decides, field_at, number_of-some, Fields, field_of, number_at, has_shape}
 
 pub both_tests : (p q : Bool) → (p && q) ≡ true → (p ≡ true) × (q ≡ true)
 both_tests true q h = (refl, h)

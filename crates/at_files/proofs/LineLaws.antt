@@ -1,19 +1,8 @@
 -- What the machine of `csv` reads of lines in which nothing is quoted: their fields, and then the records of the rest.
 use Rattle.std.proofs.Common.{◌≡◌, ◌≢◌, ◌==◌, true, not, zero, suc, ◌+◌, ◌<◌, ◌≤◌, ℕ, List, [], ◌∷◌, ◌++◌, length, drop, take, get_or, Option, Some, refl, ap, sym, ◌∙◌, arith}
-use Rattle.std.specs.Borrow.{Bor}
-use Rattle.std.specs.List.{between}
-use Rattle.std.proofs.lemmas.Bool.{eqb-true}
-use Rattle.std.proofs.lemmas.List.{drop-append-le, drop_all, drop_more, get_or-map, length-drop, length-take-le, map-append, take_more}
-use Rattle.std.proofs.lemmas.List.Edits.{between_none}
-use Rattle.std.proofs.lemmas.List.Elements.{All-drop, All-get_or}
-use Rattle.std.proofs.lemmas.Slice.{between_is, between_to_end}
+use Rattle.at_files.proofs.Prelude.{Bor, between, eqb-true, drop-append-le, drop_all, drop_more, get_or-map, length-drop, length-take-le, map-append, take_more, between_none, All-drop, All-get_or, between_is, between_to_end, Read, next_record, step, default_config, records_from, records_next, strip_bom, field_at, Fields, field_of, IsPlain, IsPlainByte, line_records, records_read_from, texts_of}
 use Rattle.csv.specs.declared.parser.Action.TheVariants as act
 use Rattle.csv.specs.declared.parser.State.TheVariants as st
-use Rattle.csv.specs.Machine.{Read, next_record, step}
-use Rattle.csv.specs.Reading.{default_config, records_from, records_next, strip_bom}
-use Rattle.csv.specs.Records.{field_at}
-use Rattle.at_files.specs.Records.{Fields, field_of}
-use Rattle.at_files.specs.Reading.{IsPlain, IsPlainByte, line_records, records_read_from, texts_of}
 use Rattle.at_files.proofs.FieldLaws.{get_or-field_of}
 use Rattle.at_files.proofs.RecordLaws.{records_read_from-next}
 
@@ -99,55 +88,55 @@ between-more text start i begun inside =
     between_is text start (i + 1) ∙ ap (drop start) (take_more text i 0 inside)
     ∙ drop-append-le start (take i text) (get_or text i 0 ∷ []) (omega (arith, length-take-le i text (omega arith))) ∙ rw (← between_is text start i) refl
 
--- so much of the first line is cut: these fields, and the bytes from `start` to `i` of the next one
-pub record IsCut (text : List ℕ) (fields : Fields) (start i : ℕ) : Type 0 where
+-- so much of the first line is split: these fields, and the bytes from `start` to `i` of the next one
+pub record IsSplit (text : List ℕ) (fields : Fields) (start i : ℕ) : Type 0 where
   pub begun : start ≤ i
   pub reads : first_record text ≡ reads_on fields (between start i text) (drop i text)
 
-pub IsCut-begins : (text : List ℕ) → IsPlain text → 0 < length text → get_or text 0 0 ≢ 10 → IsCut text [] 0 0
-IsCut-begins [] plain some first = absurd (omega arith)
-IsCut-begins (c ∷ text) plain some first = record {
+pub IsSplit-begins : (text : List ℕ) → IsPlain text → 0 < length text → get_or text 0 0 ≢ 10 → IsSplit text [] 0 0
+IsSplit-begins [] plain some first = absurd (omega arith)
+IsSplit-begins (c ∷ text) plain some first = record {
   begun = omega arith;
   reads = rw (between_none (c ∷ text) 0) (first_record-begins c text (first_byte c text plain).0 (first_byte c text plain).1 first);
 }
 
-pub IsCut-copies : (text : List ℕ) (fields : Fields) (start i : ℕ) → IsPlain text → i < length text → get_or text i 0 ≢ 44 → get_or text i 0 ≢ 10
-    → IsCut text fields start i → IsCut text fields start (i + 1)
-IsCut-copies text fields start i plain inside no_comma no_newline cut =
+pub IsSplit-copies : (text : List ℕ) (fields : Fields) (start i : ℕ) → IsPlain text → i < length text → get_or text i 0 ≢ 44 → get_or text i 0 ≢ 10
+    → IsSplit text fields start i → IsSplit text fields start (i + 1)
+IsSplit-copies text fields start i plain inside no_comma no_newline split =
     let byte = All-get_or IsPlainByte text i 0 inside plain in
     record {
-      begun = let begun = cut.begun in omega arith;
+      begun = let begun = split.begun in omega arith;
       reads =
-          cut.reads ∙ ap (reads_on fields (between start i text)) (drop_more text i 0 inside)
+          split.reads ∙ ap (reads_on fields (between start i text)) (drop_more text i 0 inside)
           ∙ reads_on-copies fields (between start i text) (get_or text i 0) (drop (i + 1) text) no_comma byte.1 no_newline
-          ∙ rw (between-more text start i cut.begun inside) refl;
+          ∙ rw (between-more text start i split.begun inside) refl;
     }
 
-pub IsCut-comma : (text : List ℕ) (fields : Fields) (start i : ℕ) → IsPlain text → i < length text → get_or text i 0 ≡ 44
-    → IsCut text fields start i → IsCut text (fields ++ between start i text ∷ []) (i + 1) (i + 1)
-IsCut-comma text fields start i plain inside comma cut = record {
+pub IsSplit-comma : (text : List ℕ) (fields : Fields) (start i : ℕ) → IsPlain text → i < length text → get_or text i 0 ≡ 44
+    → IsSplit text fields start i → IsSplit text (fields ++ between start i text ∷ []) (i + 1) (i + 1)
+IsSplit-comma text fields start i plain inside comma split = record {
   begun = omega arith;
   reads =
-      cut.reads ∙ ap (reads_on fields (between start i text)) (drop_more text i 0 inside ∙ rw comma refl)
+      split.reads ∙ ap (reads_on fields (between start i text)) (drop_more text i 0 inside ∙ rw comma refl)
       ∙ reads_on-comma fields (between start i text) (drop (i + 1) text) (All-drop IsPlainByte (i + 1) text plain)
       ∙ rw (between_none text (i + 1)) refl;
 }
 
 -- the first line ends: the records are its fields and the records of the rest
 pub line_records-newline : (text : List ℕ) (fields : Fields) (start i : ℕ) → i < length text → get_or text i 0 ≡ 10
-    → IsCut text fields start i → line_records text ≡ (fields ++ between start i text ∷ []) ∷ line_records (drop (i + 1) text)
-line_records-newline text fields start i inside newline cut =
+    → IsSplit text fields start i → line_records text ≡ (fields ++ between start i text ∷ []) ∷ line_records (drop (i + 1) text)
+line_records-newline text fields start i inside newline split =
     line_records-first text (fields ++ between start i text ∷ []) (drop (i + 1) text)
-    (cut.reads ∙ ap (reads_on fields (between start i text)) (drop_more text i 0 inside ∙ rw newline refl)
+    (split.reads ∙ ap (reads_on fields (between start i text)) (drop_more text i 0 inside ∙ rw newline refl)
     ∙ reads_on-newline fields (between start i text) (drop (i + 1) text))
 
-pub line_records-end : (text : List ℕ) (fields : Fields) (start : ℕ) → IsCut text fields start (length text)
+pub line_records-end : (text : List ℕ) (fields : Fields) (start : ℕ) → IsSplit text fields start (length text)
     → line_records text ≡ (fields ++ between start (length text) text ∷ []) ∷ line_records (drop (length text) text)
-line_records-end text fields start cut =
+line_records-end text fields start split =
     let none = drop_all (length text) text (omega arith) in
     rw none
     (line_records-first text (fields ++ between start (length text) text ∷ []) []
-    (cut.reads ∙ ap (reads_on fields (between start (length text) text)) none ∙ reads_on-end fields (between start (length text) text)))
+    (split.reads ∙ ap (reads_on fields (between start (length text) text)) none ∙ reads_on-end fields (between start (length text) text)))
 
 -- a field more
 pub texts_of-more : (slices : List (Bor (List ℕ))) (slice : Bor (List ℕ)) → texts_of (slices ++ slice ∷ []) ≡ texts_of slices ++ slice.now ∷ []

@@ -1,23 +1,8 @@
 -- The record of a message is the message, written out.
 use Rattle.std.proofs.Common.{◌≡◌, ℕ, ◌+◌, ◌-◌, ◌^◌, ◌<◌, ◌≤◌, Bool, true, false, ◌&&◌, ◌==◌, nat_le, nat_lt, List, [], ◌∷◌, length, drop, map, All, Vec, get_or, Option, Some, None, Result, Ok, Err, IfErr, IfOk, if◌then◌else◌, codes, decimal, refl, sym, ◌∙◌, ap, subst, arith}
-use Rattle.std.specs.Global.{Global}
-use Rattle.std.proofs.lemmas.Bool.{eq-eqb, le-leb, leb-true, ltb-true}
-use Rattle.std.proofs.lemmas.Bool.Decides.{nat_tests}
-use Rattle.std.proofs.lemmas.List.{ext_get_or, length-drop, length-map}
-use Rattle.std.proofs.lemmas.List.Elements.{All-cons, All-head, All-tail}
-use Rattle.csv.specs.Records.{field_at}
-use Rattle.at_base.proofs.NumberLaws.{number_of-decimal}
-use Rattle.at_ledger.specs.Book.{BookTerms}
-use Rattle.at_broadcast.specs.declared.message.Message.{Message}
-use Rattle.at_files.specs.BookRecords.{numbers_of}
-use Rattle.at_files.specs.Limits.{most_messages}
-use Rattle.at_files.specs.Records.{Fields, field_of, has_shape, number_at}
-use Rattle.at_files.specs.Messages.{IsSent, Sends, are_counts, fields_of_message, message_read, message_spelled, messages_spelled}
-use Rattle.at_files.specs.declared.messages.MessagesWhy.{MessagesWhy}
-use Rattle.at_files.specs.declared.messages.MessagesWhy.TheVariants.{Shape, TooManyMessages}
-use Rattle.at_files.specs.declared.spelled.BadRecord.{BadRecord}
-use Rattle.at_files.specs.declared.spelled.ReadFault.{ReadFault}
-use Rattle.at_files.specs.declared.spelled.ReadFault.TheVariants.{Bad, NoMemory}
+use Rattle.at_files.proofs.Prelude.{Global, eq-eqb, le-leb, leb-true, ltb-true, nat_tests, ext_get_or, length-drop, length-map, All-cons, All-head, All-tail, field_at, number_of-decimal, BookTerms, Message, numbers_of, most_messages, Fields, field_of, has_shape, number_at, IsSent, Sends, are_counts, fields_of_message, message_read, message_spelled, messages_spelled, MessagesWhy, TooManyMessages, BadRecord, ReadFault, Bad, NoMemory}
+use Rattle.at_files.specs.Messages.{target_of}
+use Rattle.at_files.specs.declared.messages.MessagesWhy.TheVariants.{Shape}
 use Rattle.at_files.proofs.Faults.{Err≢Ok}
 use Rattle.at_files.proofs.AccountLaws.{pieces-numbers_of}
 use Rattle.at_files.proofs.BookAccepted.{Fits64, numbers_of-decimals}
@@ -82,9 +67,11 @@ message_read-IsSent b fields m (Some from) (Some to) (Some amount) (Some deps) s
             pieces,
           ) refl,
       record {
+        one = refl;
         known = record {
           source = ltb-true from (length b.accounts) both.0;
-          target = ltb-true to (length b.accounts) both.1;
+          targets = All-cons (λ t. t.0 < length b.accounts) (to, amount) [] (ltb-true to (length b.accounts) both.1) (λ k t within. absurd (omega arith));
+          few = omega arith;
           deps = count_deps fields deps b.processes long some pieces;
         };
         amount = number_at-lt fields 3 amount e3;
@@ -113,20 +100,20 @@ message_spelled-writes : (b : BookTerms) (m : Message) → length b.accounts ≤
 unfolding field_at
 message_spelled-writes b m few is =
     let source = is.known.source in
-    let target = is.known.target in
+    let target = is.known.targets 0 (0, 0) (omega (arith, ap (λ (m : Message). length m.targets) is.one)) in
     let from_in : nat_lt m.from (length b.accounts) ≡ true = grind (arith, nat_tests) in
-    let to_in : nat_lt m.to (length b.accounts) ≡ true = grind (arith, nat_tests) in
+    let to_in : nat_lt (target_of m).0 (length b.accounts) ≡ true = grind (arith, nat_tests) in
     let fit : All Fits64 m.deps = λ k d within. let small = is.deps k d within in omega arith in
     rw (
       send_shape b m is.known.deps,
       number_of-decimal m.from (omega arith),
-      number_of-decimal m.to (omega arith),
-      number_of-decimal m.amount is.amount,
+      number_of-decimal (target_of m).0 (omega arith),
+      number_of-decimal (target_of m).1 is.amount,
       numbers_of-decimals m.deps fit,
       from_in,
       to_in,
       All-are_counts m.deps is.deps,
-    ) refl
+    ) (ap Ok (sym is.one))
 
 pub IsForm-message : (b : BookTerms) → length b.accounts ≤ 2 ^ 64 → IsForm (message_spelled b) fields_of_message (IsSent b)
 IsForm-message b few = record {

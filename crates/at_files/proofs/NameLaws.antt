@@ -1,24 +1,8 @@
 -- Names and their positions: those of version 1 are the canonical decimals.
 use Rattle.std.proofs.Common.{◌≡◌, ℕ, zero, suc, ◌+◌, ◌^◌, ◌<◌, ◌≤◌, Bool, true, false, not, ◌&&◌, nat_le, nat_lt, slice_index, ◌⊎◌, inl, inr, if◌then◌else◌, List, [], ◌∷◌, ◌++◌, length, Some, None, bytes_eq, decimal, get_or, refl, sym, ◌∙◌, ap, subst, arith}
 use Rattle.std.specs.Prelude.{Contains, slice_get}
-use Rattle.std.specs.Char.{is_ascii_lowercase}
-use Rattle.std.specs.List.{IsDistinct, list_all, position_or_len}
-use Rattle.std.proofs.lemmas.Bool.Decides.{nat_tests}
-use Rattle.std.proofs.lemmas.Cmp.{nat_list_eq_equiv}
-use Rattle.std.proofs.lemmas.List.Folds.{list_any_none}
-use Rattle.std.proofs.lemmas.List.FromFn.{get_or-map-range_with_len, length-map-range_with_len, map-range_with_len_more}
-use Rattle.std.proofs.lemmas.List.Quantifiers.{position-Some}
-use Rattle.std.proofs.lemmas.List.Sums.{position_or_len_is, prefix_len_passes}
-use Rattle.std.proofs.lemmas.Map.Keys.{IsDistinct-push, apart_from_distinct}
-use Rattle.std.proofs.lemmas.Option.{slice_get-get_or}
-use Rattle.std.proofs.lemmas.Slice.Eq.{bytes_eq-Decides}
-use Rattle.at_base.specs.Numbers.{number_of}
-use Rattle.at_base.proofs.NumberLaws.{number_of-decimal}
-use Rattle.at_ledger.specs.Book.{BookTerms}
-use Rattle.at_ledger.specs.Limits.{most_accounts}
-use Rattle.at_files.specs.Limits.{most_name_bytes}
+use Rattle.at_files.proofs.Prelude.{is_ascii_lowercase, IsDistinct, list_all, position_or_len, nat_tests, nat_list_eq_equiv, list_any_none, get_or-map-range_with_len, length-map-range_with_len, map-range_with_len_more, position-Some, position_or_len_is, prefix_len_passes, IsDistinct-push, apart_from_distinct, slice_get-get_or, bytes_eq-Decides, number_of, number_of-decimal, BookTerms, most_accounts, most_name_bytes, AreFormed, AreNames, AreNamesOf, decimals_below, has_name, is_name, is_name_byte, position_of, plain_names}
 use Rattle.at_files.proofs.FieldLaws.{both_tests}
-use Rattle.at_files.specs.Names.{AreFormed, AreNames, AreNamesOf, decimals_below, has_name, is_name, is_name_byte, position_of, plain_names}
 
 -- the name at the position that was found
 pub position_of-Some : (names : List (List ℕ)) (name : List ℕ) (n : ℕ) → position_of names name ≡ Some n → (n < length names) × (get_or names n [] ≡ name)

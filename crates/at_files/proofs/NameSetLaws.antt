@@ -1,16 +1,6 @@
 -- Names that are told apart.
 use Rattle.std.proofs.Common.{◌≡◌, ℕ, ◌<◌, ◌≤◌, Bool, true, false, List, [], ◌∷◌, ◌++◌, length, map, Option, Some, None, get_or, position, bytes_eq, if◌then◌else◌, refl, ap, arith}
-use Rattle.std.specs.List.{IsDistinct, list_any, position_or_len}
-use Rattle.std.proofs.lemmas.Cmp.{nat_list_eq_equiv}
-use Rattle.std.proofs.lemmas.List.{length-map, map-append}
-use Rattle.std.proofs.lemmas.List.Elements.{All-push}
-use Rattle.std.proofs.lemmas.List.Quantifiers.{position-Some}
-use Rattle.std.proofs.lemmas.Map.Keys.{IsDistinct-push}
-use Rattle.std.proofs.lemmas.Slice.Eq.{bytes_eq-Decides}
-use Rattle.indexmap.specs.IndexSet.{insert_key}
-use Rattle.at_files.specs.Names.{has_name, position_of}
-use Rattle.at_files.specs.NameSet.{IsNameSet}
-use Rattle.at_files.specs.Limits.{most_name_bytes}
+use Rattle.at_files.proofs.Prelude.{IsDistinct, list_any, position_or_len, nat_list_eq_equiv, length-map, map-append, All-push, position-Some, IsDistinct-push, bytes_eq-Decides, insert_key, has_name, position_of, IsNameSet, most_name_bytes}
 
 module _ {N : Type 0} (f : N → List ℕ) where
   pub has_name-map : (keys : List N) (name : List ℕ) → has_name (map f keys) name ≡ list_any (λ key. bytes_eq name (f key)) keys

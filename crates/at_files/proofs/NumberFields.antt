@@ -1,8 +1,6 @@
 -- The numbers that the fields of a record are, from one position on.
 use Rattle.std.proofs.Common.{◌≡◌, ℕ, ◌+◌, ◌<◌, ◌≤◌, List, [], ◌∷◌, ◌++◌, length, drop, Some, None, refl, sym, ◌∙◌, ap, append-nil}
-use Rattle.std.proofs.lemmas.List.{drop_all}
-use Rattle.at_files.specs.Records.{Fields, before, number_at}
-use Rattle.at_files.specs.BookRecords.{numbers_of}
+use Rattle.at_files.proofs.Prelude.{drop_all, Fields, before, number_at, numbers_of}
 use Rattle.at_files.proofs.FieldLaws.{drop-field_of}
 use Rattle.at_files.proofs.OwnerLaws.{before-none, numbers_before, numbers_before-none, numbers_before-push}
 

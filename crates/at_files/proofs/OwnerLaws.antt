@@ -1,10 +1,6 @@
 -- The numbers of an owners field.
 use Rattle.std.proofs.Common.{◌≡◌, ℕ, ◌+◌, ◌<◌, ◌≤◌, ◌==◌, true, false, List, [], ◌∷◌, ◌++◌, length, drop, get_or, Option, Some, None, refl, sym, ◌∙◌, ap, append_assoc, append-nil}
-use Rattle.std.proofs.lemmas.List.{at_drop_more, at_drop_all}
-use Rattle.at_base.specs.Numbers.{number_of}
-use Rattle.std.specs.List.{slice_split}
-use Rattle.at_files.specs.Records.{before}
-use Rattle.at_files.specs.BookRecords.{numbers_of, pieces_of}
+use Rattle.at_files.proofs.Prelude.{at_drop_more, at_drop_all, number_of, slice_split, before, numbers_of, pieces_of}
 
 -- numbers before those that come later, if each of these is one
 abbrev pub numbers_before : List ℕ → Option (List ℕ) → Option (List ℕ)
@@ -57,6 +53,6 @@ pub numbers_of-empty : (text : List ℕ) → (length text == 0) ≡ true → num
 unfolding numbers_of
 numbers_of-empty text empty = rw empty refl
 
--- any other field is cut at its spaces
+-- any other field is split at its spaces
 pub pieces_of-some : (text : List ℕ) → (length text == 0) ≡ false → pieces_of text ≡ slice_split (λ byte. byte == 32) text
 pieces_of-some text some = rw some refl

@@ -1,10 +1,6 @@
 -- The owners that names give.
 use Rattle.std.proofs.Common.{◌≡◌, ℕ, ◌+◌, ◌<◌, ◌≤◌, ◌==◌, true, List, [], ◌∷◌, ◌++◌, length, drop, get_or, Result, Ok, Err, refl, sym, ◌∙◌, ap, append_assoc, append-nil, arith}
-use Rattle.std.proofs.lemmas.List.{at_drop_more, at_drop_all, length_push}
-use Rattle.at_files.specs.Names.{position_of}
-use Rattle.at_files.specs.BookRecords.{owner_known, owners_named, pieces_of}
-use Rattle.at_files.specs.declared.book_fault.BookWhy.{BookWhy}
-use Rattle.at_files.specs.Results.{and_then}
+use Rattle.at_files.proofs.Prelude.{at_drop_more, at_drop_all, length_push, position_of, owner_known, owners_named, pieces_of, BookWhy, and_then}
 
 -- owners before those that come later, unless a fault does
 abbrev pub owners_before : List ℕ → Result (List ℕ) BookWhy → Result (List ℕ) BookWhy

@@ -1,24 +1,7 @@
 -- A payment file that is calls, written out, is read as these calls.
 use Rattle.std.proofs.Common.{◌≡◌, ℕ, ◌+◌, ◌^◌, ◌<◌, ◌≤◌, Bool, true, false, ◌&&◌, ◌⊎◌, inl, inr, ◌==◌, nat_lt, Some, bytes_eq, List, [], ◌∷◌, length, All, Ok, Err, codes, decimal, refl, sym, ap, ◌∙◌, arith}
-use Rattle.std.specs.List.{IsDistinct}
-use Rattle.std.proofs.lemmas.Bool.{eq-eqb}
-use Rattle.std.proofs.lemmas.Bool.Decides.{nat_tests}
-use Rattle.std.proofs.lemmas.List.Elements.{All-head, All-tail}
-use Rattle.csv.specs.Records.{field_at}
-use Rattle.at_base.proofs.NumberLaws.{number_of-decimal}
-use Rattle.at_ledger.specs.Book.{BookTerms}
-use Rattle.at_ledger.specs.Call.{AreTargetsOn, IsCallOn, TargetPair}
-use Rattle.at_ledger.specs.declared.call.Call.{Call}
-use Rattle.at_ledger.specs.declared.call.Call.TheVariants.{Transfer, Read, Pay}
-use Rattle.at_ledger.specs.Limits.{most_targets}
-use Rattle.at_files.specs.Names.{AreNames, NameList, AreNamesOf, account_name}
-use Rattle.at_files.specs.Records.{Fields, has_shape}
-use Rattle.at_files.specs.Payments.{plain_call_of, named_call_of, call_of, has_amounts, is_pay, targets_spelled, fields_of_targets, calls_or_fault, payments_of, fields_of_call, IsCallOfVersion, HasAmounts, Pays}
-use Rattle.at_ledger.specs.Limits.{most_calls}
-use Rattle.at_files.specs.Spelled.{items_of}
-use Rattle.at_files.specs.declared.payments_fault.PaymentsWhy.TheVariants.{TooManyCalls}
-use Rattle.at_files.specs.declared.payments_fault.BadPayments.{BadPayments}
-use Rattle.at_files.specs.declared.payments_fault.ReadPaymentsFault.{ReadPaymentsFault}
+use Rattle.at_files.proofs.Prelude.{IsDistinct, eq-eqb, nat_tests, All-head, All-tail, field_at, number_of-decimal, BookTerms, AreTargetsOn, IsCallOn, TargetPair, Call, Transfer, Pay, most_targets, AreNames, NameList, AreNamesOf, account_name, Fields, has_shape, plain_call_of, named_call_of, call_of, has_amounts, is_pay, targets_spelled, fields_of_targets, calls_or_fault, payments_of, fields_of_call, IsCallOfVersion, HasAmounts, Pays, most_calls, items_of, TooManyCalls, BadPayments, ReadPaymentsFault}
+use Rattle.at_ledger.specs.declared.call.Call.TheVariants.{Read}
 use Rattle.at_files.specs.declared.payments_fault.ReadPaymentsFault.TheVariants.{NoMemory}
 use Rattle.at_files.proofs.NameLaws.{known_version, position_of-at}
 use Rattle.at_files.proofs.SpelledLaws.{IsForm, items_of-map, items_of-written}

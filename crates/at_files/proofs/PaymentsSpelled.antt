@@ -1,19 +1,8 @@
 -- The records of a payment file are its calls, written out.
 use Rattle.std.proofs.Common.{◌≡◌, ℕ, ◌+◌, ◌*◌, ◌^◌, ◌<◌, ◌≤◌, Bool, true, false, inl, inr, ◌&&◌, ◌||◌, ◌==◌, nat_lt, List, [], ◌∷◌, length, drop, All, Option, Some, None, Ok, Err, if◌then◌else◌, codes, decimal, refl, ◌∙◌, ap, subst, arith}
-use Rattle.std.proofs.lemmas.Bool.{ltb-true, eqb-true}
-use Rattle.std.proofs.lemmas.Bool.Decides.{nat_tests}
-use Rattle.std.proofs.lemmas.List.Elements.{All-cons}
-use Rattle.csv.specs.Records.{field_at}
-use Rattle.at_base.specs.Numbers.{number_of}
-use Rattle.at_base.proofs.NumberLaws.{number_of-some}
-use Rattle.at_ledger.specs.Call.{AreTargetsOn, IsCallOn, TargetPair}
-use Rattle.at_ledger.specs.declared.call.Call.{Call}
-use Rattle.at_ledger.specs.declared.call.Call.TheVariants.{Transfer, Read, Pay}
-use Rattle.at_files.specs.Names.{AreNames, NameList, account_name, position_of}
-use Rattle.at_files.specs.Records.{Fields, before, field_of, number_at, has_shape}
-use Rattle.at_files.specs.Payments.{transfer_of, read_of, plain_call_of, named_transfer, named_read, named_pay, named_call_of, has_amounts, is_pay, target_of, targets_spelled, call_of, fields_of_call, fields_of_targets, IsCallOfVersion, HasAmounts}
-use Rattle.at_files.specs.declared.payments_fault.PaymentsWhy.{PaymentsWhy}
-use Rattle.at_files.specs.declared.payments_fault.PaymentsWhy.TheVariants.{Shape, UnknownAccount}
+use Rattle.at_files.proofs.Prelude.{ltb-true, eqb-true, nat_tests, All-cons, field_at, number_of, number_of-some, AreTargetsOn, IsCallOn, TargetPair, Call, Transfer, Pay, AreNames, NameList, account_name, position_of, Fields, before, field_of, number_at, has_shape, transfer_of, read_of, plain_call_of, named_transfer, named_read, named_pay, named_call_of, has_amounts, is_pay, target_of, targets_spelled, call_of, fields_of_call, fields_of_targets, IsCallOfVersion, HasAmounts, PaymentsWhy, UnknownAccount}
+use Rattle.at_ledger.specs.declared.call.Call.TheVariants.{Read}
+use Rattle.at_files.specs.declared.payments_fault.PaymentsWhy.TheVariants.{Shape}
 use Rattle.at_files.proofs.Faults.{Err≢Ok}
 use Rattle.at_files.proofs.NameLaws.{decimal-AreNames, known_version, position_of-Some}
 use Rattle.at_files.proofs.FieldLaws.{both_tests, length-has_shape, first-has_shape, two_fields, four_fields, field_of-number_at, number_at-lt}

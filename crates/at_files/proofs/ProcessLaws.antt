@@ -1,12 +1,6 @@
 -- The processes that a record names.
 use Rattle.std.proofs.Common.{◌≡◌, ℕ, ◌+◌, ◌<◌, ◌≤◌, List, length, drop, Result, Ok, Err, refl, ◌∙◌}
-use Rattle.std.proofs.lemmas.List.{drop_all}
-use Rattle.at_files.specs.Records.{Fields, field_of}
-use Rattle.at_files.specs.BookFile.{at_line}
-use Rattle.at_files.specs.BookRecords.{with_process, with_processes}
-use Rattle.at_files.specs.declared.book_fault.BookWhy.{BookWhy}
-use Rattle.at_files.specs.declared.book_fault.BadBook.{BadBook}
-use Rattle.at_files.specs.Results.{and_then}
+use Rattle.at_files.proofs.Prelude.{drop_all, Fields, field_of, at_line, with_process, with_processes, BookWhy, BadBook, and_then}
 use Rattle.at_files.proofs.FieldLaws.{drop-field_of}
 
 with_processes-drop : (names : List (List ℕ)) (fields : Fields) (i : ℕ) → i < length fields

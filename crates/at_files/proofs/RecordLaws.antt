@@ -1,12 +1,6 @@
 -- The records of bytes, one after another.
 use Rattle.std.proofs.Common.{◌≡◌, ◌+◌, ◌<◌, ◌≤◌, ℕ, zero, suc, Bool, true, false, List, [], ◌∷◌, length, Option, Some, None, unwrap_or, IsSome, if◌then◌else◌, not, refl, ◌∙◌, ap, inl, add-one, arith}
-use Rattle.std.specs.Borrow.{Bor}
-use Rattle.csv.specs.declared.parser.State.{State}
-use Rattle.csv.specs.Machine.{Read, next_record, step, is_end, fields_after, field_after, ends_at_end}
-use Rattle.csv.specs.Reading.{default_config, records_from, records_next, source_of, pending_of, NextIs, ReadsNext, ReadRecord, took_first}
-use Rattle.csv.specs.declared.reader.Reader.{Reader}
-use Rattle.at_files.specs.Records.{Fields}
-use Rattle.at_files.specs.Reading.{records_read_from, records_left, IsBetweenRecords}
+use Rattle.at_files.proofs.Prelude.{Bor, State, Read, next_record, step, is_end, fields_after, field_after, ends_at_end, default_config, records_from, records_next, source_of, pending_of, NextIs, ReadsNext, ReadRecord, took_first, Reader, Fields, records_read_from, records_left, IsBetweenRecords}
 
 -- a byte that ends a record leaves the reader between two records
 ends-step : (s : State) (c : ℕ) → is_end (step default_config s c).1 ≡ true → ends_at_end (step default_config s c).0 ≡ false

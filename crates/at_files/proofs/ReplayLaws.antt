@@ -1,12 +1,6 @@
 -- A payment file that is few calls, written out, is read as these calls for a replay.
 use Rattle.std.proofs.Common.{◌≡◌, List, length, Ok, refl}
-use Rattle.std.proofs.lemmas.Bool.{le-leb}
-use Rattle.at_ledger.specs.Book.{BookTerms}
-use Rattle.at_ledger.specs.declared.call.Call.{Call}
-use Rattle.at_files.specs.Limits.{most_replay_calls}
-use Rattle.at_files.specs.Names.{AreNamesOf, NameList}
-use Rattle.at_files.specs.Records.{Fields}
-use Rattle.at_files.specs.ReplayPayments.{PaysReplay, replay_payments_of}
+use Rattle.at_files.proofs.Prelude.{le-leb, BookTerms, Call, most_replay_calls, AreNamesOf, NameList, Fields, PaysReplay, replay_payments_of}
 use Rattle.at_files.proofs.PaymentsAccepted.{payments_of-Pays}
 
 -- what the file pays is what the walk gives

@@ -1,17 +1,7 @@
 -- The record of a turn is the turn, written out.
 use Rattle.std.proofs.Common.{◌≡◌, ℕ, ◌<◌, ◌≤◌, ◌^◌, Bool, true, false, ◌==◌, nat_lt, List, length, Vec, Option, Some, None, Result, Ok, Err, IfErr, IfOk, if◌then◌else◌, refl, ◌∙◌, subst, arith}
-use Rattle.std.specs.Global.{Global}
-use Rattle.std.proofs.lemmas.Bool.{eqb-true, lt-ltb, ltb-true}
-use Rattle.csv.specs.Records.{field_at}
-use Rattle.at_base.proofs.NumberLaws.{number_of-decimal}
-use Rattle.at_files.specs.Limits.{most_scheduled_turns}
-use Rattle.at_files.specs.Records.{Fields, number_at}
-use Rattle.at_files.specs.Schedule.{Schedules, fields_of_turn, schedule_of, turn_of, turn_read}
-use Rattle.at_files.specs.declared.schedule.ScheduleWhy.{ScheduleWhy}
-use Rattle.at_files.specs.declared.schedule.ScheduleWhy.TheVariants.{Shape, TooManyTurns, UnknownProcess}
-use Rattle.at_files.specs.declared.spelled.BadRecord.{BadRecord}
-use Rattle.at_files.specs.declared.spelled.ReadFault.{ReadFault}
-use Rattle.at_files.specs.declared.spelled.ReadFault.TheVariants.{Bad, NoMemory}
+use Rattle.at_files.proofs.Prelude.{Global, eqb-true, lt-ltb, ltb-true, field_at, number_of-decimal, most_scheduled_turns, Fields, number_at, Schedules, fields_of_turn, schedule_of, turn_of, turn_read, ScheduleWhy, TooManyTurns, UnknownProcess, BadRecord, ReadFault, Bad, NoMemory}
+use Rattle.at_files.specs.declared.schedule.ScheduleWhy.TheVariants.{Shape}
 use Rattle.at_files.proofs.FieldLaws.{field_of-number_at, one_field}
 use Rattle.at_files.proofs.SpelledLaws.{AreWritten, IsForm, items_of-map, read-accepts, read-written}
 

@@ -1,13 +1,6 @@
 -- Files that are items, written out one after another.
 use Rattle.std.proofs.Common.{◌≡◌, ℕ, ◌+◌, ◌≤◌, Bool, true, false, ◌==◌, List, [], ◌∷◌, length, map, All, Vec, Result, Ok, Err, IfErr, IfOk, if◌then◌else◌, refl, sym, ◌∙◌, subst, arith}
-use Rattle.std.specs.Global.{Global}
-use Rattle.std.proofs.lemmas.Bool.Decides.{nat_tests}
-use Rattle.std.proofs.lemmas.List.Elements.{All-cons, All-head, All-tail}
-use Rattle.at_files.specs.Records.{Fields}
-use Rattle.at_files.specs.Spelled.{bad_record, item_before, items_from, items_of}
-use Rattle.at_files.specs.declared.spelled.BadRecord.{BadRecord}
-use Rattle.at_files.specs.declared.spelled.ReadFault.{ReadFault}
-use Rattle.at_files.specs.declared.spelled.ReadFault.TheVariants.{Bad, NoMemory}
+use Rattle.at_files.proofs.Prelude.{Global, nat_tests, All-cons, All-head, All-tail, Fields, bad_record, item_before, items_from, items_of, BadRecord, ReadFault, Bad, NoMemory}
 use Rattle.at_files.proofs.SpelledWalk.{items_from-more}
 
 -- a record spells an item just where it is the item, written out, and a file may hold the item

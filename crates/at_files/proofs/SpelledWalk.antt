@@ -1,11 +1,6 @@
 -- The walk over the records of a file of which each spells one thing.
 use Rattle.std.proofs.Common.{◌≡◌, ℕ, ◌+◌, ◌<◌, Bool, true, false, ◌==◌, List, [], ◌∷◌, ◌++◌, Result, Ok, Err, if◌then◌else◌, refl, sym, ◌∙◌, ap, append_assoc, append-nil, arith}
-use Rattle.std.proofs.lemmas.Bool.Decides.{nat_tests}
-use Rattle.at_files.specs.Records.{Fields}
-use Rattle.at_files.specs.Spelled.{bad_record, items_before, item_before, items_from, items_of, with_item}
-use Rattle.at_files.specs.declared.spelled.BadRecord.{BadRecord}
-use Rattle.at_files.specs.declared.spelled.ReadFault.{ReadFault}
-use Rattle.at_files.specs.declared.spelled.ReadFault.TheVariants.{Bad}
+use Rattle.at_files.proofs.Prelude.{nat_tests, Fields, bad_record, items_before, item_before, items_from, items_of, with_item, BadRecord, ReadFault, Bad}
 
 -- these items stand before the record of this line, and what comes later is that of the records from there on
 pub record AreSpelled {T W : Type 0} (item : Fields → Result T W) (most : ℕ) (over : W) (all : List Fields) (items : List T) (line : ℕ) (records : List Fields) : Type 0 where

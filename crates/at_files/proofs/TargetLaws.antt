@@ -1,10 +1,6 @@
 -- The targets of a pay-out, one after another.
 use Rattle.std.proofs.Common.{◌≡◌, ℕ, ◌+◌, ◌*◌, ◌<◌, ◌≤◌, true, false, ◌&&◌, List, [], ◌∷◌, ◌++◌, length, drop, is_some, Bool, Option, Some, None, refl, sym, ◌∙◌, ap, append_assoc, append-nil, arith}
-use Rattle.std.proofs.lemmas.List.{drop_all, length_push}
-use Rattle.at_ledger.specs.Call.{TargetPair}
-use Rattle.at_files.specs.Names.{position_of}
-use Rattle.at_files.specs.Records.{Fields, before, field_of, number_at}
-use Rattle.at_files.specs.Payments.{has_amounts, target_of, targets_spelled}
+use Rattle.at_files.proofs.Prelude.{drop_all, length_push, TargetPair, position_of, Fields, before, field_of, number_at, has_amounts, target_of, targets_spelled}
 use Rattle.at_files.proofs.FieldLaws.{drop-field_of}
 
 -- the fields of the target at a position, and those after it

@@ -1,9 +1,6 @@
 -- The book that the records of a file spell, or the first fault.
 use Rattle.std.specs.Prelude.{◌≡◌, ℕ, ◌+◌, ◌==◌, List, [], ◌∷◌, length, map, codes, decimal, slice_index_or, Result, Ok, Err, if◌then◌else◌}
-use Rattle.std.specs.List.{join_with_byte}
-use Rattle.at_ledger.specs.Account.{AccountTerms}
-use Rattle.at_ledger.specs.Book.{BookTerms, IsBook}
-use Rattle.at_ledger.specs.declared.draft.BookError.TheVariants.{NoAccount}
+use Rattle.at_files.specs.Prelude.{join_with_byte, AccountTerms, BookTerms, IsBook, NoAccount}
 use Rattle.at_files.specs.Names.{NameList, AreNamesOf}
 use Rattle.at_files.specs.Records.{Fields}
 use Rattle.at_files.specs.Results.{and_then}

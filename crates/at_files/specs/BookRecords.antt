@@ -1,13 +1,6 @@
 -- What each record of a book file gives, or the cause of its fault.
 use Rattle.std.specs.Prelude.{ℕ, ◌+◌, ◌==◌, List, [], ◌∷◌, ◌++◌, length, drop, bytes_eq, codes, nat_le, nat_lt, Option, Some, None, Result, Ok, Err, if◌then◌else◌}
-use Rattle.std.specs.List.{slice_split}
-use Rattle.at_base.specs.Numbers.{number_of}
-use Rattle.at_ledger.specs.Account.{AccountTerms}
-use Rattle.at_ledger.specs.Book.{BookTerms}
-use Rattle.at_ledger.specs.Draft.{limits_fault, account_fault, terms_with, with_account, book_without_accounts}
-use Rattle.at_ledger.specs.declared.draft.BookError.{BookError}
-use Rattle.at_ledger.specs.declared.draft.BookError.TheVariants.{NoProcess, TooManyProcesses, TooManyAccounts, OwnersNotRising, TooManyOwners}
-use Rattle.at_ledger.specs.Limits.{most_accounts, most_owners, most_processes}
+use Rattle.at_files.specs.Prelude.{slice_split, number_of, AccountTerms, BookTerms, limits_fault, account_fault, terms_with, with_account, book_without_accounts, BookError, NoProcess, TooManyProcesses, TooManyAccounts, OwnersNotRising, TooManyOwners, most_accounts, most_owners, most_processes}
 use Rattle.at_files.specs.Names.{NameList, decimals_below, has_name, is_name, position_of}
 use Rattle.at_files.specs.Records.{Fields, before, field_of, number_at, has_shape}
 use Rattle.at_files.specs.Results.{and_then}
@@ -83,7 +76,7 @@ abbrev pub limits_of : ℕ → List (List ℕ) → Fields → Result NamedBook B
 limits_of version processes fields =
     if has_shape (codes "limits") 3 fields then book_with_rooms version processes (number_at fields 1) (number_at fields 2) else Err why.Shape
 
--- an owners field, cut at every space; an empty one has no piece
+-- an owners field, split at every space; an empty one has no piece
 abbrev pub pieces_of : List ℕ → List (List ℕ)
 pieces_of text = if length text == 0 then [] else slice_split (λ byte. byte == 32) text
 

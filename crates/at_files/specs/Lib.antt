@@ -1,3 +1,4 @@
+pub mod Prelude
 pub mod Limits
 pub mod Results
 pub mod Names

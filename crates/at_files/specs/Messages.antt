@@ -1,9 +1,6 @@
 -- The messages of one process: what the records of its file spell, or the first fault.
-use Rattle.std.specs.Prelude.{◌≡◌, ℕ, ◌+◌, ◌^◌, ◌<◌, ◌≤◌, Bool, ◌&&◌, List, ◌∷◌, length, drop, map, All, codes, decimal, nat_le, nat_lt, Option, Some, Result, Ok, Err, if◌then◌else◌}
-use Rattle.std.specs.List.{list_all}
-use Rattle.at_ledger.specs.Book.{BookTerms}
-use Rattle.at_broadcast.specs.Messages.{IsMessageOn}
-use Rattle.at_broadcast.specs.declared.message.Message.{Message}
+use Rattle.std.specs.Prelude.{◌≡◌, ℕ, ◌+◌, ◌^◌, ◌<◌, ◌≤◌, Bool, ◌&&◌, List, [], ◌∷◌, length, drop, map, replicate, All, codes, decimal, nat_le, nat_lt, Option, Some, Result, Ok, Err, if◌then◌else◌}
+use Rattle.at_files.specs.Prelude.{list_all, BookTerms, TargetPair, target_at, IsMessageOn, Message}
 use Rattle.at_files.specs.BookRecords.{numbers_of}
 use Rattle.at_files.specs.Limits.{most_messages}
 use Rattle.at_files.specs.Records.{Fields, has_shape, number_at}
@@ -16,11 +13,19 @@ use Rattle.at_files.specs.declared.spelled.BadRecord.{BadRecord}
 abbrev pub are_counts : List ℕ → Bool
 are_counts deps = list_all (λ d. nat_le d most_messages) deps
 
+-- a message of one target, without a reference
+abbrev pub sending : ℕ → ℕ → ℕ → List ℕ → Message
+sending from to amount deps = record { from = from; targets = (to, amount) ∷ []; reference = replicate 16 0; deps = deps }
+
+-- the target of such a message
+abbrev pub target_of : Message → TargetPair
+target_of m = target_at m.targets 0
+
 -- a message between two of so many accounts
 abbrev pub message_between : ℕ → ℕ → ℕ → ℕ → List ℕ → Result Message MessagesWhy
 message_between accounts from to amount deps =
     if nat_lt from accounts && nat_lt to accounts
-    then (if are_counts deps then Ok (record { from = from; to = to; amount = amount; deps = deps }) else Err DepsOutOfRange)
+    then (if are_counts deps then Ok (sending from to amount deps) else Err DepsOutOfRange)
     else Err UnknownAccount
 
 -- the same, where each field is a number
@@ -41,12 +46,13 @@ messages_spelled b records = items_of (message_spelled b) most_messages TooManyM
 
 -- the record of a message
 abbrev pub fields_of_message : Message → Fields
-fields_of_message m = codes "send" ∷ decimal m.from ∷ decimal m.to ∷ decimal m.amount ∷ map decimal m.deps
+fields_of_message m = codes "send" ∷ decimal m.from ∷ decimal (target_of m).0 ∷ decimal (target_of m).1 ∷ map decimal m.deps
 
 -- a file beside the book can hold the message
 pub record IsSent (b : BookTerms) (m : Message) : Type 0 where
-  pub known : IsMessageOn b m
-  pub amount : m.amount < 2 ^ 64
+  pub one : m ≡ sending m.from (target_of m).0 (target_of m).1 m.deps
+  pub known : IsMessageOn b.processes (length b.accounts) m
+  pub amount : (target_of m).1 < 2 ^ 64
   pub deps : All (λ d. d ≤ most_messages) m.deps
 
 -- the records are these messages, written out one after another

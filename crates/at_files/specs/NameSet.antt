@@ -1,6 +1,6 @@
 -- What holds of names that are told apart.
 use Rattle.std.specs.Prelude.{ℕ, ◌≤◌, List, length, All, bytes_eq}
-use Rattle.std.specs.List.{IsDistinct}
+use Rattle.at_files.specs.Prelude.{IsDistinct}
 use Rattle.at_files.specs.Limits.{most_name_bytes}
 
 -- no two are the same, and none is longer than a name may be

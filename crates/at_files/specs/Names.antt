@@ -1,9 +1,6 @@
 -- The names of a book's processes and accounts.
 use Rattle.std.specs.Prelude.{◌≡◌, ℕ, ◌≤◌, ◌==◌, Bool, true, ◌&&◌, ◌||◌, ◌⊎◌, List, [], length, map, All, bytes_eq, decimal, nat_le, position, slice_index, slice_index_or, Option}
-use Rattle.std.specs.Char.{is_ascii_digit, is_ascii_lowercase}
-use Rattle.std.specs.List.{IsDistinct, list_all, list_any, range_with_len}
-use Rattle.at_ledger.specs.Book.{BookTerms}
-use Rattle.at_ledger.specs.Limits.{most_accounts}
+use Rattle.at_files.specs.Prelude.{is_ascii_digit, is_ascii_lowercase, IsDistinct, list_all, list_any, range_with_len, BookTerms, most_accounts}
 use Rattle.at_files.specs.Limits.{most_name_bytes}
 
 -- the version of the book that gives them, and a name for each process and each account, in order

@@ -1,14 +1,8 @@
 -- The payments of one process: the calls that the records of its file spell, or the first fault.
 use Rattle.std.specs.Prelude.{◌≡◌, ℕ, ◌^◌, ◌<◌, ◌≤◌, ◌==◌, Bool, true, false, ◌&&◌, ◌||◌, List, [], ◌∷◌, length, drop, is_some, map, All, codes, decimal, nat_lt, Option, Some, None, Result, Ok, Err, if◌then◌else◌}
-use Rattle.at_base.specs.Numbers.{number_of}
-use Rattle.at_ledger.specs.Book.{BookTerms}
-use Rattle.at_ledger.specs.Call.{TargetPair, IsCallOn}
-use Rattle.at_ledger.specs.declared.call.Call.{Call}
-use Rattle.at_ledger.specs.declared.call.Call.TheVariants.{Transfer, Read, Pay}
-use Rattle.at_ledger.specs.Limits.{most_targets}
+use Rattle.at_files.specs.Prelude.{number_of, BookTerms, TargetPair, IsCallOn, Call, Transfer, Read, Pay, most_targets, most_calls}
 use Rattle.at_files.specs.Names.{NameList, account_name, position_of}
 use Rattle.at_files.specs.Records.{Fields, before, field_of, number_at, has_shape}
-use Rattle.at_ledger.specs.Limits.{most_calls}
 use Rattle.at_files.specs.declared.payments_fault.PaymentsWhy.{PaymentsWhy}
 use Rattle.at_files.specs.declared.payments_fault.PaymentsWhy.TheVariants.{Shape, Number, UnknownAccount, TooManyCalls}
 use Rattle.at_files.specs.declared.payments_fault.BadPayments.{BadPayments}

@@ -1,11 +1,7 @@
 -- What a reader of records has left of a file.
 use Rattle.std.specs.Prelude.{◌≡◌, ◌≢◌, ◌+◌, ℕ, List, [], length, map, All, false, Some, unwrap_or, IsSome}
-use Rattle.std.specs.Borrow.{Bor}
-use Rattle.csv.specs.Machine.{ends_at_end}
-use Rattle.csv.specs.Reading.{default_config, records_from, source_of, Ready, reader_config, reader_state, reader_trim}
-use Rattle.csv.specs.declared.parser.State.{State}
+use Rattle.at_files.specs.Prelude.{Bor, ends_at_end, default_config, records_from, source_of, Ready, reader_config, reader_state, reader_trim, State, Reader}
 use Rattle.csv.specs.declared.parser.State.TheVariants as state
-use Rattle.csv.specs.declared.reader.Reader.{Reader}
 use Rattle.csv.specs.declared.reader.Trim.TheVariants as trim
 use Rattle.at_files.specs.Records.{Fields}
 

@@ -1,8 +1,6 @@
 -- The records of a file, and what one of them holds.
 use Rattle.std.specs.Prelude.{ℕ, Bool, ◌&&◌, ◌==◌, List, [], ◌∷◌, length, bytes_eq, Option, Some, None, unwrap_or}
-use Rattle.csv.specs.Reading.{default_config, records, strip_bom}
-use Rattle.csv.specs.Records.{field_at}
-use Rattle.at_base.specs.Numbers.{number_of}
+use Rattle.at_files.specs.Prelude.{default_config, records, strip_bom, field_at, number_of}
 
 -- a record: its fields, each as bytes
 abbrev pub Fields : Type 0

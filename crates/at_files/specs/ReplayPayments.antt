@@ -1,7 +1,6 @@
 -- The payments of one process for a replay, which makes fewer calls than a file may have.
 use Rattle.std.specs.Prelude.{◌+◌, ◌≤◌, List, length, nat_le, Result, Ok, Err, if◌then◌else◌}
-use Rattle.at_ledger.specs.Book.{BookTerms}
-use Rattle.at_ledger.specs.declared.call.Call.{Call}
+use Rattle.at_files.specs.Prelude.{BookTerms, Call}
 use Rattle.at_files.specs.Limits.{most_replay_calls}
 use Rattle.at_files.specs.Names.{NameList}
 use Rattle.at_files.specs.Payments.{Pays, payments_of}

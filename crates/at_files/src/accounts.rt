@@ -1,8 +1,7 @@
 //! The records of a book file from the fourth on, each of an account.
 
 ghost use Rattle.std.specs.Prelude.{◌≡◌, ◌+◌, ◌<◌, length, Err, Ok, OnOk, IfErr, IfOk, option_map};
-ghost use Rattle.at_ledger.specs.Limits.{most_accounts};
-ghost use Rattle.at_ledger.specs.Draft.{account_fault, terms_with, with_account};
+ghost use Rattle.at_files.specs.Prelude.{most_accounts, account_fault, terms_with, with_account};
 ghost use Rattle.at_files.specs.Names.{AreNamesOf};
 ghost use Rattle.at_files.specs.BookRecords.{book_with_rooms, limits_of, named_terms, numbered_terms, with_named_record, with_plain_record, with_account_record, within_limits};
 ghost use Rattle.at_files.specs.BookFile.{at_line};

@@ -1,7 +1,7 @@
 //! The book of a file.
 
 ghost use Rattle.std.specs.Prelude.{◌≡◌, ◌⊎◌, [], Err, IfErr, IfOk, Ok, OnOk};
-ghost use Rattle.at_ledger.specs.Book.{BookTerms, IsBook};
+ghost use Rattle.at_files.specs.Prelude.{BookTerms, IsBook};
 ghost use Rattle.at_files.specs.Names.{AreNames, AreNamesOf, NameList};
 ghost use Rattle.at_files.specs.Records.{file_records};
 ghost use Rattle.at_files.specs.BookFile.{Spells, accounts_from, book_at_end, book_of_records, limits_from, processes_from};

@@ -1,7 +1,7 @@
 //! The call that one record of a payment file spells.
 
 ghost use Rattle.std.specs.Prelude.{◌≡◌, ◌+◌, ◌*◌, ◌≤◌, ◌<◌, true, drop, length, IfSome};
-ghost use Rattle.at_ledger.specs.Limits.{most_accounts, most_targets};
+ghost use Rattle.at_files.specs.Prelude.{most_accounts, most_targets};
 ghost use Rattle.at_files.specs.Names.{position_of};
 ghost use Rattle.at_files.specs.Records.{field_of, number_at};
 ghost use Rattle.at_files.specs.Payments.{call_of, has_amounts, is_pay, named_call_of, named_pay, named_read, named_transfer, plain_call_of, read_of, target_of, targets_spelled, transfer_of};

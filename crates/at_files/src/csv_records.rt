@@ -3,7 +3,6 @@
 ghost use Rattle.std.specs.Prelude.{◌≡◌, ◌∷◌, [], if◌then◌else◌, IfOk, OnErr};
 ghost use Rattle.at_files.specs.Records.{file_records};
 
-use crate::NoMemory;
 use crate::record::Record;
 use csv::{Reader, ReaderBuilder};
 use std::alloc::{AllocError, Global};
@@ -54,7 +53,7 @@ impl<'a> CsvRecords<'a> {
 
     /// Reads the next record into `fields`, and answers whether there was one. An error ends the records, and each
     /// one is answered as want of memory: no clause of `csv` rules out another over bytes that are there.
-    pub(crate) fn next(&mut self, fields: &mut Record<'a>) -> Result<bool, NoMemory>
+    pub(crate) fn next(&mut self, fields: &mut Record<'a>) -> Result<bool, AllocError>
         ensures ok { IfOk result
             (λ found. self.old ≡ (if found then fields.new ∷ self.new else [])) }
         ensures err { OnErr result (self.new ≡ []) }

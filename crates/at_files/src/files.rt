@@ -1,7 +1,7 @@
 //! The payment files of all processes.
 
 ghost use Rattle.std.specs.Prelude.{◌≡◌, ◌≤◌, All, length, sum_by};
-ghost use Rattle.at_ledger.specs.Files.{contents_of};
+ghost use Rattle.at_files.specs.Prelude.{contents_of};
 
 use at_ledger::Call;
 

@@ -1,7 +1,7 @@
 //! The first three records of a book file.
 
 ghost use Rattle.std.specs.Prelude.{◌≡◌, ◌≤◌, [], drop, Err, Ok, OnOk, IfOk};
-ghost use Rattle.at_ledger.specs.Limits.{most_processes};
+ghost use Rattle.at_files.specs.Prelude.{most_processes};
 ghost use Rattle.at_files.specs.BookRecords.{counted_processes, named_processes, process_count, processes_of, version_of, with_name, with_process, with_processes};
 ghost use Rattle.at_files.specs.BookFile.{at_line};
 

@@ -38,4 +38,3 @@ pub use crate::payments_fault::{BadPayments, CALLS_MAX, PaymentsWhy, ReadPayment
 pub use crate::replay_payments::{REPLAY_CALLS_MAX, read_replay_payments};
 pub use crate::schedule::{BadSchedule, ReadScheduleFault, ScheduleWhy, TURNS_MAX, read_schedule};
 pub use crate::spelled::{BadRecord, ReadFault};
-pub use at_base::NoMemory;

@@ -3,7 +3,6 @@
 ghost use Rattle.std.specs.Prelude.{◌≡◌, ◌≢◌, ◌∷◌, [], ◌<◌, ◌≤◌, drop, length, slice_index, if◌then◌else◌, IfOk, OnErr};
 ghost use Rattle.at_files.specs.Reading.{IsPlain, line_records, texts_of};
 
-use crate::NoMemory;
 use crate::record::Record;
 use std::alloc::AllocError;
 use std::marker::Model;
@@ -37,7 +36,7 @@ impl<'a> Lines<'a> {
     }
 
     /// Reads the next record into `fields`, and answers whether there was one. Without memory there are no more.
-    pub(crate) fn next(&mut self, fields: &mut Record<'a>) -> Result<bool, NoMemory>
+    pub(crate) fn next(&mut self, fields: &mut Record<'a>) -> Result<bool, AllocError>
         ensures ok { IfOk result
             (λ found. self.old ≡ (if found then fields.new ∷ self.new else [])) }
         ensures err { OnErr result (self.new ≡ []) }
@@ -49,7 +48,7 @@ impl<'a> Lines<'a> {
         if text.is_empty() {
             return Ok(false);
         }
-        let Ok(end) = cut_line(text, &mut fields.slices) else {
+        let Ok(end) = split_line(text, &mut fields.slices) else {
             return Err(AllocError);
         };
         self.rest = &text[end..];
@@ -73,13 +72,13 @@ fn blank_lines(text: &[u8]) -> usize
 }
 
 /// Adds the fields of the first line to the slices, of which there are none yet, and answers where the next line begins.
-fn cut_line<'a>(text: &'a [u8], slices: &mut Vec<&'a [u8]>) -> Result<usize, NoMemory>
+fn split_line<'a>(text: &'a [u8], slices: &mut Vec<&'a [u8]>) -> Result<usize, AllocError>
     requires plain { IsPlain text.now }
     requires some { 0 < length text.now }
     requires first { slice_index text.now 0 ≢ 10 }
     requires none { slices.old.items ≡ [] }
     ensures within { IfOk result (λ end. end ≤ length text.now) }
-    ensures cut { IfOk result
+    ensures split { IfOk result
         (λ end. line_records text.now ≡ texts_of slices.new.items ∷ line_records
         (drop end text.now)) }
 {

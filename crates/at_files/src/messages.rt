@@ -1,7 +1,7 @@
 //! The messages of one process.
 
 ghost use Rattle.std.specs.Prelude.{◌≡◌, ◌+◌, ◌≤◌, List, Ok, Err, Some, None, IfErr, IfOk, IfSome, drop, length, map, option_map, nat_le, if◌then◌else◌};
-ghost use Rattle.at_broadcast.specs.declared.message.Message.{Message};
+ghost use Rattle.at_files.specs.Prelude.{most_accounts, Message};
 ghost use Rattle.at_files.specs.BookRecords.{numbers_of};
 ghost use Rattle.at_files.specs.Limits.{most_messages};
 ghost use Rattle.at_files.specs.Records.{file_records};
@@ -11,11 +11,13 @@ use crate::fields::{has_shape, number_at};
 use crate::record::Record;
 use crate::spelled::{BadRecord, ReadFault, RecordForm, read_items};
 use arrayvec::ArrayVec;
-use at_base::Counts;
-use at_broadcast::{MESSAGES_MAX, Message};
-use at_ledger::Book;
+use at_broadcast::{LogCounts, Message};
+use at_ledger::{Book, Targets};
 use std::alloc::Global;
 use thiserror::Error;
+
+/// The most messages of one file.
+const MESSAGES_MAX: u32 = 256;
 
 /// The cause of a message file's first fault.
 #[derive(Clone, Copy, Debug, PartialEq, Eq, Error)]
@@ -32,7 +34,7 @@ pub enum MessagesWhy {
     /// The source or the target is no account of the book.
     #[error("unknown account")]
     UnknownAccount,
-    /// An entry of `deps` is over the most messages of a sender.
+    /// An entry of `deps` is over the most messages of a file.
     #[error("deps out of range")]
     DepsOutOfRange,
 }
@@ -77,7 +79,7 @@ fn are_counts(deps: &[u64]) -> bool
 }
 
 /// The numbers as counts of messages that senders can have.
-fn counts_of(deps: &[u64]) -> Option<Counts>
+fn counts_of(deps: &[u64]) -> Option<LogCounts>
     requires some { 1 ≤ length deps.now }
     requires few { length deps.now ≤ 16 }
     ensures { result ≡ (if are_counts deps.now then Some deps.now else None) }
@@ -85,7 +87,7 @@ fn counts_of(deps: &[u64]) -> Option<Counts>
     if !are_counts(deps) {
         return None;
     }
-    let mut counts = Counts::zeros(deps.len() as u32);
+    let mut counts = LogCounts::zeros(deps.len() as u32);
     for p in 0..deps.len() {
         counts.set(p as u32, deps[p] as u32);
     }
@@ -100,6 +102,7 @@ fn message_between(
     amount: u64,
     deps: &[u64],
 ) -> Result<Message, MessagesWhy>
+    requires accounts { accounts ≤ most_accounts }
     requires some { 1 ≤ length deps.now }
     requires few { length deps.now ≤ 16 }
     ensures { result ≡ message_between accounts from to amount deps.now }
@@ -112,8 +115,8 @@ fn message_between(
     };
     Ok(Message {
         from: from as u32,
-        to: to as u32,
-        amount,
+        targets: Targets::one(to as u32, amount),
+        reference: [0; 16],
         deps,
     })
 }

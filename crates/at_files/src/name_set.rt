@@ -2,11 +2,9 @@
 
 ghost use Rattle.std.specs.Prelude.{◌≡◌, ◌≤◌, ◌<◌, ◌++◌, [], ◌∷◌, bytes_eq, length, nat_le, not, if◌then◌else◌, slice_index, slice_index_or, IfNone, IfOk, IfSome};
 ghost use Rattle.at_files.specs.Limits.{most_name_bytes};
-ghost use Rattle.std.specs.Char.{is_ascii_lowercase};
-ghost use Rattle.std.specs.List.{IsDistinct, list_all};
+ghost use Rattle.at_files.specs.Prelude.{is_ascii_lowercase, IsDistinct, list_all};
 ghost use Rattle.at_files.specs.Names.{has_name, is_name, is_name_byte, position_of};
 
-use crate::NoMemory;
 use arrayvec::ArrayVec;
 use indexmap::IndexSet;
 use std::alloc::{AllocError, Global};
@@ -79,7 +77,7 @@ impl NameSet {
     }
 
     /// Adds a name after the others, and answers `true`, unless it is there.
-    pub(crate) fn add(&mut self, text: &[u8]) -> Result<bool, NoMemory>
+    pub(crate) fn add(&mut self, text: &[u8]) -> Result<bool, AllocError>
         requires { length text.now ≤ most_name_bytes }
         ensures added { IfOk result (λ added. added ≡ not (has_name self.old text.now)) }
         ensures names { IfOk result

@@ -1,10 +1,9 @@
 //! The names of a book's processes and accounts.
 
 ghost use Rattle.std.specs.Prelude.{◌≡◌, ◌⊎◌, ◌<◌, ◌≤◌, Contains, IfNone, IfOk, IfSome, Some, decimal, length, slice_get};
-ghost use Rattle.at_ledger.specs.Limits.{most_accounts};
+ghost use Rattle.at_files.specs.Prelude.{most_accounts};
 ghost use Rattle.at_files.specs.Names.{AreNamesOf, IsNameList, account_name, decimals_below, position_of, plain_names, process_name};
 
-use crate::NoMemory;
 use crate::name_set::NameSet;
 use at_ledger::Book;
 use std::alloc::{AllocError, Global};
@@ -63,7 +62,7 @@ impl Names {
     }
 
     /// The names of version 1, which are the numbers of the processes and accounts.
-    pub fn plain(alloc: Global, book: &Book) -> Result<Names, NoMemory>
+    pub fn plain(alloc: Global, book: &Book) -> Result<Names, AllocError>
         ensures plain { IfOk result (λ names. names ≡ plain_names book.now) }
         ensures names { IfOk result (λ names. AreNamesOf book.now names) }
     {
@@ -137,7 +136,7 @@ impl Names {
 }
 
 /// The numbers below `count` as names.
-pub(crate) fn plain_names(alloc: Global, count: u32) -> Result<NameSet, NoMemory>
+pub(crate) fn plain_names(alloc: Global, count: u32) -> Result<NameSet, AllocError>
     ensures { IfOk result (λ names. names ≡ decimals_below count) }
 {
     let mut names = NameSet::new(alloc);

@@ -1,12 +1,10 @@
 //! The owners field of an account's record.
 
 ghost use Rattle.std.specs.Prelude.{◌≡◌, ◌+◌, ◌<◌, ◌==◌, Err, IfOk, Ok, Some, option_map};
-ghost use Rattle.at_ledger.specs.Limits.{most_accounts};
-ghost use Rattle.std.specs.List.{slice_split};
+ghost use Rattle.at_files.specs.Prelude.{most_accounts, slice_split};
 ghost use Rattle.at_files.specs.BookFile.{at_line};
 ghost use Rattle.at_files.specs.BookRecords.{numbers_of, owner_known, owners_named, pieces_of};
 
-use crate::NoMemory;
 use crate::book_fault::{BadBook, BookWhy, ReadBookFault};
 use crate::first_records::bad_book;
 use crate::name_set::NameSet;
@@ -15,7 +13,7 @@ use at_ledger::{ACCOUNTS_MAX, BookError, OWNERS_MAX};
 use std::alloc::{AllocError, Global};
 
 /// The numbers of an owners field, or `None` where a piece is no number.
-pub(crate) fn read_owners(alloc: Global, text: &[u8]) -> Result<Option<Vec<u64>>, NoMemory>
+pub(crate) fn read_owners(alloc: Global, text: &[u8]) -> Result<Option<Vec<u64>>, AllocError>
     ensures { IfOk result
         (λ owners. option_map (λ list. list.items) owners ≡ numbers_of (pieces_of text.now)) }
 {
@@ -27,7 +25,7 @@ pub(crate) fn read_owners(alloc: Global, text: &[u8]) -> Result<Option<Vec<u64>>
 }
 
 /// The numbers of the pieces between spaces.
-fn read_numbers(alloc: Global, text: &[u8]) -> Result<Option<Vec<u64>>, NoMemory>
+fn read_numbers(alloc: Global, text: &[u8]) -> Result<Option<Vec<u64>>, AllocError>
     ensures { IfOk result
         (λ owners. option_map (λ list. list.items) owners ≡ numbers_of
         (slice_split (λ byte. byte == 32) text.now)) }

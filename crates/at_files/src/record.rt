@@ -26,7 +26,7 @@ impl<'a> Drop for Record<'a> {
 
 impl<'a> Model for Record<'a> {
     ghost use Rattle.std.specs.Prelude.{List, if◌then◌else◌};
-    ghost use Rattle.csv.specs.Records.{fields_of};
+    ghost use Rattle.at_files.specs.Prelude.{fields_of};
     ghost use Rattle.at_files.specs.Reading.{texts_of};
     ghost use Rattle.at_files.specs.Records.{Fields};
 

@@ -1,16 +1,15 @@
 //! The records of a file, one after another.
 
 ghost use Rattle.std.specs.Prelude.{◌≡◌, ◌∷◌, [], true, if◌then◌else◌, IfOk, OnErr};
-ghost use Rattle.csv.specs.Reading.{strip_bom};
+ghost use Rattle.at_files.specs.Prelude.{strip_bom};
 ghost use Rattle.at_files.specs.Reading.{IsPlain};
 ghost use Rattle.at_files.specs.Records.{file_records};
 
-use crate::NoMemory;
 use crate::csv_records::CsvRecords;
 use crate::lines::Lines;
 use crate::record::Record;
 use memchr::memchr2;
-use std::alloc::Global;
+use std::alloc::{AllocError, Global};
 use std::marker::Model;
 
 /// The records that are left of a file: its lines, or what `csv` reads where they may be more or less than that.
@@ -48,7 +47,7 @@ impl<'a> Records<'a> {
     }
 
     /// Reads the next record into `fields`, and answers whether there was one. Without memory there are no more.
-    pub(crate) fn next(&mut self, fields: &mut Record<'a>) -> Result<bool, NoMemory>
+    pub(crate) fn next(&mut self, fields: &mut Record<'a>) -> Result<bool, AllocError>
         ensures ok { IfOk result
             (λ found. self.old ≡ (if found then fields.new ∷ self.new else [])) }
         ensures err { OnErr result (self.new ≡ []) }

@@ -1,9 +1,6 @@
 -- Adding the amounts of targets one after another.
 use Rattle.std.proofs.Common.{◌≡◌, ℕ, ◌<◌, ◌≤◌, ◌==◌, Bool, true, false, cond, List, [], ◌∷◌, length, arith}
-use Rattle.std.proofs.lemmas.List.Sums.{sum_by-cons}
-use Rattle.at_ledger.specs.Call.{TargetPair, amount_of}
-use Rattle.at_history.specs.Balances.{amount_for}
-use Rattle.at_fold.specs.Sums.{AccountSums, sums_at, with_credit}
+use Rattle.at_fold.proofs.Prelude.{sum_by-cons, TargetPair, amount_of, amount_for, AccountSums, sums_at, with_credit}
 
 -- one more of two numbers
 pub cond-le : (t : Bool) (n : ℕ) → cond t n 0 ≤ n

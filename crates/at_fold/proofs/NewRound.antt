@@ -1,23 +1,8 @@
 -- Sums of a list with the first record of one more round.
 use Rattle.std.proofs.Common.{◌≡◌, ℕ, ◌^◌, ◌<◌, ◌≤◌, ◌&&◌, ◌||◌, eqb, Bool, true, false, cond, List, [], ◌∷◌, ◌++◌, length, refl, sym, ap, subst, ◌∙◌, arith, inl, inr, get_or-set_other, get_or-set_same, length-set, length-append}
 use Rattle.std.specs.Prelude.{Some, None}
-use Rattle.std.proofs.lemmas.Bool.{cases_eq, eq-eqb, ne_eqb}
-use Rattle.std.proofs.lemmas.List.Elements.{Contains-push}
-use Rattle.std.specs.List.{list_any}
-use Rattle.at_base.specs.declared.decision.Decision.{Decision}
-use Rattle.at_ledger.specs.Book.{BookTerms}
-use Rattle.at_ledger.specs.Call.{TargetPair}
-use Rattle.at_history.proofs.Laws.Rounds.{one_if, published, sum_by-firsts_new}
-use Rattle.at_history.specs.Balances.{credit_of, debit_of}
-use Rattle.at_history.specs.Entries.{is_round, is_round_on, names, settles}
-use Rattle.at_history.specs.Rounds.{firsts, repeats}
-use Rattle.at_history.specs.declared.publication.Entry.{Entry}
-use Rattle.at_history.specs.declared.publication.Entry.TheVariants.{Own, Round}
-use Rattle.at_history.specs.declared.publication.Publication.{Publication}
+use Rattle.at_fold.proofs.Prelude.{cases_eq, eq-eqb, ne_eqb, Contains-push, list_any, Decision, BookTerms, TargetPair, one_if, published, sum_by-firsts_new, credit_of, debit_of, is_round, is_round_on, names, settles, firsts, repeats, Entry, Own, Round, Publication, IsSettledSo, IsDecidedIn, AreSumsOf, IsAccountOf, IsSlotOf, AccountSums, HasSums, SlotSums, after_entry, answer_at, is_counted, no_slot, sums_at, slot_at, with_amounts, with_answer, with_round}
 use Rattle.at_fold.proofs.OneMoreRecord.{IsAccountOf-other, IsSettledSo-push, IsSlotOf-other, list_any_fails, list_any_push, or_true}
-use Rattle.at_fold.specs.Counted.{IsSettledSo, IsDecidedIn}
-use Rattle.at_fold.specs.HasCounted.{AreSumsOf, IsAccountOf, IsSlotOf}
-use Rattle.at_fold.specs.Sums.{AccountSums, HasSums, SlotSums, after_entry, answer_at, is_counted, no_slot, sums_at, slot_at, with_amounts, with_answer, with_round}
 
 -- a test of two numbers of which the first ones are the same
 both_same : (a : ℕ) (t : Bool) → (eqb a a && t) ≡ t

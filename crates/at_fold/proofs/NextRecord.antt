@@ -1,31 +1,10 @@
 -- What holds where a record may be counted next, and after it is.
 use Rattle.std.proofs.Common.{◌≡◌, ℕ, ◌+◌, ◌^◌, ◌<◌, ◌≤◌, ◌==◌, zero, suc, Bool, true, false, not, List, [], ◌∷◌, ◌++◌, length, get_or, take, set, refl, sym, ap, subst, ◌∙◌, arith, inl, inr, get_or-set_other, get_or-set_same, length-set}
-use Rattle.std.proofs.lemmas.Bool.{cases_Bool, cases_eq}
-use Rattle.std.proofs.lemmas.List.{get_or_default, take_all, take_more}
-use Rattle.std.proofs.lemmas.List.Elements.{All-append, All-contains_itself, All-filter, All-get_or}
-use Rattle.std.specs.List.{Contains, sum_by}
-use Rattle.at_ledger.specs.Book.{BookTerms}
-use Rattle.at_ledger.specs.Call.{AreTargetsOn}
-use Rattle.at_history.proofs.Laws.Counts.{get_or-counts, length-counts}
-use Rattle.at_history.proofs.Laws.RoundSums.{repeats-firsts}
-use Rattle.at_history.proofs.Laws.Rounds.{firsts-nil, one_if, published, repeats-own, sum_by-firsts_new, sum_by-firsts_repeat}
-use Rattle.at_history.specs.Balances.{credit_of, debit_of}
-use Rattle.at_history.specs.BoardState.{publication_at}
-use Rattle.at_history.specs.Entries.{is_round_on, names}
-use Rattle.at_history.specs.Fronts.{prefix_of}
-use Rattle.at_history.specs.Histories.{IsShownDecision, IsHistory, IsShownEntry}
-use Rattle.at_history.specs.Publications.{count_of, counts, no_publication, publications_of}
-use Rattle.at_history.specs.Rounds.{firsts, repeats}
-use Rattle.at_history.specs.declared.publication.Entry.{Entry}
-use Rattle.at_history.specs.declared.publication.Entry.TheVariants.{Own, Round}
-use Rattle.at_history.specs.declared.publication.Publication.{Publication}
+use Rattle.at_fold.proofs.Prelude.{cases_Bool, cases_eq, get_or_default, take_all, take_more, All-append, All-contains_itself, All-filter, All-get_or, Contains, sum_by, BookTerms, AreTargetsOn, get_or-counts, length-counts, repeats-firsts, firsts-nil, one_if, published, repeats-own, sum_by-firsts_new, sum_by-firsts_repeat, credit_of, debit_of, publication_at, is_round_on, names, prefix_of, IsShownDecision, IsHistory, IsShownEntry, count_of, counts, no_publication, publications_of, firsts, repeats, Entry, Own, Round, Publication, counted_records, AreSumsOf, HasCounted, MayCount, AccountSums, FitsMore, FitsRound, HasSums, TotalSums, after_entry, is_new_to, sums_at}
 use Rattle.at_fold.proofs.Laws.CountedRecords.{All-counted_records, HasSameRecords-more, length-counted_records-le}
 use Rattle.at_fold.proofs.NewRound.{AreSumsOf-new}
 use Rattle.at_fold.proofs.OneMoreRecord.{AreSumsOf-repeat}
 use Rattle.at_fold.proofs.SumsOfLists.{AreSumsOf-same}
-use Rattle.at_fold.specs.Counted.{counted_records}
-use Rattle.at_fold.specs.HasCounted.{AreSumsOf, HasCounted, MayCount}
-use Rattle.at_fold.specs.Sums.{AccountSums, FitsMore, FitsRound, HasSums, TotalSums, after_entry, is_new_to, sums_at}
 
 -- the record that is counted next
 abbrev pub next_record : TotalSums → List Publication → ℕ → Publication

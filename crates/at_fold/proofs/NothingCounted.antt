@@ -1,21 +1,8 @@
 -- Totals that have counted nothing.
 use Rattle.std.proofs.Common.{◌≡◌, ℕ, ◌+◌, zero, suc, false, List, [], ◌++◌, length, map, replicate, take, refl, sym, ap, subst, ◌∙◌, arith}
 use Rattle.std.specs.Prelude.{None}
-use Rattle.std.proofs.lemmas.List.{get_or-replicate, length-replicate}
-use Rattle.std.proofs.lemmas.List.FromFn.{get_or-map-range_with_len, length-map-range_with_len}
-use Rattle.std.specs.List.{flat_map, range_with_len, sum_by}
-use Rattle.at_ledger.specs.Account.{rounds_room, slots_of}
-use Rattle.at_ledger.specs.Book.{BookTerms, IsBook, account_of}
-use Rattle.at_history.proofs.Laws.Rounds.{firsts-nil, one_if}
-use Rattle.at_history.proofs.Laws.Sums.{get_or-zeros}
-use Rattle.at_history.specs.Balances.{credit_of, debit_of}
-use Rattle.at_history.specs.Entries.{is_round_on, names}
-use Rattle.at_history.specs.Publications.{publications_of}
-use Rattle.at_history.specs.declared.publication.Publication.{Publication}
+use Rattle.at_fold.proofs.Prelude.{get_or-replicate, length-replicate, get_or-map-range_with_len, length-map-range_with_len, flat_map, range_with_len, sum_by, rounds_room, slots_of, BookTerms, IsBook, account_of, firsts-nil, one_if, get_or-zeros, credit_of, debit_of, is_round_on, names, publications_of, Publication, IsSettledSo, counted_records, AreSumsOf, HasCounted, IsAccountOf, IsSlotOf, no_sums, no_slot, starting_sums, starting_slot}
 use Rattle.at_fold.proofs.Laws.CountedRecords.{part}
-use Rattle.at_fold.specs.Counted.{IsSettledSo, counted_records}
-use Rattle.at_fold.specs.HasCounted.{AreSumsOf, HasCounted, IsAccountOf, IsSlotOf}
-use Rattle.at_fold.specs.Sums.{no_sums, no_slot, starting_sums, starting_slot}
 
 counted_records-zeros : (n : ℕ) (list : List Publication) → counted_records (replicate n 0) list ≡ []
 unfolding counted_records

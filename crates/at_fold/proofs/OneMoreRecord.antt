@@ -1,24 +1,8 @@
 -- Sums of a list with one more record.
 use Rattle.std.proofs.Common.{◌≡◌, ℕ, ◌^◌, ◌≤◌, ◌||◌, zero, suc, Bool, true, false, List, [], ◌∷◌, ◌++◌, refl, sym, ap, ◌∙◌, arith, inl, inr, length-append}
 use Rattle.std.specs.Prelude.{Option, Some, None}
-use Rattle.std.proofs.lemmas.Bool.{cases_Bool}
-use Rattle.std.proofs.lemmas.List.Elements.{All-contains, Contains-append_left}
-use Rattle.std.proofs.lemmas.List.Folds.{list_any-append}
-use Rattle.std.specs.List.{All, Contains, list_any}
-use Rattle.at_base.specs.declared.decision.Decision.{Decision}
-use Rattle.at_ledger.specs.Book.{BookTerms}
-use Rattle.at_history.proofs.Laws.RoundSums.{repeats-firsts}
-use Rattle.at_history.proofs.Laws.Rounds.{one_if, sum_by-firsts_new, sum_by-firsts_repeat}
-use Rattle.at_history.specs.Balances.{credit_of, debit_of}
-use Rattle.at_history.specs.Entries.{is_round, is_round_on, is_same_round, names, settles}
-use Rattle.at_history.specs.Histories.{IsHistory}
-use Rattle.at_history.specs.Rounds.{firsts, repeats}
-use Rattle.at_history.specs.declared.publication.Entry.{Entry}
-use Rattle.at_history.specs.declared.publication.Publication.{Publication}
+use Rattle.at_fold.proofs.Prelude.{cases_Bool, All-contains, Contains-append_left, list_any-append, All, Contains, list_any, Decision, BookTerms, repeats-firsts, one_if, sum_by-firsts_new, sum_by-firsts_repeat, credit_of, debit_of, is_round, is_round_on, is_same_round, names, settles, IsHistory, firsts, repeats, Entry, Publication, IsSettledSo, AreSumsOf, IsAccountOf, IsSlotOf, AccountSums, SlotSums, answer_at, sums_at, slot_at, with_amounts}
 use Rattle.at_fold.proofs.SumsOfLists.{same_entry-IsHistory}
-use Rattle.at_fold.specs.Counted.{IsSettledSo}
-use Rattle.at_fold.specs.HasCounted.{AreSumsOf, IsAccountOf, IsSlotOf}
-use Rattle.at_fold.specs.Sums.{AccountSums, SlotSums, answer_at, sums_at, slot_at, with_amounts}
 
 -- an element that passes a test that some element passes
 found_by : (g : Publication → Bool) (xs : List Publication) → list_any g xs ≡ true → (y : Publication) × Contains xs y × (g y ≡ true)

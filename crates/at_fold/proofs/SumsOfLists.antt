@@ -1,27 +1,7 @@
 -- Sums of a list: they are those of each list with the same records, and one more record changes them so.
 use Rattle.std.proofs.Common.{◌≡◌, ℕ, ◌*◌, ◌^◌, ◌<◌, ◌&&◌, zero, suc, eqb, Bool, true, false, List, [], ◌∷◌, ◌++◌, length, get_or, refl, sym, ap, subst, ◌∙◌, arith, inl, inr}
 use Rattle.std.specs.Prelude.{Option, Some, None}
-use Rattle.std.proofs.lemmas.Bool.{eqb-true}
-use Rattle.std.proofs.lemmas.List.{get_or_default}
-use Rattle.std.proofs.lemmas.List.Elements.{All-append, All-contains, All-weaker, Contains-append_cases, Contains-append_left, Contains-append_right}
-use Rattle.std.specs.List.{All, Contains, sum_by}
-use Rattle.at_base.specs.declared.decision.Decision.{Decision}
-use Rattle.at_ledger.specs.Book.{BookTerms}
-use Rattle.at_history.proofs.Laws.RoundSums.{sum_by-firsts-same}
-use Rattle.at_history.proofs.Laws.Rounds.{one_if}
-use Rattle.at_history.proofs.Laws.Shuffles.{HasSameRecords, IsShuffle, IsShuffle-HasSameRecords, length-IsShuffle, list_any-IsShuffle}
-use Rattle.at_history.specs.Balances.{credit_of, debit_of}
-use Rattle.at_history.specs.BoardState.{publication_at}
-use Rattle.at_history.specs.Entries.{is_round, is_round_on, is_same_round, names, settles}
-use Rattle.at_history.specs.Histories.{AgreeOnRound, IsHistory}
-use Rattle.at_history.specs.Publications.{no_publication}
-use Rattle.at_history.specs.Rounds.{firsts}
-use Rattle.at_history.specs.declared.publication.Entry.{Entry}
-use Rattle.at_history.specs.declared.publication.Entry.TheVariants.{Own, Round}
-use Rattle.at_history.specs.declared.publication.Publication.{Publication}
-use Rattle.at_fold.specs.Counted.{IsSettledSo}
-use Rattle.at_fold.specs.HasCounted.{AreSumsOf, IsAccountOf, IsSlotOf}
-use Rattle.at_fold.specs.Sums.{AccountSums, SlotSums, answer_at, sums_at, slot_at}
+use Rattle.at_fold.proofs.Prelude.{eqb-true, get_or_default, All-append, All-contains, All-weaker, Contains-append_cases, Contains-append_left, Contains-append_right, All, Contains, sum_by, Decision, BookTerms, sum_by-firsts-same, one_if, HasSameRecords, IsShuffle, IsShuffle-HasSameRecords, length-IsShuffle, list_any-IsShuffle, credit_of, debit_of, publication_at, is_round, is_round_on, is_same_round, names, settles, AgreeOnRound, IsHistory, no_publication, firsts, Entry, Own, Round, Publication, IsSettledSo, AreSumsOf, IsAccountOf, IsSlotOf, AccountSums, SlotSums, answer_at, sums_at, slot_at}
 
 and_true : (s t : Bool) → (s && t) ≡ true → (s ≡ true) × (t ≡ true)
 and_true true true both = (refl, refl)
@@ -53,21 +33,21 @@ same_entry-IsHistory b seen history x y (m, within, one) (k, inside, two) same =
 -- the same elements
 All-IsShuffle : (xs ys : List Publication) → IsShuffle xs ys → All (Contains ys) xs
 All-IsShuffle [] ys none = λ k d within. absurd (omega (arith, within))
-All-IsShuffle (x ∷ xs) ys (front, back, split, rest) =
+All-IsShuffle (x ∷ xs) ys (cut, back, split, rest) =
     subst (λ t. All (Contains t) (x ∷ xs)) (sym split)
-    (All-append (Contains (front ++ x ∷ back)) (x ∷ []) xs
-    (λ k d within. subst (λ (y : Publication). Contains (front ++ x ∷ back) y) (only k d within) (Contains-append_right front (x ∷ back) x (0, omega arith, refl)))
-    (All-weaker (Contains (front ++ back)) (Contains (front ++ x ∷ back)) more xs (All-IsShuffle xs (front ++ back) rest)))
+    (All-append (Contains (cut ++ x ∷ back)) (x ∷ []) xs
+    (λ k d within. subst (λ (y : Publication). Contains (cut ++ x ∷ back) y) (only k d within) (Contains-append_right cut (x ∷ back) x (0, omega arith, refl)))
+    (All-weaker (Contains (cut ++ back)) (Contains (cut ++ x ∷ back)) more xs (All-IsShuffle xs (cut ++ back) rest)))
   where
     only : (k : ℕ) (d : Publication) → k < length (x ∷ []) → x ≡ get_or (x ∷ []) k d
     only zero d within = refl
     only (suc k) d within = absurd (omega (arith, within))
 
-    more : (y : Publication) → Contains (front ++ back) y → Contains (front ++ x ∷ back) y
+    more : (y : Publication) → Contains (cut ++ back) y → Contains (cut ++ x ∷ back) y
     more y found =
-        elim (Contains-append_cases front back y found) [
-          | inl before ↦ Contains-append_left front (x ∷ back) y before
-          | inr (k, within, is) ↦ Contains-append_right front (x ∷ back) y (suc k, omega (arith, within), is)
+        elim (Contains-append_cases cut back y found) [
+          | inl before ↦ Contains-append_left cut (x ∷ back) y before
+          | inr (k, within, is) ↦ Contains-append_right cut (x ∷ back) y (suc k, omega (arith, within), is)
         ]
 
 -- an answer depends on the records alone

@@ -1,8 +1,6 @@
 -- Totals that catch up with counts, record by record.
 use Rattle.std.specs.Prelude.{◌≡◌, ℕ, ◌<◌, List, slice_index}
-use Rattle.at_base.specs.Counts.{Covers}
-use Rattle.at_ledger.specs.Book.{BookTerms}
-use Rattle.at_history.specs.declared.publication.Publication.{Publication}
+use Rattle.at_fold.specs.Prelude.{Covers, BookTerms, Publication}
 use Rattle.at_fold.specs.HasCounted.{HasCounted, HasRecords}
 use Rattle.at_fold.specs.Sums.{TotalSums}
 

@@ -1,12 +1,6 @@
 -- The records that are counted, and what they say of a request.
 use Rattle.std.specs.Prelude.{◌≡◌, ℕ, false, List, length, take, slice_index, Contains, Option, Some, None}
-use Rattle.std.specs.List.{flat_map, range_with_len}
-use Rattle.at_base.specs.declared.decision.Decision.{Decision}
-use Rattle.at_ledger.specs.Call.{TargetPair}
-use Rattle.at_history.specs.declared.publication.Entry.TheVariants.{Round}
-use Rattle.at_history.specs.declared.publication.Publication.{Publication}
-use Rattle.at_history.specs.Publications.{publications_of}
-use Rattle.at_history.specs.Rounds.{is_settled}
+use Rattle.at_fold.specs.Prelude.{flat_map, range_with_len, Decision, TargetPair, Round, Publication, publications_of, is_settled}
 
 -- the first records of each process, as many as its count says, process by process
 unfoldable pub counted_records : List ℕ → List Publication → List Publication

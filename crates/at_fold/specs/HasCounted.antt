@@ -1,19 +1,6 @@
 -- What totals have counted, of a list of publications that a seat has seen.
 use Rattle.std.specs.Prelude.{◌≡◌, ℕ, ◌*◌, ◌^◌, ◌<◌, ◌≤◌, List, length, slice_index}
-use Rattle.at_base.specs.Counts.{Covers}
-use Rattle.at_ledger.specs.Account.{rounds_room}
-use Rattle.at_ledger.specs.Book.{BookTerms, IsBook, account_of}
-use Rattle.at_history.specs.declared.publication.Entry.{Entry}
-use Rattle.at_history.specs.declared.publication.Publication.{Publication}
-use Rattle.at_history.specs.Balances.{credits, debits}
-use Rattle.at_history.specs.BoardState.{publication_at}
-use Rattle.at_history.specs.Entries.{is_round}
-use Rattle.at_history.specs.Fronts.{IsFront}
-use Rattle.at_ledger.specs.Account.{slots_of}
-use Rattle.at_history.specs.Publications.{IsPrefix, count_of, counts, publications_of}
-use Rattle.at_history.specs.Rounds.{named, rounds}
-use Rattle.at_history.specs.Histories.{IsHistory}
-use Rattle.std.specs.List.{list_any}
+use Rattle.at_fold.specs.Prelude.{Covers, rounds_room, BookTerms, IsBook, account_of, Entry, Publication, credits, debits, publication_at, is_round, IsCut, slots_of, IsPrefix, count_of, counts, publications_of, named, rounds, IsHistory, list_any}
 use Rattle.at_fold.specs.Counted.{IsSettledSo, counted_records}
 use Rattle.at_fold.specs.Sums.{AccountSums, SlotSums, TotalSums, answer_at, is_counted, sums_at, slot_at}
 
@@ -81,6 +68,6 @@ pub record CountsSlot (t : TotalSums) (b : BookTerms) (seen : List Publication) 
   pub slot_in : slot < slots_of (account_of b a)
 
 -- the totals have counted exactly the records of a prefix of the list
-pub record CountsFront (t : TotalSums) (b : BookTerms) (seen : List Publication) : Type 0 where
+pub record CountsCut (t : TotalSums) (b : BookTerms) (seen : List Publication) : Type 0 where
   pub history : IsHistory b seen
-  pub front : IsFront b.processes t.upto seen
+  pub cut : IsCut b.processes t.upto seen

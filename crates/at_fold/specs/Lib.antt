@@ -1,3 +1,4 @@
+pub mod Prelude
 pub mod Sums
 pub mod Counted
 pub mod HasCounted

@@ -1,13 +1,6 @@
 -- What totals keep of slots and accounts, and how one more record changes it.
 use Rattle.std.specs.Prelude.{ℕ, ◌+◌, ◌^◌, ◌<◌, ◌==◌, Bool, true, false, List, [], length, replicate, slice_index_or, slice_set, Option, Some, None, if◌then◌else◌, not}
-use Rattle.at_base.specs.declared.decision.Decision.{Decision}
-use Rattle.at_ledger.specs.Account.{rounds_room}
-use Rattle.at_ledger.specs.Book.{BookTerms, account_of}
-use Rattle.at_ledger.specs.Call.{AreTargetsOn}
-use Rattle.at_history.specs.declared.publication.Entry.{Entry}
-use Rattle.at_history.specs.declared.publication.Entry.TheVariants.{Own, Round}
-use Rattle.at_history.specs.Balances.{credit_of, debit_of}
-use Rattle.at_ledger.specs.Account.{slots_of}
+use Rattle.at_fold.specs.Prelude.{Decision, rounds_room, BookTerms, account_of, AreTargetsOn, Entry, Own, Round, credit_of, debit_of, slots_of}
 
 -- how many requests of a slot are decided, and the round and decision of each by its number
 pub record SlotSums : Type 0 where

@@ -3,11 +3,10 @@
 ghost use Rattle.std.specs.Prelude.{◌≡◌, ◌+◌, ◌-◌, ◌*◌, ◌<◌, ◌≤◌, ◌^◌, false, length, IfOk};
 ghost use Rattle.at_fold.specs.Sums.{answer_at, is_counted, slot_at, starting_sums, with_credit, with_debit, with_round};
 
-use crate::NoMemory;
 use crate::slot_totals::SlotTotals;
 use at_base::Decision;
 use at_ledger::Book;
-use std::alloc::Global;
+use std::alloc::{AllocError, Global};
 use std::marker::Model;
 
 /// What the records counted have added to an account and taken from it, and what they say of its rounds.
@@ -39,7 +38,7 @@ impl Model for AccountTotals {
 
 impl AccountTotals {
     /// Nothing counted of an account of the book.
-    pub(crate) fn new(alloc: Global, book: &Book, account: u32) -> Result<AccountTotals, NoMemory>
+    pub(crate) fn new(alloc: Global, book: &Book, account: u32) -> Result<AccountTotals, AllocError>
         requires { account < length book.now.accounts }
         ensures { IfOk result (λ a. a ≡ starting_sums book.now account) }
     {

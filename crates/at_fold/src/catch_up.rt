@@ -1,11 +1,7 @@
 //! Counting what was published since.
 
 ghost use Rattle.std.specs.Prelude.{◌≡◌, ◌+◌, ◌-◌, ◌*◌, ◌<◌, ◌≤◌, slice_index, slice_set, sum};
-ghost use Rattle.at_base.specs.Counts.{Covers};
-ghost use Rattle.at_board.specs.Counting.{stepped};
-ghost use Rattle.at_history.specs.Publications.{count_of};
-ghost use Rattle.at_board.specs.Knowledge.Seats.{IsOf};
-ghost use Rattle.at_board.specs.declared.words.TheConstants.{RECORD_WORDS};
+ghost use Rattle.at_fold.specs.Prelude.{Covers, stepped, count_of, IsOf, RECORD_WORDS};
 ghost use Rattle.at_fold.specs.HasCounted.{HasCounted, HasRecords, StaysCounted};
 
 use crate::totals::Totals;

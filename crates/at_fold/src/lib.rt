@@ -8,4 +8,3 @@ mod slot_totals;
 mod totals;
 
 pub use crate::totals::Totals;
-pub use at_base::NoMemory;

@@ -3,9 +3,8 @@
 ghost use Rattle.std.specs.Prelude.{◌≡◌, ◌+◌, ◌<◌, ◌^◌, length, replicate, None, Some, IfOk};
 ghost use Rattle.at_fold.specs.Sums.{answer_at, with_answer};
 
-use crate::NoMemory;
 use at_base::Decision;
-use std::alloc::Global;
+use std::alloc::{AllocError, Global};
 use std::marker::Model;
 
 /// How many requests of a slot are decided, and for each of them, by number, the round and the decision.
@@ -25,7 +24,7 @@ impl Model for SlotTotals {
 
 impl SlotTotals {
     /// Nothing counted, with room for so many requests.
-    pub(crate) fn new(alloc: Global, request_room: u32) -> Result<SlotTotals, NoMemory>
+    pub(crate) fn new(alloc: Global, request_room: u32) -> Result<SlotTotals, AllocError>
         ensures { IfOk result (λ s. s ≡ record {
           done = 0;
           settled = replicate request_room None;

@@ -1,23 +1,16 @@
 //! Totals.
 
 ghost use Rattle.std.specs.Prelude.{◌≡◌, ℕ, ◌+◌, ◌<◌, ◌≤◌, ◌==◌, ◌^◌, List, length, replicate, slice_index, slice_set, IfOk, if◌then◌else◌};
-ghost use Rattle.at_ledger.specs.Book.{BookTerms};
-ghost use Rattle.at_ledger.specs.Call.{AreTargetsOn, amount_of};
-ghost use Rattle.at_history.specs.declared.publication.Publication.{Publication};
-ghost use Rattle.at_history.specs.Balances.{amount_for, balance_after, credit_of, debit_of};
-ghost use Rattle.at_history.specs.Fronts.{prefix_of};
-ghost use Rattle.at_history.specs.Rounds.{named, rounds};
-ghost use Rattle.at_board.specs.Knowledge.Parts.{own_part};
+ghost use Rattle.at_fold.specs.Prelude.{BookTerms, AreTargetsOn, amount_of, Publication, amount_for, balance_after, credit_of, debit_of, prefix_of, named, rounds, own_part};
 ghost use Rattle.at_fold.specs.Counted.{IsSettledSo, counted_records};
-ghost use Rattle.at_fold.specs.HasCounted.{CountsAccount, CountsFront, CountsSlot, HasCounted, IsNext, MayCount, StaysCounted};
+ghost use Rattle.at_fold.specs.HasCounted.{CountsAccount, CountsCut, CountsSlot, HasCounted, IsNext, MayCount, StaysCounted};
 ghost use Rattle.at_fold.specs.Sums.{FitsMore, FitsRound, HasSums, after_entry, is_new_to, sums_at, with_amounts, with_credit, with_decided_round};
 
-use crate::NoMemory;
 use crate::account_totals::AccountTotals;
 use at_base::{Counts, Decision};
 use at_board::{BoardSeat, Entry};
 use at_ledger::{Book, Targets};
-use std::alloc::Global;
+use std::alloc::{AllocError, Global};
 use std::marker::Model;
 
 /// Sums over the records counted so far, each round counted once.
@@ -37,7 +30,7 @@ impl Model for Totals {
 
 impl Totals {
     /// Totals that have counted nothing. All their memory is taken here, in proportion to the accounts and the rounds of the book.
-    pub fn new(alloc: Global, book: &Book) -> Result<Totals, NoMemory>
+    pub fn new(alloc: Global, book: &Book) -> Result<Totals, AllocError>
         ensures upto { IfOk result (λ t. t.upto ≡ replicate book.now.processes 0) }
         ensures counted { IfOk result (λ t. (seen : List Publication)
             → HasCounted t book.now seen) }
@@ -72,9 +65,9 @@ impl Totals {
     /// The balance of the account after the prefix of the publications that is counted. By look-up.
     pub fn balance(&self, account: u32) -> u64
         requires { (b : BookTerms) × (seen : List Publication)
-            × CountsAccount self.now b seen account × CountsFront self.now b seen }
+            × CountsAccount self.now b seen account × CountsCut self.now b seen }
         ensures { (b : BookTerms) (seen : List Publication) → CountsAccount self.now b seen account
-            → CountsFront self.now b seen → result
+            → CountsCut self.now b seen → result
             ≡ balance_after b (prefix_of self.now.upto seen) account }
     {
         self.accounts[account as usize].balance()
@@ -87,8 +80,8 @@ impl Totals {
         ensures counted { (b : BookTerms) (seen : List Publication)
             → CountsAccount self.now b seen account
             → result ≡ rounds account (counted_records self.now.upto seen) }
-        ensures front { (b : BookTerms) (seen : List Publication)
-            → CountsAccount self.now b seen account → CountsFront self.now b seen
+        ensures cut { (b : BookTerms) (seen : List Publication)
+            → CountsAccount self.now b seen account → CountsCut self.now b seen
             → result ≡ rounds account (prefix_of self.now.upto seen) }
     {
         self.accounts[account as usize].rounds()
@@ -101,8 +94,8 @@ impl Totals {
         ensures counted { (b : BookTerms) (seen : List Publication)
             → CountsSlot self.now b seen account slot
             → result ≡ named account slot (counted_records self.now.upto seen) }
-        ensures front { (b : BookTerms) (seen : List Publication)
-            → CountsSlot self.now b seen account slot → CountsFront self.now b seen
+        ensures cut { (b : BookTerms) (seen : List Publication)
+            → CountsSlot self.now b seen account slot → CountsCut self.now b seen
             → result ≡ named account slot (prefix_of self.now.upto seen) }
     {
         self.accounts[account as usize].done(slot)
@@ -115,9 +108,9 @@ impl Totals {
         ensures counted { (b : BookTerms) (seen : List Publication)
             → CountsSlot self.now b seen account slot → number < b.request_room
             → IsSettledSo (counted_records self.now.upto seen) account slot number result }
-        ensures front { (b : BookTerms) (seen : List Publication)
+        ensures cut { (b : BookTerms) (seen : List Publication)
             → CountsSlot self.now b seen account slot → number < b.request_room
-            → CountsFront self.now b seen → IsSettledSo
+            → CountsCut self.now b seen → IsSettledSo
             (prefix_of self.now.upto seen) account slot number result }
     {
         self.accounts[account as usize].settled(slot, number)

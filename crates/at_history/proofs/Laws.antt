@@ -6,7 +6,7 @@ pub mod Slots
 pub mod Distinct
 pub mod Histories
 pub mod Payments
-pub mod Fronts
+pub mod Cuts
 pub mod Rounds
 pub mod Covers
 pub mod Runs

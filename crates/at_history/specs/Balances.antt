@@ -1,7 +1,6 @@
 -- The balance of an account after a prefix, as sums.
 use Rattle.std.specs.Prelude.{ℕ, ◌+◌, ◌-◌, ◌≤◌, ◌==◌, ◌&&◌, List, sum_by, if◌then◌else◌}
-use Rattle.at_ledger.specs.Book.{BookTerms, account_of}
-use Rattle.at_ledger.specs.Call.{TargetPair, amount_of}
+use Rattle.at_history.specs.Prelude.{BookTerms, account_of, TargetPair, amount_of}
 use Rattle.at_history.specs.Entries.{is_done, source_of, targets_of}
 use Rattle.at_history.specs.Rounds.{firsts}
 use Rattle.at_history.specs.declared.publication.Entry.{Entry}

@@ -1,6 +1,6 @@
 -- The state that the words of a board stand for.
 use Rattle.std.specs.Prelude.{ℕ, false, List, [], slice_index_or, Option}
-use Rattle.at_base.specs.declared.decision.Decision.{Decision}
+use Rattle.at_history.specs.Prelude.{Decision}
 use Rattle.at_history.specs.Publications.{no_publication}
 use Rattle.at_history.specs.declared.cell.Cell.{Cell}
 use Rattle.at_history.specs.declared.publication.Publication.{Publication}

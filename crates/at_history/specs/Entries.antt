@@ -1,6 +1,6 @@
 -- What an entry says: its source, its targets, and whether it moved anything.
 use Rattle.std.specs.Prelude.{ℕ, Bool, true, false, ◌&&◌, ◌==◌, List}
-use Rattle.at_ledger.specs.Call.{TargetPair}
+use Rattle.at_history.specs.Prelude.{TargetPair}
 use Rattle.at_history.specs.declared.publication.Entry.{Entry}
 use Rattle.at_history.specs.declared.publication.Entry.TheVariants.{Own, Round}
 

@@ -1,6 +1,6 @@
 -- Held cells: a process that has won the cell of a round holds it until it has published that round.
 use Rattle.std.specs.Prelude.{◌==◌, ◌&&◌, Bool, false, Option, Some, None, if◌then◌else◌}
-use Rattle.at_history.specs.Fronts.{place}
+use Rattle.at_history.specs.Cuts.{place}
 use Rattle.at_history.specs.declared.cell.Cell.{Cell}
 use Rattle.at_history.specs.declared.publication.Entry.{Entry}
 use Rattle.at_history.specs.declared.publication.Entry.TheVariants.{Own, Round}

@@ -1,13 +1,9 @@
 -- What a list of publications shows by itself, without the state that it was part of.
 use Rattle.std.specs.Prelude.{◌≡◌, ℕ, ◌<◌, ◌≤◌, ◌↔◌, true, List, length, take}
-use Rattle.at_base.specs.Decision.{InRange}
-use Rattle.at_base.specs.declared.decision.Decision.{Decision}
-use Rattle.at_ledger.specs.Account.{rounds_room, slots_of}
-use Rattle.at_ledger.specs.Book.{BookTerms, account_of, log_room_of}
-use Rattle.at_ledger.specs.Call.{TargetPair, amount_of}
+use Rattle.at_history.specs.Prelude.{InRange, Decision, rounds_room, slots_of, BookTerms, account_of, log_room_of, TargetPair, amount_of}
 use Rattle.at_history.specs.Balances.{IsCovered}
 use Rattle.at_history.specs.BoardState.{publication_at}
-use Rattle.at_history.specs.Fronts.{places_max, prefix_of}
+use Rattle.at_history.specs.Cuts.{places_max, prefix_of}
 use Rattle.at_history.specs.Moves.{AreRuns}
 use Rattle.at_history.specs.Publications.{count_of}
 use Rattle.at_history.specs.Rounds.{named, rounds, owns_of}

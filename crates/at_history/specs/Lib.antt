@@ -1,3 +1,4 @@
+pub mod Prelude
 pub mod Moves
 pub mod Histories
 pub mod Sound
@@ -7,5 +8,5 @@ pub mod BoardState
 pub mod Publications
 pub mod HeldCells
 pub mod Balances
-pub mod Fronts
+pub mod Cuts
 pub mod Overtaking

@@ -1,13 +1,6 @@
 -- The pay-outs of a list of publications, as calls of the ledger.
 use Rattle.std.specs.Prelude.{◌≡◌, ℕ, ◌<◌, ◌≤◌, ◌^◌, List, length, replicate, slice_index, take, Option, Some, None, if◌then◌else◌}
-use Rattle.std.specs.List.{filter_map}
-use Rattle.at_base.specs.declared.decision.Decision.{Decision}
-use Rattle.at_ledger.specs.Book.{BookTerms, account_of}
-use Rattle.at_ledger.specs.Run.{run}
-use Rattle.at_ledger.specs.State.{balance_of}
-use Rattle.at_ledger.specs.declared.call.Call.{Call}
-use Rattle.at_ledger.specs.declared.call.Call.TheVariants.{Pay}
-use Rattle.at_ledger.specs.declared.call.Reply.TheVariants.{Done}
+use Rattle.at_history.specs.Prelude.{filter_map, Decision, BookTerms, account_of, run, balance_of, Call, Pay, Done}
 use Rattle.at_history.specs.Balances.{IsCovered, balance_after}
 use Rattle.at_history.specs.Rounds.{firsts}
 use Rattle.at_history.specs.declared.publication.Entry.{Entry}

@@ -1,7 +1,7 @@
 -- The law of overtaking: how often the requests of an account's other owners may be decided before an owner's last one, once
 -- that is announced.
 use Rattle.std.specs.Prelude.{◌≡◌, ◌≢◌, ℕ, ◌+◌, ◌<◌, ◌≤◌, List, length, take, Contains}
-use Rattle.at_base.specs.declared.decision.Decision.{Decision}
+use Rattle.at_history.specs.Prelude.{Decision}
 use Rattle.at_history.specs.BoardState.{BoardState, decision_at, request_at}
 use Rattle.at_history.specs.Rounds.{rounds}
 use Rattle.at_history.specs.declared.publication.Publication.{Publication}

@@ -1,6 +1,6 @@
 -- Lists of publications: which of them are a process's, and how many each process has.
 use Rattle.std.specs.Prelude.{◌≡◌, ℕ, ◌<◌, ◌==◌, ◌++◌, List, [], length, map, filter, All, nat_lt, if◌then◌else◌}
-use Rattle.std.specs.List.{range_with_len}
+use Rattle.at_history.specs.Prelude.{range_with_len}
 use Rattle.at_history.specs.declared.publication.Entry.TheVariants.{Own}
 use Rattle.at_history.specs.declared.publication.Publication.{Publication}
 

@@ -1,6 +1,6 @@
 -- The rounds that a list of publications has, each counted once.
 use Rattle.std.specs.Prelude.{ℕ, Bool, ◌&&◌, ◌==◌, List, [], ◌∷◌, ◌++◌, fold, count_by, if◌then◌else◌}
-use Rattle.std.specs.List.{list_any}
+use Rattle.at_history.specs.Prelude.{list_any}
 use Rattle.at_history.specs.Entries.{is_own, is_round_on, is_same_round, names, settles}
 use Rattle.at_history.specs.declared.publication.Publication.{Publication}
 

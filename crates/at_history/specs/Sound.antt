@@ -1,15 +1,10 @@
 -- A sound state: the laws that hold between any two steps of any threads.
 use Rattle.std.specs.Prelude.{◌≡◌, ℕ, ◌+◌, ◌<◌, ◌≤◌, ◌↔◌, ◌⊎◌, ◌==◌, ◌&&◌, true, List, length, take, slice_index, count_by, Some}
-use Rattle.std.specs.List.{list_any}
-use Rattle.at_base.specs.Decision.{InRange}
-use Rattle.at_base.specs.declared.decision.Decision.{Decision}
-use Rattle.at_ledger.specs.Account.{is_shared, is_single, rounds_room, slots_of}
-use Rattle.at_ledger.specs.Book.{BookTerms, account_of, is_owner}
-use Rattle.at_ledger.specs.Call.{AreTargetsOn, TargetPair, amount_of}
+use Rattle.at_history.specs.Prelude.{list_any, InRange, Decision, is_shared, is_single, rounds_room, slots_of, BookTerms, account_of, is_owner, AreTargetsOn, TargetPair, amount_of}
 use Rattle.at_history.specs.Balances.{IsCovered}
 use Rattle.at_history.specs.BoardState.{BoardState, decision_at, publication_at, request_at}
 use Rattle.at_history.specs.Entries.{is_round}
-use Rattle.at_history.specs.Fronts.{IsFront, prefix_of, place}
+use Rattle.at_history.specs.Cuts.{IsCut, prefix_of, place}
 use Rattle.at_history.specs.Publications.{count_of}
 use Rattle.at_history.specs.Rounds.{is_settled, owns_of, rounds}
 use Rattle.at_history.specs.declared.cell.Cell.{Cell}
@@ -24,10 +19,10 @@ pub record AreTargets (b : BookTerms) (targets : List TargetPair) : Type 0 where
   pub few : length targets ≤ 4
   pub accounts : AreTargetsOn (length b.accounts) targets
 
--- a publication after those before it: its view is a front of them, and counts all of them that its own process published
+-- a publication after those before it: its view is a cut of them, and counts all of them that its own process published
 pub record HasView (b : BookTerms) (before : List Publication) (x : Publication) : Type 0 where
   pub process : x.process < b.processes
-  pub front : IsFront b.processes x.view before
+  pub cut : IsCut b.processes x.view before
   pub own : slice_index x.view x.process ≡ count_of x.process before
 
 -- an own record of a process at the prefix of its view: its source is the process's alone and covers it

@@ -6,7 +6,7 @@
 //! sequential ledger in which each is done, and that publishing a record, announcing a request and deciding a round keep the
 //! state sound.
 //!
-//! The definitions read best in this order. What is published: `Publications`, `Fronts`, `Entries`, `Rounds`, `Balances`,
+//! The definitions read best in this order. What is published: `Publications`, `Cuts`, `Entries`, `Rounds`, `Balances`,
 //! `Moves`. The state of a board and its laws: `BoardState`, `HeldCells`, `Sound`. What a list alone shows: `Histories`.
 //!
 //! The laws for callers stand in `proofs/Laws`, and what each kind of step changes in `proofs/Steps`.

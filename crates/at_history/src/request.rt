@@ -2,8 +2,8 @@
 
 use at_ledger::Targets;
 
-/// A pay-out that an owner of a shared account asks for. `since` is the place of the front that the owner looked at just before:
-/// how many publications the front counts.
+/// A pay-out that an owner of a shared account asks for. `since` is the place of the cut that the owner looked at just before:
+/// how many publications the cut counts.
 #[derive(Drop)]
 pub struct Request {
     pub targets: Targets,

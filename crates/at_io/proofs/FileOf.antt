@@ -1,11 +1,6 @@
 -- The first file of a name, and its position.
 use Rattle.std.proofs.Common.{◌≡◌, ℕ, Bool, true, false, List, [], ◌∷◌, map, length, Option, Some, None, refl, sym, ◌∙◌, ap, inl, inr, cond, is_some, unwrap_or, position, bytes_eq, nat_lt, string_bytes}
-use Rattle.std.specs.List.{position_or_len, slice_get, find}
-use Rattle.std.specs.Option.{option_map}
-use Rattle.std.proofs.lemmas.Bool.{lt-ltb, le-ltb}
-use Rattle.std.proofs.lemmas.List.Folds.{find_at}
-use Rattle.std.proofs.lemmas.Option.{slice_get_cases}
-use Rattle.at_io.specs.HeldFiles.{KeptFile, NamedFile, named_file, file_of, unread}
+use Rattle.at_io.proofs.Prelude.{position_or_len, slice_get, find, option_map, lt-ltb, le-ltb, find_at, slice_get_cases, KeptFile, NamedFile, named_file, file_of, unread}
 
 -- the first element that passes of mapped elements is that of the elements, mapped
 pub find-map : {X Y : Type 0} (p : Y → Bool) (f : X → Y) → (xs : List X) →

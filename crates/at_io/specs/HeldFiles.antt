@@ -1,6 +1,6 @@
 -- Files by name, of which one is read.
 use Rattle.std.specs.Prelude.{ℕ, List, [], Option, Some, None, find, bytes_eq, drop, slice_get, option_map, unwrap_or, String, string_bytes, Vec}
-use Rattle.std.specs.Global.{Global}
+use Rattle.at_io.specs.Prelude.{Global}
 
 -- a file: its name, and then its bytes
 abbrev pub NamedFile : Type 0

@@ -1,6 +1,6 @@
 -- A shelf in memory: its calls are counted, and fail at given numbers.
 use Rattle.std.specs.Prelude.{◌==◌, ℕ, Bool, List, [], drop, length, min, if◌then◌else◌, unwrap_or}
-use Rattle.std.specs.List.{list_any}
+use Rattle.at_io.specs.Prelude.{list_any}
 use Rattle.at_io.specs.Faults.{next_count}
 use Rattle.at_io.specs.HeldFiles.{Held, file_of}
 

@@ -28,6 +28,3 @@ pub use std_sink::StdSink;
 pub use steady_shelf::SteadyShelf;
 pub use steady_sink::SteadySink;
 pub use writing::{WriteFault, put_all};
-
-/// Want of memory.
-pub type NoMemory = std::alloc::AllocError;

@@ -1,10 +1,9 @@
 ghost use Rattle.std.specs.Prelude.{◌≡◌, ◌≤◌, ◌<◌, ◌^◌, ◌-◌, true, false, [], length, IfOk, IsErr};
 ghost use Rattle.at_io.specs.MemorySink.{write_count, write_fails, after_write};
 
-use crate::NoMemory;
 use crate::faults::raised;
 use crate::sink::{Sink, WriteFailed};
-use std::alloc::Global;
+use std::alloc::{AllocError, Global};
 use std::marker::Model;
 
 /// A sink in memory, which takes up to so many bytes in all, and tells them. A piece for which no
@@ -31,7 +30,7 @@ impl Model for MemorySink {
 
 impl MemorySink {
     /// A sink with room for so many bytes.
-    pub fn new(alloc: Global, room: usize) -> Result<MemorySink, NoMemory>
+    pub fn new(alloc: Global, room: usize) -> Result<MemorySink, AllocError>
         ensures room { IfOk result (λ s. s.room ≡ room) }
         ensures grain { IfOk result (λ s. s.grain ≡ 2 ^ 64 - 1) }
         ensures taken { IfOk result (λ s. s.taken ≡ []) }
@@ -41,7 +40,7 @@ impl MemorySink {
     }
 
     /// The same, where a write takes at most `grain` bytes.
-    pub fn with_grain(alloc: Global, room: usize, grain: usize) -> Result<MemorySink, NoMemory>
+    pub fn with_grain(alloc: Global, room: usize, grain: usize) -> Result<MemorySink, AllocError>
         requires { 0 < grain }
         ensures room { IfOk result (λ s. s.room ≡ room) }
         ensures grain { IfOk result (λ s. s.grain ≡ grain) }

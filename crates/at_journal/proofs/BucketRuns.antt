@@ -1,23 +1,11 @@
 -- The lines of one key: they are answered as they say.
 use Rattle.std.proofs.Common.{◌≡◌, ℕ, ◌+◌, ◌-◌, ◌*◌, ◌<◌, ◌≤◌, zero, suc, Bool, true, false, cond, List, [], length, map, take, refl, sym, ap, subst, ◌∙◌, arith, inl, inr}
-use Rattle.std.specs.List.{range_with_len}
-use Rattle.at_ledger.specs.Book.{BookTerms}
-use Rattle.at_ledger.specs.declared.call.Reply.TheVariants.{Done, Short}
-use Rattle.at_log.specs.ClosingTerms.{ClosingTerms, receipts_of}
-use Rattle.at_log.specs.Coherent.{Coherent}
-use Rattle.at_log.specs.JournalOrder.{journal_order, line_key, process_lines_at}
-use Rattle.at_log.specs.Placed.{IsPlaced, read, not_owner, full, short, done, round}
-use Rattle.at_log.specs.Receipts.{is_success, receipt_at}
-use Rattle.at_log.specs.Told.{round_position}
+use Rattle.at_journal.proofs.Prelude.{range_with_len, BookTerms, Done, Short, ClosingTerms, receipts_of, Coherent, journal_order, line_key, process_lines_at, IsPlaced, read, not_owner, full, short, done, round, is_success, receipt_at, round_position, key_at-even, key_at-odd, line_key-receipt, line_key-sorted, previous_key, moves_at, first_account-payout, still_at}
 use Rattle.at_journal.proofs.KeepLaws.{Keeps, with_count, with_count-other, with_count-own}
-use Rattle.at_log.proofs.Laws.Keys.{key_at-even, key_at-odd, line_key-receipt, line_key-sorted, previous_key}
 use Rattle.at_journal.proofs.LineKeys.{filter-key, reach, reach-above, reach-below, reach-le, reach_mono}
 use Rattle.at_journal.proofs.LineRuns.{IsCounted, Ran, Ran-cons, Ran-still, Ran-weaken, line}
 use Rattle.at_journal.proofs.MoveLaws.{own-answered, round-answered}
-use Rattle.at_log.proofs.Laws.Keys.{moves_at}
-use Rattle.at_log.proofs.Laws.Replies.{first_account-payout}
 use Rattle.at_journal.proofs.SameMove.{IsMove, IsMove-own, IsMove-round, IsMove-same}
-use Rattle.at_log.proofs.Laws.Keys.{still_at}
 use Rattle.at_journal.proofs.StillLaws.{Answered}
 
 -- how many lines of a process have smaller keys
@@ -78,14 +66,14 @@ pub move_of : (b : BookTerms) (c : ClosingTerms) (p i m : ℕ) → Coherent b c
     → IsPlaced b p (journal_order c) (take i (receipts_of c p)) (receipt_at (receipts_of c p) i)
     → moves_at m p (journal_order c) (receipt_at (receipts_of c p) i).call (is_success (receipt_at (receipts_of c p) i).reply) (receipt_at (receipts_of c p) i).at
     → IsMove b c p i m
-move_of b c p i m coherent (read account amount call reply front) moves =
-    let r = receipt_at (receipts_of c p) i in absurd (subst (moves_at m p (journal_order c) r.call (is_success r.reply)) front.at moves)
+move_of b c p i m coherent (read account amount call reply cut) moves =
+    let r = receipt_at (receipts_of c p) i in absurd (subst (moves_at m p (journal_order c) r.call (is_success r.reply)) cut.at moves)
 move_of b c p i m coherent (not_owner source targets call owner reply at) moves =
     let r = receipt_at (receipts_of c p) i in absurd (subst (moves_at m p (journal_order c) r.call (is_success r.reply)) at moves)
 move_of b c p i m coherent (full source targets call owner room reply at) moves =
     let r = receipt_at (receipts_of c p) i in absurd (subst (moves_at m p (journal_order c) r.call (is_success r.reply)) at moves)
-move_of b c p i m coherent (short source amount targets may single reply front less) moves =
-    let r = receipt_at (receipts_of c p) i in absurd (subst (moves_at m p (journal_order c) r.call (is_success r.reply)) front.at moves)
+move_of b c p i m coherent (short source amount targets may single reply cut less) moves =
+    let r = receipt_at (receipts_of c p) i in absurd (subst (moves_at m p (journal_order c) r.call (is_success r.reply)) cut.at moves)
 move_of b c p i m coherent (done source targets may single reply own) moves =
     let r = receipt_at (receipts_of c p) i in
     IsMove-own b c p i m source targets own (subst (moves_at m p (journal_order c) r.call (is_success r.reply)) own.at moves)
@@ -99,14 +87,14 @@ moved-answered : (b : BookTerms) (c : ClosingTerms) (m : ℕ) (count : ℕ → �
     → IsPlaced b p (journal_order c) (take i (receipts_of c p)) (receipt_at (receipts_of c p) i)
     → moves_at m p (journal_order c) (receipt_at (receipts_of c p) i).call (is_success (receipt_at (receipts_of c p) i).reply) (receipt_at (receipts_of c p) i).at
     → Answered b c m (m + 1) count balances sent asked p i
-moved-answered b c m count balances sent asked p i coherent keeps known here within (read account amount call reply front) moves =
-    let r = receipt_at (receipts_of c p) i in absurd (subst (moves_at m p (journal_order c) r.call (is_success r.reply)) front.at moves)
+moved-answered b c m count balances sent asked p i coherent keeps known here within (read account amount call reply cut) moves =
+    let r = receipt_at (receipts_of c p) i in absurd (subst (moves_at m p (journal_order c) r.call (is_success r.reply)) cut.at moves)
 moved-answered b c m count balances sent asked p i coherent keeps known here within (not_owner source targets call owner reply at) moves =
     let r = receipt_at (receipts_of c p) i in absurd (subst (moves_at m p (journal_order c) r.call (is_success r.reply)) at moves)
 moved-answered b c m count balances sent asked p i coherent keeps known here within (full source targets call owner room reply at) moves =
     let r = receipt_at (receipts_of c p) i in absurd (subst (moves_at m p (journal_order c) r.call (is_success r.reply)) at moves)
-moved-answered b c m count balances sent asked p i coherent keeps known here within (short source amount targets may single reply front less) moves =
-    let r = receipt_at (receipts_of c p) i in absurd (subst (moves_at m p (journal_order c) r.call (is_success r.reply)) front.at moves)
+moved-answered b c m count balances sent asked p i coherent keeps known here within (short source amount targets may single reply cut less) moves =
+    let r = receipt_at (receipts_of c p) i in absurd (subst (moves_at m p (journal_order c) r.call (is_success r.reply)) cut.at moves)
 moved-answered b c m count balances sent asked p i coherent keeps known here within (done source targets may single reply own) moves =
     let r = receipt_at (receipts_of c p) i in
     own-answered b c m count balances sent asked p i source targets coherent keeps known here within may single reply own

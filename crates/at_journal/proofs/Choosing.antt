@@ -1,13 +1,6 @@
 -- Lines of a journal in an order in which no call stands before one that ended before it began.
 use Rattle.std.proofs.Common.{◌≡◌, ◌≢◌, ℕ, ◌-◌, ◌≤◌, true, false, List, [], ◌∷◌, ◌++◌, take, sym, ap, ◌∙◌, arith, inl, inr}
-use Rattle.std.proofs.lemmas.Bool.{cases_Bool}
-use Rattle.at_ledger.specs.Book.{BookTerms}
-use Rattle.at_ledger.specs.declared.call.Line.{Line}
-use Rattle.at_log.specs.ClosingTerms.{ClosingTerms, receipts_of}
-use Rattle.at_log.specs.Coherent.{Coherent}
-use Rattle.at_log.specs.JournalOrder.{journal_order}
-use Rattle.at_log.specs.Receipts.{is_success, receipt_at}
-use Rattle.at_journal.specs.Linearizable.{AreTimed, CallTimes, EndsBefore}
+use Rattle.at_journal.proofs.Prelude.{cases_Bool, BookTerms, Line, ClosingTerms, receipts_of, Coherent, journal_order, is_success, receipt_at, AreTimed, CallTimes, EndsBefore}
 use Rattle.at_journal.proofs.Exchange.{MayPass}
 use Rattle.at_journal.proofs.LinePairs.{IsReceiptLine, MayPrecede, key_of_line}
 use Rattle.at_journal.proofs.PairLists.{Each, Each-before, Each-both, Each-middle, Each-weaker, Pairwise, Pairwise-before}

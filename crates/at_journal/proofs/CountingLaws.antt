@@ -1,10 +1,6 @@
 -- Elements that pass a test, by how many pass before them.
 use Rattle.std.proofs.Common.{◌≡◌, ℕ, ◌+◌, ◌-◌, ◌<◌, ◌≤◌, ◌&&◌, suc, Bool, true, false, cond, List, [], ◌∷◌, length, filter, get_or, take, refl, sym, ap, ◌∙◌, arith, inl, inr}
-use Rattle.std.specs.List.{count_by}
-use Rattle.std.proofs.lemmas.Bool.{cases_Bool, cases_eq, cases_lt}
-use Rattle.std.proofs.lemmas.List.{take-take}
-use Rattle.std.proofs.lemmas.List.Sums.{count_by_more_yes, sum_by-cons, sum_by-take-le}
-use Rattle.at_history.proofs.Laws.Rounds.{one_if}
+use Rattle.at_journal.proofs.Prelude.{count_by, cases_Bool, cases_eq, cases_lt, take-take, count_by_more_yes, sum_by-cons, sum_by-take-le, one_if}
 
 module _ {X : Type 0} where
   -- the element that passes after so many others

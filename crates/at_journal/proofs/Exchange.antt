@@ -1,13 +1,6 @@
 -- Calls of two processes change places: where one has no place, or neither moves, each is answered as before.
 use Rattle.std.proofs.Common.{◌≡◌, ◌≢◌, ◌⊎◌, true, false, List, [], ◌∷◌, map, refl, sym, ap, subst, ◌∙◌, inl, inr}
-use Rattle.at_ledger.specs.Book.{is_owner}
-use Rattle.at_ledger.specs.Run.{Run, asked_in, run_from}
-use Rattle.at_ledger.specs.State.{LedgerState, Step, step, with_asked}
-use Rattle.at_ledger.specs.declared.call.Line.{Line}
-use Rattle.at_ledger.specs.declared.call.Reply.{Reply}
-use Rattle.at_ledger.specs.declared.call.Reply.TheVariants.{Short}
-use Rattle.at_ledger.proofs.Run.{run_from-cons, run_from-nil}
-use Rattle.at_log.specs.Receipts.{is_success}
+use Rattle.at_journal.proofs.Prelude.{is_owner, Run, asked_in, run_from, LedgerState, Step, step, with_asked, Line, Reply, Short, run_from-cons, run_from-nil, is_success}
 use Rattle.at_journal.proofs.StepCases.{SameRoom-refl, SameRoom-step, SameRoom-sym, Unmoved, Unmoved-step, asked, lacks_place, left, step-lacks_place, with_asked-with_asked}
 
 -- the second line may be moved before the first

@@ -1,27 +1,8 @@
 -- The journal of a coherent closing is a legal run, which ends with the balances of all publications.
 use Rattle.std.proofs.Common.{◌≡◌, ℕ, ◌+◌, ◌*◌, ◌<◌, ◌≤◌, zero, suc, List, [], ◌∷◌, ◌++◌, length, map, replicate, sum, refl, sym, ap, subst, append-nil, append_assoc, ◌∙◌, arith, inl, inr}
-use Rattle.std.specs.List.{flat_map, range_with_len}
-use Rattle.std.proofs.lemmas.Bool.{cases_lt}
-use Rattle.std.proofs.lemmas.Grind.{flat_map-append}
-use Rattle.std.proofs.lemmas.List.{ext_get_or, length-map, take_all}
-use Rattle.at_ledger.specs.Book.{BookTerms, IsBegun}
-use Rattle.at_ledger.specs.Run.{Legal, last_state}
-use Rattle.at_ledger.specs.State.{asked_position, balance_of}
-use Rattle.at_ledger.specs.declared.call.Line.{Line}
-use Rattle.at_history.specs.Balances.{balance_after}
-use Rattle.at_history.specs.Publications.{counts}
-use Rattle.at_history.proofs.Laws.Counts.{get_or-counts, length-counts, sum-counts}
-use Rattle.at_history.proofs.Laws.Balances.{Follows-nil}
-use Rattle.at_history.proofs.Laws.Sums.{get_or-zeros}
-use Rattle.at_log.specs.ClosingTerms.{ClosingTerms, log_lengths, log_of, published_by, receipts_of}
-use Rattle.at_log.specs.Coherent.{Coherent}
-use Rattle.at_log.specs.JournalOrder.{journal_lines, journal_order, line_key, process_lines_at}
-use Rattle.at_log.proofs.Laws.Buckets.{range_with_len-more}
-use Rattle.at_log.proofs.Laws.PublicationKeys.{get_or-log_lengths}
-use Rattle.at_log.proofs.Laws.Order.{ArePublishedBy-journal_order, publications_of-journal_order}
+use Rattle.at_journal.proofs.Prelude.{flat_map, range_with_len, cases_lt, flat_map-append, ext_get_or, length-map, take_all, BookTerms, IsBegun, Legal, last_state, asked_position, balance_of, Line, balance_after, counts, get_or-counts, length-counts, sum-counts, Follows-nil, get_or-zeros, ClosingTerms, log_lengths, log_of, published_by, receipts_of, Coherent, journal_lines, journal_order, line_key, process_lines_at, range_with_len-more, get_or-log_lengths, ArePublishedBy-journal_order, publications_of-journal_order, line_key-sorted}
 use Rattle.at_journal.proofs.BucketRuns.{reached}
 use Rattle.at_journal.proofs.KeepLaws.{Keeps}
-use Rattle.at_log.proofs.Laws.Keys.{line_key-sorted}
 use Rattle.at_journal.proofs.KeyRuns.{CountsAt, Ran-even_all, Ran-odd_all}
 use Rattle.at_journal.proofs.LineKeys.{reach-below}
 use Rattle.at_journal.proofs.LineRuns.{Ran, Ran-append, Ran-nil, Ran-weaken}

@@ -1,20 +1,6 @@
 -- The ledger's state behind some of a closing's lines: what it keeps from one line to the next.
 use Rattle.std.proofs.Common.{◌≡◌, ℕ, ◌+◌, ◌*◌, ◌<◌, ◌==◌, ◌&&◌, ◌||◌, false, cond, List, length, get_or, take, ap, ◌∙◌, arith, inl, inr}
-use Rattle.std.proofs.lemmas.Bool.{cases_eq, eq-eqb, ne_eqb}
-use Rattle.std.proofs.lemmas.List.Sums.{sum_by_more}
-use Rattle.at_ledger.specs.Account.{is_shared, is_single}
-use Rattle.at_ledger.specs.Book.{BookTerms, account_of}
-use Rattle.at_ledger.specs.State.{asked_position, is_full}
-use Rattle.at_ledger.specs.declared.call.Call.TheVariants.{Read}
-use Rattle.at_ledger.specs.declared.call.Reply.TheVariants.{Full}
-use Rattle.at_history.proofs.Laws.Balances.{BalancesFollow, ledger}
-use Rattle.at_history.proofs.Laws.Rounds.{one_if}
-use Rattle.at_log.specs.declared.receipt.At.{At}
-use Rattle.at_log.specs.declared.receipt.Receipt.{Receipt}
-use Rattle.at_log.specs.ClosingTerms.{ClosingTerms, receipts_of}
-use Rattle.at_log.specs.JournalOrder.{journal_order}
-use Rattle.at_log.specs.Placed.{has_no_room}
-use Rattle.at_log.specs.Receipts.{asks_in, is_at_own, is_at_round, is_payout_from, owns_in, receipt_at}
+use Rattle.at_journal.proofs.Prelude.{cases_eq, eq-eqb, ne_eqb, sum_by_more, is_shared, is_single, BookTerms, account_of, asked_position, is_full, Read, Full, BalancesFollow, ledger, one_if, At, Receipt, ClosingTerms, receipts_of, journal_order, has_no_room, asks_in, is_at_own, is_at_round, is_payout_from, owns_in, receipt_at}
 
 -- behind so many calls of each process, at a prefix of the order: the balances are those of the prefix, and the room used
 -- is what the receipts say

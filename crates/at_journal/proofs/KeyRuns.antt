@@ -1,28 +1,8 @@
 -- The lines of a closing, key by key: they are answered as they say.
 use Rattle.std.proofs.Common.{◌≡◌, ℕ, ◌+◌, ◌*◌, ◌<◌, ◌≤◌, ◌⊎◌, ◌==◌, ◌&&◌, zero, suc, Bool, false, cond, List, [], ◌∷◌, ◌++◌, length, take, refl, sym, ap, subst, append-nil, ◌∙◌, arith, inl, inr}
-use Rattle.std.specs.List.{flat_map, range_with_len}
-use Rattle.std.proofs.lemmas.Bool.{cases_Bool, cases_eq, cases_lt, ltb-false}
-use Rattle.at_ledger.specs.Book.{BookTerms, IsBegun}
-use Rattle.at_ledger.specs.Call.{amount_of}
-use Rattle.at_history.proofs.Laws.Balances.{BalancesFollow, MovesSame}
-use Rattle.at_history.proofs.Laws.Runs.{MovesSame-refused, MovesSame-repeat}
-use Rattle.at_history.proofs.Laws.Rounds.{IsNextAtMost, repeats-round}
-use Rattle.at_history.proofs.Laws.Prefixes.{take-publication_at}
-use Rattle.at_history.specs.declared.publication.Entry.{Entry}
-use Rattle.at_history.specs.declared.publication.Publication.{Publication}
-use Rattle.at_history.specs.Balances.{amount_for, credit_of, debit_of}
-use Rattle.at_history.specs.BoardState.{publication_at}
-use Rattle.at_history.specs.Entries.{is_own, is_same_round}
-use Rattle.at_history.specs.Rounds.{firsts, repeats, rounds}
-use Rattle.std.specs.List.{list_any}
-use Rattle.at_log.proofs.Laws.OrderPremises.{HasRounds-Coherent}
-use Rattle.at_log.specs.ClosingTerms.{ClosingTerms, receipts_of}
-use Rattle.at_log.specs.Coherent.{Coherent}
-use Rattle.at_log.specs.JournalOrder.{journal_order, line_key, process_lines_at}
-use Rattle.at_log.proofs.Laws.OrderRounds.{IsInitial-journal_order, IsNextAtMost-journal_order}
+use Rattle.at_journal.proofs.Prelude.{flat_map, range_with_len, cases_Bool, cases_eq, cases_lt, ltb-false, BookTerms, IsBegun, amount_of, BalancesFollow, MovesSame, MovesSame-refused, MovesSame-repeat, IsNextAtMost, repeats-round, take-publication_at, Entry, Publication, amount_for, credit_of, debit_of, publication_at, is_own, is_same_round, firsts, repeats, rounds, list_any, HasRounds-Coherent, ClosingTerms, receipts_of, Coherent, journal_order, line_key, process_lines_at, IsInitial-journal_order, IsNextAtMost-journal_order, line_key-sorted}
 use Rattle.at_journal.proofs.BucketRuns.{Ran-even, Ran-odd, first_moves, move_of, no_lines, reached, reached-mono, within-reached}
 use Rattle.at_journal.proofs.KeepLaws.{Keeps}
-use Rattle.at_log.proofs.Laws.Keys.{line_key-sorted}
 use Rattle.at_journal.proofs.LineKeys.{reach-above, reach-below}
 use Rattle.at_journal.proofs.LineRuns.{IsCounted, Ran, Ran-append, Ran-nil, Ran-weaken}
 use Rattle.at_journal.proofs.MoveLaws.{IsNewRound}

@@ -1,17 +1,6 @@
 -- The calls of each process with their keys, made one by one and joined, are those of all.
 use Rattle.std.proofs.Common.{◌≡◌, ℕ, ◌<◌, List, [], ◌∷◌, length, get_or, map, sym, ap, subst, ◌∙◌, arith, Result, Ok, Vec}
-use Rattle.std.proofs.lemmas.List.{ext_get_or, get_or-map, length-map}
-use Rattle.std.proofs.lemmas.List.Folds.{flat_map-map}
-use Rattle.std.proofs.lemmas.List.FromFn.{get_or-map-range_with_len, length-map-range_with_len}
-use Rattle.std.specs.Global.{Global}
-use Rattle.std.specs.List.{flat_map, range_with_len}
-use Rattle.std.specs.Result.{IfOk}
-use Rattle.std.specs.declared.alloc.AllocError.{AllocError}
-use Rattle.at_log.specs.ClosingTerms.{ClosingTerms, receipts_of}
-use Rattle.at_log.specs.JournalOrder.{journal_order}
-use Rattle.at_log.specs.Told.{keys_of}
-use Rattle.at_journal.specs.Ordered.{all_keyed, all_keys, keyed_of}
-use Rattle.at_journal.specs.declared.keyed.Keyed.{Keyed}
+use Rattle.at_journal.proofs.Prelude.{ext_get_or, get_or-map, length-map, flat_map-map, get_or-map-range_with_len, length-map-range_with_len, Global, flat_map, range_with_len, IfOk, AllocError, ClosingTerms, receipts_of, journal_order, keys_of, all_keyed, all_keys, keyed_of, Keyed}
 use Rattle.at_journal.proofs.LineOrder.{get_or-all_keys, length-all_keys}
 
 -- what holds of a list that was made holds of it among all of them

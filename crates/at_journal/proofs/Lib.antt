@@ -1,4 +1,5 @@
-pub mod FrontLists
+pub mod Prelude
+pub mod CutLists
 pub mod OrderedLaws
 pub mod KeyBuckets
 pub mod OrderSteps
@@ -30,5 +31,5 @@ pub mod Choosing
 pub mod TimedOrder
 -- the calls of each process with their keys, made one by one
 mod KeyedByThreads
--- fronts by their places and calls
-mod NamedFronts
+-- cuts by their places and calls
+mod NamedCuts

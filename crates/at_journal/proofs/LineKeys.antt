@@ -1,10 +1,7 @@
 -- The keys of a process's lines, and which of its lines have a key.
 use Rattle.std.proofs.Common.{◌≡◌, ℕ, ◌+◌, ◌-◌, ◌<◌, ◌≤◌, ◌==◌, zero, suc, Bool, true, false, cond, ◌∷◌, get_or, filter, sym, ap, subst, ◌∙◌, arith, inl, inr}
 use Rattle.std.specs.Prelude.{nat_lt}
-use Rattle.std.proofs.lemmas.Bool.{cases_lt, cases_eq, eq-eqb, lt-ltb, le-ltb, ne_eqb}
-use Rattle.std.proofs.lemmas.List.FromFn.{get_or-range_with_len, length-range_with_len}
-use Rattle.std.specs.List.{range_with_len}
-use Rattle.at_log.proofs.Laws.Buckets.{filter-none}
+use Rattle.at_journal.proofs.Prelude.{cases_lt, cases_eq, eq-eqb, lt-ltb, le-ltb, ne_eqb, get_or-range_with_len, length-range_with_len, range_with_len, filter-none}
 
 -- how many numbers from 0 have a value below a limit, where values don't fall
 pub reach : (ℕ → ℕ) → ℕ → ℕ → ℕ

@@ -1,13 +1,6 @@
 -- Of two lines of a journal the first has the key of the second or a smaller one, and those of one process come by number.
 use Rattle.std.proofs.Common.{◌≡◌, ℕ, ◌+◌, ◌*◌, ◌-◌, ◌<◌, ◌≤◌, ◌==◌, true, length, sum, refl, sym, ap, ◌∙◌, arith, inl, inr}
-use Rattle.std.specs.List.{flat_map, range_with_len}
-use Rattle.std.proofs.lemmas.Bool.{cases_lt, eqb-true}
-use Rattle.at_ledger.specs.Book.{BookTerms}
-use Rattle.at_ledger.specs.declared.call.Line.{Line}
-use Rattle.at_log.specs.ClosingTerms.{ClosingTerms, log_lengths, receipts_of}
-use Rattle.at_log.specs.Coherent.{Coherent}
-use Rattle.at_log.specs.JournalOrder.{journal_lines, line_key, process_lines_at}
-use Rattle.at_log.proofs.Laws.Keys.{line_key-sorted}
+use Rattle.at_journal.proofs.Prelude.{flat_map, range_with_len, cases_lt, eqb-true, BookTerms, Line, ClosingTerms, log_lengths, receipts_of, Coherent, journal_lines, line_key, process_lines_at, line_key-sorted}
 use Rattle.at_journal.proofs.LineRuns.{line}
 use Rattle.at_journal.proofs.PairLists.{Each, Each-flat_map, Each-values, Each-weaker, Pairwise, Pairwise-flat_map, Pairwise-values}
 

@@ -1,33 +1,7 @@
 -- What the receipts of a coherent closing name is found in the positions.
 use Rattle.std.proofs.Common.{◌≡◌, ℕ, ◌<◌, ◌&&◌, true, List, [], length, get_or, take, refl, sym, ap, subst, ◌∙◌, arith}
-use Rattle.std.proofs.lemmas.Bool.{eq-eqb, ltb-true}
-use Rattle.std.proofs.lemmas.List.{get_or_default, take_all}
-use Rattle.std.proofs.lemmas.List.Folds.{list_any_at}
-use Rattle.at_base.specs.declared.decision.Decision.{Decision}
-use Rattle.at_ledger.specs.Book.{BookTerms}
-use Rattle.at_ledger.specs.Call.{TargetPair, first_account}
-use Rattle.at_history.proofs.Laws.Rounds.{IsInitial}
-use Rattle.at_history.specs.BoardState.{publication_at}
-use Rattle.at_history.specs.Entries.{is_round}
-use Rattle.at_history.specs.Fronts.{prefix_of}
-use Rattle.at_history.specs.Publications.{no_publication}
-use Rattle.at_history.specs.Rounds.{firsts, rounds}
-use Rattle.at_history.specs.declared.publication.Entry.{Entry}
-use Rattle.at_history.specs.declared.publication.Publication.{Publication}
-use Rattle.at_log.proofs.Laws.OrderPremises.{HasRounds-Coherent}
-use Rattle.at_log.proofs.Laws.OrderRounds.{AreFirsts-journal_order, IsCoherentEntry-journal_order, IsInitial-journal_order, round_entry}
-use Rattle.at_log.specs.ClosingTerms.{ClosingTerms, receipts_of}
-use Rattle.at_log.specs.Coherent.{Coherent}
-use Rattle.at_log.specs.JournalOrder.{journal_order}
-use Rattle.at_log.specs.Placed.{IsPlaced, read, not_owner, full, short, done, round}
-use Rattle.at_log.specs.Receipts.{is_success, receipt_at}
-use Rattle.at_log.specs.Told.{round_position}
-use Rattle.at_log.specs.declared.receipt.At.{At}
-use Rattle.at_log.specs.declared.receipt.Receipt.{Receipt}
+use Rattle.at_journal.proofs.Prelude.{eq-eqb, ltb-true, get_or_default, take_all, list_any_at, Decision, BookTerms, TargetPair, first_account, IsInitial, publication_at, is_round, prefix_of, no_publication, firsts, rounds, Entry, Publication, HasRounds-Coherent, AreFirsts-journal_order, IsCoherentEntry-journal_order, IsInitial-journal_order, round_entry, ClosingTerms, receipts_of, Coherent, journal_order, IsPlaced, read, not_owner, full, short, done, round, is_success, receipt_at, round_position, At, Receipt, own_position-at, round_position-at, first_account-payout, HasOwnPositions, HasStarts, HasRoundPositions}
 use Rattle.at_journal.proofs.KeepLaws.{no_receipt}
-use Rattle.at_log.proofs.Laws.Positions.{own_position-at, round_position-at}
-use Rattle.at_log.proofs.Laws.Replies.{first_account-payout}
-use Rattle.at_journal.specs.Positions.{HasOwnPositions, HasStarts, HasRoundPositions}
 
 -- a round with a record is one of the rounds
 round-below : (b : BookTerms) (c : ClosingTerms) (m a r : ℕ) (d : Decision) (targets : List TargetPair) → Coherent b c
@@ -54,14 +28,14 @@ module _ (b : BookTerms) (c : ClosingTerms) (p : ℕ) (own : List ℕ) (starts :
   }
 
   HasStarts-placed : (earlier : List Receipt) (r : Receipt) → IsPlaced b p (journal_order c) earlier r → HasStarts p (journal_order c) own starts r
-  HasStarts-placed earlier r (read account balance call reply front) =
-      HasStarts-still r (λ number is. cc (front.at, is)) (λ number place is. cc (front.at, is))
+  HasStarts-placed earlier r (read account balance call reply cut) =
+      HasStarts-still r (λ number is. cc (cut.at, is)) (λ number place is. cc (cut.at, is))
   HasStarts-placed earlier r (not_owner source targets call owner reply at) =
       HasStarts-still r (λ number is. cc (at, is)) (λ number place is. cc (at, is))
   HasStarts-placed earlier r (full source targets call owner room reply at) =
       HasStarts-still r (λ number is. cc (at, is)) (λ number place is. cc (at, is))
-  HasStarts-placed earlier r (short source balance targets may single reply front less) =
-      HasStarts-still r (λ number is. cc (front.at, is)) (λ number place is. cc (front.at, is))
+  HasStarts-placed earlier r (short source balance targets may single reply cut less) =
+      HasStarts-still r (λ number is. cc (cut.at, is)) (λ number place is. cc (cut.at, is))
   HasStarts-placed earlier r (done source targets may single reply so) =
       let order = journal_order c in
       let same : (number : ℕ) → r.at ≡ At.Own number → so.number ≡ number = λ number is. cc (so.at, is) in

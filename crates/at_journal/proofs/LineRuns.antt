@@ -1,21 +1,7 @@
 -- Runs of a closing's lines over the ledger.
 use Rattle.std.proofs.Common.{◌≡◌, ℕ, ◌+◌, ◌<◌, ◌≤◌, zero, suc, List, [], ◌∷◌, ◌++◌, length, map, refl, sym, ap, ◌∙◌, arith}
-use Rattle.std.specs.List.{range_with_len}
-use Rattle.std.proofs.lemmas.List.{map-append}
-use Rattle.at_ledger.specs.Book.{BookTerms}
-use Rattle.at_ledger.specs.Run.{Run, asked_in, run_from}
-use Rattle.at_ledger.specs.State.{LedgerState}
-use Rattle.at_ledger.specs.declared.call.Call.{Call}
-use Rattle.at_ledger.specs.declared.call.Line.{Line}
-use Rattle.at_ledger.specs.declared.call.Reply.{Reply}
-use Rattle.at_ledger.proofs.Run.{last-append, replies-append, run_from-cons, run_from-nil}
-use Rattle.at_history.proofs.Laws.Balances.{ledger}
-use Rattle.at_log.specs.ClosingTerms.{ClosingTerms, receipts_of}
-use Rattle.at_log.specs.Coherent.{Coherent}
-use Rattle.at_log.specs.JournalOrder.{line_of}
-use Rattle.at_log.specs.Receipts.{is_success, receipt_at}
+use Rattle.at_journal.proofs.Prelude.{range_with_len, map-append, BookTerms, Run, asked_in, run_from, LedgerState, Call, Line, Reply, last-append, replies-append, run_from-cons, run_from-nil, ledger, ClosingTerms, receipts_of, Coherent, line_of, is_success, receipt_at, still_at}
 use Rattle.at_journal.proofs.KeepLaws.{Keeps, with_count, with_count-other, with_count-own}
-use Rattle.at_log.proofs.Laws.Keys.{still_at}
 use Rattle.at_journal.proofs.StillLaws.{Answered, still-answered}
 
 -- the line of a process's receipt

@@ -1,13 +1,6 @@
 -- The views in a process's log.
 use Rattle.std.proofs.Common.{◌≡◌, ℕ, ◌<◌, List, length, get_or, sym, ap, ◌∙◌}
-use Rattle.std.proofs.lemmas.List.{get_or-map}
-use Rattle.at_history.specs.declared.publication.Publication.{Publication}
-use Rattle.at_history.specs.BoardState.{publication_at}
-use Rattle.at_history.specs.Publications.{no_publication}
-use Rattle.at_log.specs.ClosingTerms.{ClosingTerms, log_of, log_published, published_by}
-use Rattle.at_log.specs.declared.record.Record.{Record}
-use Rattle.at_log.proofs.Laws.Views.{Contains-view}
-use Rattle.at_journal.specs.Order.{AreNumbered, AreWithin}
+use Rattle.at_journal.proofs.Prelude.{get_or-map, Publication, publication_at, no_publication, ClosingTerms, log_of, log_published, published_by, Record, Contains-view, AreNumbered, AreWithin}
 
 view_at : (c : ClosingTerms) (p i : ℕ) (log : List Record) (d : Record) → log ≡ log_of c p → i < length (log_of c p)
     → (get_or log i d).view ≡ (publication_at (log_published c p) i).view

@@ -1,45 +1,7 @@
 -- Lines that move: the ledger answers them as their receipts say, and has then the balances of one publication more.
 use Rattle.std.proofs.Common.{◌≡◌, ℕ, ◌+◌, ◌<◌, ◌≤◌, ◌==◌, ◌&&◌, zero, Bool, true, false, cond, List, length, get_or, set, take, refl, sym, ap, subst, ◌∙◌, arith, inl, inr}
-use Rattle.std.specs.List.{list_any}
-use Rattle.std.proofs.lemmas.Bool.{cases_Bool, cases_eq, eq-eqb, ltb-false, ne_eqb}
-use Rattle.std.proofs.lemmas.List.{get_or-set_same, get_or-set_other, get_or-take, get_or_default, length-set, length-take-le}
-use Rattle.std.proofs.lemmas.List.Folds.{Any-from_list_any}
-use Rattle.at_base.specs.declared.decision.Decision.{Decision}
-use Rattle.at_ledger.specs.Account.{is_shared, is_single}
-use Rattle.at_ledger.specs.Book.{BookTerms, account_of}
-use Rattle.at_ledger.specs.Call.{AreTargetsOn, TargetPair, amount_of}
-use Rattle.at_ledger.specs.State.{LedgerState, Step, asked_position}
-use Rattle.at_ledger.specs.declared.call.Reply.TheVariants.{Done, Short}
-use Rattle.at_history.proofs.Laws.Counts.{get_or-publications_of}
-use Rattle.at_history.proofs.Laws.Covers.{CoversEntry, CoversEntry-HasRuns}
-use Rattle.at_history.proofs.Laws.Balances.{BalancesFollow, BalancesFollow-push, MovesNow, balances_after, ledger}
-use Rattle.at_history.proofs.Laws.Payments.{pay-done}
-use Rattle.at_history.proofs.Laws.Runs.{is_shared-single}
-use Rattle.at_history.proofs.Laws.Rounds.{IsNextAtMost, one_if, repeats-own, repeats-round}
-use Rattle.at_history.proofs.Laws.Prefixes.{take-publication_at}
-use Rattle.at_history.specs.declared.publication.Entry.{Entry}
-use Rattle.at_history.specs.declared.publication.Publication.{Publication}
-use Rattle.at_history.specs.Balances.{IsCovered, amount_for, credit_of, debit_of}
-use Rattle.at_history.specs.BoardState.{publication_at}
-use Rattle.at_history.specs.Entries.{is_round, is_same_round}
-use Rattle.at_history.specs.Fronts.{prefix_of}
-use Rattle.at_history.specs.Publications.{no_publication, publications_of}
-use Rattle.at_history.specs.Rounds.{firsts, repeats, rounds}
-use Rattle.at_history.specs.Sound.{IsSoundEntry}
-use Rattle.at_log.proofs.Laws.OrderPremises.{HasRounds-Coherent}
-use Rattle.at_log.specs.ClosingTerms.{ClosingTerms, receipts_of}
-use Rattle.at_log.specs.Coherent.{Coherent}
-use Rattle.at_log.specs.JournalOrder.{journal_order}
-use Rattle.at_log.specs.Placed.{IsAtOwn, IsAtRound, MayPay}
-use Rattle.at_log.specs.Receipts.{is_at_own, is_at_round, is_payout_from, receipt_at}
-use Rattle.at_log.specs.Told.{own_position, round_position}
-use Rattle.at_log.proofs.Laws.FirstRecords.{is_round-true}
-use Rattle.at_log.proofs.Laws.OrderHasRuns.{HasRuns-journal_order}
-use Rattle.at_log.proofs.Laws.OrderRounds.{AreFirsts-take, IsCoherentEntry-journal_order, IsInitial-journal_order, IsNextAtMost-journal_order, round_entry}
-use Rattle.at_log.proofs.Laws.OrderState.{order_state}
+use Rattle.at_journal.proofs.Prelude.{list_any, cases_Bool, cases_eq, eq-eqb, ltb-false, ne_eqb, get_or-set_same, get_or-set_other, get_or-take, get_or_default, length-set, length-take-le, Any-from_list_any, Decision, is_shared, is_single, BookTerms, account_of, AreTargetsOn, TargetPair, amount_of, LedgerState, Step, asked_position, Done, Short, get_or-publications_of, CoversEntry, CoversEntry-HasRuns, BalancesFollow, BalancesFollow-push, MovesNow, balances_after, ledger, pay-done, is_shared-single, IsNextAtMost, one_if, repeats-own, repeats-round, take-publication_at, Entry, Publication, IsCovered, amount_for, credit_of, debit_of, publication_at, is_round, is_same_round, prefix_of, no_publication, publications_of, firsts, repeats, rounds, IsSoundEntry, HasRounds-Coherent, ClosingTerms, receipts_of, Coherent, journal_order, IsAtOwn, IsAtRound, MayPay, is_at_own, is_at_round, is_payout_from, receipt_at, own_position, round_position, is_round-true, HasRuns-journal_order, AreFirsts-take, IsCoherentEntry-journal_order, IsInitial-journal_order, IsNextAtMost-journal_order, round_entry, order_state, IsOwnAt, IsRoundAt, own_position-at, round_position-at, is_payout_from-payout, step-payout}
 use Rattle.at_journal.proofs.KeepLaws.{Keeps, Keeps-next, is_full-Keeps}
-use Rattle.at_log.proofs.Laws.Positions.{IsOwnAt, IsRoundAt, own_position-at, round_position-at}
-use Rattle.at_log.proofs.Laws.Replies.{is_payout_from-payout, step-payout}
 use Rattle.at_journal.proofs.StillLaws.{Answered, asked-set}
 
 no_ask : (s t : Bool) → t ≡ false → one_if (s && t) ≡ 0

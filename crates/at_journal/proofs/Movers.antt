@@ -1,44 +1,10 @@
 -- Each publication of the order that moves has a line that moves it.
 use Rattle.std.proofs.Common.{◌≡◌, ℕ, ◌+◌, ◌*◌, ◌<◌, ◌==◌, ◌&&◌, Bool, true, false, cond, List, length, get_or, take, refl, sym, ap, subst, ◌∙◌, arith, inl, inr}
 use Rattle.std.specs.Prelude.{Some}
-use Rattle.std.specs.List.{count_by, list_any}
-use Rattle.std.proofs.lemmas.Bool.{cases_lt, eq-eqb, eqb-true}
-use Rattle.std.proofs.lemmas.List.Folds.{list_any_at}
-use Rattle.std.proofs.lemmas.List.{get_or-take, length-take-le, take_all}
-use Rattle.at_base.specs.declared.decision.Decision.{Decision}
-use Rattle.at_ledger.specs.Book.{BookTerms, IsBegun, account_of}
-use Rattle.at_ledger.specs.Call.{TargetPair, first_account}
-use Rattle.at_ledger.specs.declared.call.Reply.TheVariants.{Done, Short}
-use Rattle.at_history.specs.declared.publication.Entry.{Entry}
-use Rattle.at_history.specs.declared.publication.Publication.{Publication}
-use Rattle.at_history.specs.BoardState.{publication_at}
-use Rattle.at_history.specs.Entries.{is_own, is_round, is_same_round}
-use Rattle.at_ledger.specs.Account.{slot_in}
-use Rattle.at_history.specs.Fronts.{prefix_of}
-use Rattle.at_history.specs.Publications.{count_of, no_publication, publications_of}
-use Rattle.at_history.specs.Rounds.{firsts, owns_of, repeats}
-use Rattle.at_history.proofs.Laws.Counts.{count_of-take_mono, count_of-take_more_own, count_of-take-le, get_or-publications_of}
-use Rattle.at_history.proofs.Laws.Runs.{owner-slot}
-use Rattle.at_history.specs.Entries.{names}
-use Rattle.at_log.proofs.Laws.OrderPremises.{HasRounds-Coherent, HasViews-Coherent}
-use Rattle.at_log.specs.declared.receipt.Receipt.{Receipt}
-use Rattle.at_log.specs.ClosingTerms.{ClosingTerms, receipts_of}
-use Rattle.at_log.specs.Coherent.{Coherent}
-use Rattle.at_log.specs.JournalOrder.{journal_order, line_key}
-use Rattle.at_log.specs.Placed.{IsAtOwn, IsAtRound, IsPlaced, MayPay, read, not_owner, full, short, done, round}
-use Rattle.at_log.specs.Receipts.{asks_in, is_at_own, is_at_round, is_payout_from, is_success, owns_in, receipt_at}
-use Rattle.at_log.specs.Told.{key_at, own_position, round_position}
-use Rattle.at_log.proofs.Laws.FirstRecords.{is_round-true}
-use Rattle.at_log.proofs.Laws.OrderRounds.{AreFirsts-take, IsCoherentEntry-journal_order, IsFirst, IsFirst-journal_order, round_entry}
-use Rattle.at_log.proofs.Laws.OrderState.{named_before}
-use Rattle.at_log.proofs.Laws.Views.{HasView-journal_order}
+use Rattle.at_journal.proofs.Prelude.{count_by, list_any, cases_lt, eq-eqb, eqb-true, list_any_at, get_or-take, length-take-le, take_all, Decision, BookTerms, IsBegun, account_of, TargetPair, first_account, Done, Short, Entry, Publication, publication_at, is_own, is_round, is_same_round, slot_in, prefix_of, count_of, no_publication, publications_of, firsts, owns_of, repeats, count_of-take_mono, count_of-take_more_own, count_of-take-le, get_or-publications_of, owner-slot, names, HasRounds-Coherent, HasViews-Coherent, Receipt, ClosingTerms, receipts_of, Coherent, journal_order, line_key, IsAtOwn, IsAtRound, IsPlaced, MayPay, read, not_owner, full, short, done, round, asks_in, is_at_own, is_at_round, is_payout_from, is_success, owns_in, receipt_at, key_at, own_position, round_position, is_round-true, AreFirsts-take, IsCoherentEntry-journal_order, IsFirst, IsFirst-journal_order, round_entry, named_before, HasView-journal_order, line_key-receipt, previous_key, IsOwnAt, own_position-at, round_position-at, is_payout_from-payout, first_account-payout}
 use Rattle.at_journal.proofs.CountingLaws.{IsPassing-from_count, count_by-filter_and, count_by-past, same_passing}
 use Rattle.at_journal.proofs.KeepLaws.{no_receipt}
-use Rattle.at_log.proofs.Laws.Keys.{line_key-receipt, previous_key}
 use Rattle.at_journal.proofs.MoveLaws.{IsNewRound}
-use Rattle.at_log.proofs.Laws.Positions.{IsOwnAt, own_position-at, round_position-at}
-use Rattle.at_log.proofs.Laws.Replies.{is_payout_from-payout}
-use Rattle.at_log.proofs.Laws.Replies.{first_account-payout}
 
 -- some line has this key
 pub record HasLine (b : BookTerms) (c : ClosingTerms) (key : ℕ) : Type 0 where
@@ -52,10 +18,10 @@ pub record HasLine (b : BookTerms) (c : ClosingTerms) (key : ℕ) : Type 0 where
 own_receipt : (b : BookTerms) (c : ClosingTerms) (p i : ℕ) → IsPlaced b p (journal_order c) (take i (receipts_of c p)) (receipt_at (receipts_of c p) i)
     → is_at_own (receipt_at (receipts_of c p) i).at ≡ true
     → (source : ℕ) × (targets : List TargetPair) × IsAtOwn p (journal_order c) (take i (receipts_of c p)) source targets (receipt_at (receipts_of c p) i)
-own_receipt b c p i (read account amount call reply front) own = absurd (cc (own, ap is_at_own front.at))
+own_receipt b c p i (read account amount call reply cut) own = absurd (cc (own, ap is_at_own cut.at))
 own_receipt b c p i (not_owner source targets call owner reply at) own = absurd (cc (own, ap is_at_own at))
 own_receipt b c p i (full source targets call owner room reply at) own = absurd (cc (own, ap is_at_own at))
-own_receipt b c p i (short source amount targets may single reply front less) own = absurd (cc (own, ap is_at_own front.at))
+own_receipt b c p i (short source amount targets may single reply cut less) own = absurd (cc (own, ap is_at_own cut.at))
 own_receipt b c p i (done source targets may single reply so) own = (source, targets, so)
 own_receipt b c p i (round source targets may shared so) own = absurd (cc (own, ap is_at_own so.at))
 
@@ -117,10 +83,10 @@ round_receipt : (b : BookTerms) (c : ClosingTerms) (p i : ℕ) → IsPlaced b p 
     → is_at_round (receipt_at (receipts_of c p) i).at ≡ true
     → (source : ℕ) × (targets : List TargetPair) × MayPay b p (take i (receipts_of c p)) source targets (receipt_at (receipts_of c p) i)
     × IsAtRound b p (journal_order c) (take i (receipts_of c p)) source targets (receipt_at (receipts_of c p) i)
-round_receipt b c p i (read account amount call reply front) own = absurd (cc (own, ap is_at_round front.at))
+round_receipt b c p i (read account amount call reply cut) own = absurd (cc (own, ap is_at_round cut.at))
 round_receipt b c p i (not_owner source targets call owner reply at) own = absurd (cc (own, ap is_at_round at))
 round_receipt b c p i (full source targets call owner room reply at) own = absurd (cc (own, ap is_at_round at))
-round_receipt b c p i (short source amount targets may single reply front less) own = absurd (cc (own, ap is_at_round front.at))
+round_receipt b c p i (short source amount targets may single reply cut less) own = absurd (cc (own, ap is_at_round cut.at))
 round_receipt b c p i (done source targets may single reply so) own = absurd (cc (own, ap is_at_round so.at))
 round_receipt b c p i (round source targets may shared so) own = (source, targets, may, so)
 

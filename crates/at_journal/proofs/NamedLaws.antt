@@ -1,14 +1,6 @@
 -- The publications that the numbers of records name.
 use Rattle.std.proofs.Common.{◌≡◌, ℕ, ◌<◌, List, length, get_or, sym, ap, ◌∙◌, arith}
-use Rattle.std.proofs.lemmas.List.{get_or-map, length-map}
-use Rattle.at_history.specs.declared.publication.Publication.{Publication}
-use Rattle.at_history.specs.BoardState.{publication_at}
-use Rattle.at_history.specs.Publications.{no_publication}
-use Rattle.at_log.specs.ClosingTerms.{ClosingTerms, log_of, log_published, published_by}
-use Rattle.at_log.specs.declared.record.Record.{Record}
-use Rattle.at_log.proofs.Laws.Order.{own_log}
-use Rattle.at_journal.specs.Order.{AreRecords, no_number, published_in}
-use Rattle.at_journal.specs.declared.order.Numbered.{Numbered}
+use Rattle.at_journal.proofs.Prelude.{get_or-map, length-map, Publication, publication_at, no_publication, ClosingTerms, log_of, log_published, published_by, Record, own_log, AreRecords, no_number, published_in, Numbered}
 
 -- the publications that numbers name are of their processes
 pub process-published_in : (c : ClosingTerms) (order : List Numbered) (m : ℕ) → AreRecords c order → m < length order

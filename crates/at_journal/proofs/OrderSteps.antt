@@ -1,23 +1,6 @@
--- The order of the publications, front by front.
+-- The order of the publications, cut by cut.
 use Rattle.std.proofs.Common.{◌≡◌, ℕ, ◌+◌, ◌-◌, ◌<◌, ◌≤◌, List, [], ◌++◌, length, map, get_or, replicate, sum, refl, sym, ap, subst, append-nil, ◌∷◌, ◌∙◌, arith, inl, inr}
-use Rattle.std.specs.List.{Contains, flat_map, range_with_len}
-use Rattle.std.proofs.lemmas.Bool.{cases_lt}
-use Rattle.std.proofs.lemmas.List.{length-map, length-replicate, map-append}
-use Rattle.std.proofs.lemmas.List.Elements.{All-append, Contains-get_or}
-use Rattle.std.proofs.lemmas.List.FromFn.{get_or-map-range_with_len, get_or-range_with_len, length-map-range_with_len, length-range_with_len, map-range_with_len_more}
-use Rattle.at_ledger.specs.Book.{BookTerms}
-use Rattle.at_history.proofs.Laws.Sums.{get_or-zeros}
-use Rattle.at_history.specs.BoardState.{publication_at}
-use Rattle.at_history.specs.Fronts.{place}
-use Rattle.at_history.specs.declared.publication.Publication.{Publication}
-use Rattle.at_log.proofs.Laws.Order.{All-flat_map, flat_map-values}
-use Rattle.at_log.proofs.Laws.PublicationKeys.{get_or-log_lengths, publication_key-above, publication_key-at_least, publication_key-le, publication_key-le_all, publication_key-mono}
-use Rattle.at_log.specs.ClosingTerms.{ClosingTerms, log_lengths, log_of, log_published}
-use Rattle.at_log.specs.Coherent.{AreChained}
-use Rattle.at_log.specs.HeldFronts.{held_fronts}
-use Rattle.at_log.specs.JournalOrder.{journal_order, numbers_at, publication_key, published_at}
-use Rattle.at_journal.specs.Order.{AreNested, AreRecords, AreWithin, published_in, records_between, records_of_process}
-use Rattle.at_journal.specs.declared.order.Numbered.{Numbered}
+use Rattle.at_journal.proofs.Prelude.{Contains, flat_map, range_with_len, cases_lt, length-map, length-replicate, map-append, All-append, Contains-get_or, get_or-map-range_with_len, get_or-range_with_len, length-map-range_with_len, length-range_with_len, map-range_with_len_more, BookTerms, get_or-zeros, publication_at, place, Publication, All-flat_map, flat_map-values, get_or-log_lengths, publication_key-above, publication_key-at_least, publication_key-le, publication_key-le_all, publication_key-mono, ClosingTerms, log_lengths, log_of, log_published, AreChained, held_cuts, journal_order, numbers_at, publication_key, published_at, AreNested, AreRecords, AreWithin, published_in, records_between, records_of_process, Numbered}
 use Rattle.at_journal.proofs.KeyRuns.{flat_map-none}
 use Rattle.at_journal.proofs.LineKeys.{filter-key, reach, reach-above, reach-below, reach-is, reach-le}
 use Rattle.at_journal.proofs.OrderedLaws.{flat_map-range_more, flat_map-same}
@@ -33,14 +16,14 @@ sorted_keys c p i j before within = publication_key-mono c p i j before
 numbers_at-range : (c : ClosingTerms) (k p : ℕ) → numbers_at c k p ≡ range_with_len (listed c k p) (listed c (k + 1) p - listed c k p)
 numbers_at-range c k p = filter-key (publication_key c p) k (length (log_of c p)) (sorted_keys c p)
 
--- a front counts those with keys of at most its place
-listed-front : (c : ClosingTerms) (view : List ℕ) (p : ℕ) → AreWithin c → AreNested c → Contains (held_fronts c) view → p < length c.logs
+-- a cut counts those with keys of at most its place
+listed-cut : (c : ClosingTerms) (view : List ℕ) (p : ℕ) → AreWithin c → AreNested c → Contains (held_cuts c) view → p < length c.logs
     → listed c (place view + 1) p ≡ get_or view p 0
-listed-front c view p within nested held known =
+listed-cut c view p within nested held known =
     let logs : length (log_lengths c) ≡ length c.logs = length-map c.logs length in
     let b : BookTerms = record { processes = length c.logs; own_room = 0; request_room = 0; accounts = [] } in
     let chained : AreChained b c = record {
-      sized = λ i d inside. (within (get_or (held_fronts c) i d) (Contains-get_or (held_fronts c) i d inside)).0;
+      sized = λ i d inside. (within (get_or (held_cuts c) i d) (Contains-get_or (held_cuts c) i d inside)).0;
       chain = nested;
       ends = λ other there. (within other there).1;
     } in
@@ -49,8 +32,8 @@ listed-front c view p within nested held known =
     (λ i counted. omega (arith, publication_key-le c view p i held counted))
     (λ i beyond inside. omega (arith, publication_key-above b c view p i chained refl held known beyond inside))
 
--- no record has a key at which no front stands
-listed-none : (c : ClosingTerms) (k p : ℕ) → k < sum (log_lengths c) → ((view : List ℕ) → Contains (held_fronts c) view → place view ≡ k → ⊥)
+-- no record has a key at which no cut stands
+listed-none : (c : ClosingTerms) (k p : ℕ) → k < sum (log_lengths c) → ((view : List ℕ) → Contains (held_cuts c) view → place view ≡ k → ⊥)
     → listed c (k + 1) p ≡ listed c k p
 listed-none c k p below none =
     let key : ℕ → ℕ = publication_key c p in
@@ -63,7 +46,7 @@ listed-none c k p below none =
       | inr here ↦ absurd (none view held (omega (arith, here, late, publication_key-le c view p i held counted)))
     ]))
 
--- none has key 0, as a front that counts a record has a place above it
+-- none has key 0, as a cut that counts a record has a place above it
 listed-zero : (c : ClosingTerms) (p : ℕ) → listed c 0 p ≡ 0
 listed-zero c p = reach-is (publication_key c p) 0 (length (log_of c p)) 0 (omega arith) (λ i below. absurd (omega (arith, below))) (λ i from within. omega arith)
 
@@ -142,16 +125,16 @@ published_in-more c k order more before at =
     map-append (λ (x : Numbered). publication_at (log_published c x.process) x.number) order more
     ∙ ((λ t. before t ++ at t) ∙ sym (flat_map-range_more (published_at c) k))
 
--- a front at the next place gives those that it counts more
-pub HasOrder-front : (c : ClosingTerms) (k : ℕ) (order : List Numbered) (counts view : List ℕ) → AreWithin c → AreNested c
-    → Contains (held_fronts c) view → place view ≡ k → HasOrder c k order counts
+-- a cut at the next place gives those that it counts more
+pub HasOrder-cut : (c : ClosingTerms) (k : ℕ) (order : List Numbered) (counts view : List ℕ) → AreWithin c → AreNested c
+    → Contains (held_cuts c) view → place view ≡ k → HasOrder c k order counts
     → HasOrder c (k + 1) (order ++ records_between (length c.logs) (λ p. get_or counts p 0) (λ p. get_or view p 0)) view
-HasOrder-front c k order counts view within nested held at so =
+HasOrder-cut c k order counts view within nested held at so =
     let from : ℕ → ℕ = λ p. get_or counts p 0 in
     let to : ℕ → ℕ = λ p. get_or view p 0 in
     let more = records_between (length c.logs) from to in
     let next : (p : ℕ) → p < length c.logs → get_or view p 0 ≡ listed c (k + 1) p =
-    λ p known. sym (listed-front c view p within nested held known) ∙ ap (λ m. listed c (m + 1) p) at in
+    λ p known. sym (listed-cut c view p within nested held known) ∙ ap (λ m. listed c (m + 1) p) at in
     record {
       published = published_in-more c k order more so.published (published_in-records_between c k from to so.counted next);
       records = All-append (λ x. (x.process < length c.logs) × (x.number < length (log_of c x.process))) order more so.records
@@ -161,9 +144,9 @@ HasOrder-front c k order counts view within nested held at so =
       counted = next;
     }
 
--- where no front stands nothing comes
+-- where no cut stands nothing comes
 pub HasOrder-none : (c : ClosingTerms) (k : ℕ) (order : List Numbered) (counts : List ℕ) → k < sum (log_lengths c)
-    → ((view : List ℕ) → Contains (held_fronts c) view → place view ≡ k → ⊥) → HasOrder c k order counts → HasOrder c (k + 1) order counts
+    → ((view : List ℕ) → Contains (held_cuts c) view → place view ≡ k → ⊥) → HasOrder c k order counts → HasOrder c (k + 1) order counts
 HasOrder-none c k order counts below none so =
     let n = length c.logs in
     let same : (p : ℕ) → listed c (k + 1) p ≡ listed c k p = λ p. listed-none c k p below none in

@@ -1,23 +1,7 @@
 -- The positions of the records of a process.
 use Rattle.std.proofs.Common.{◌≡◌, ℕ, ◌+◌, ◌<◌, ◌≤◌, ◌==◌, zero, suc, Bool, cond, List, [], ◌∷◌, ◌++◌, length, filter, get_or, replicate, take, sym, ap, subst, append-nil, ◌∙◌, arith, inl, inr}
-use Rattle.std.proofs.lemmas.Bool.{cases_eq, cases_lt, eq-eqb, ne_eqb}
-use Rattle.std.proofs.lemmas.Grind.{get_or-set_at}
-use Rattle.std.proofs.Math.ListN.{set}
-use Rattle.std.proofs.lemmas.List.{get_or-replicate, get_or-set_other, get_or_append_left, get_or_push, length-map, length-replicate, length-set, length_push, take_all, take_more}
-use Rattle.std.proofs.lemmas.List.Elements.{filter-append}
-use Rattle.std.specs.List.{range_with_len}
-use Rattle.at_history.proofs.Laws.Counts.{count_of-push_other, count_of-take_more_own, position-below, publications_of-nil}
-use Rattle.at_history.specs.BoardState.{publication_at}
-use Rattle.at_history.specs.Publications.{count_of, no_publication}
-use Rattle.at_history.specs.declared.publication.Publication.{Publication}
-use Rattle.at_log.proofs.Laws.Buckets.{range_with_len-more}
-use Rattle.at_log.specs.ClosingTerms.{ClosingTerms, log_published}
-use Rattle.at_log.specs.Told.{own_position}
+use Rattle.at_journal.proofs.Prelude.{cases_eq, cases_lt, eq-eqb, ne_eqb, get_or-set_at, set, get_or-replicate, get_or-set_other, get_or_append_left, get_or_push, length-map, length-replicate, length-set, length_push, take_all, take_more, filter-append, range_with_len, count_of-push_other, count_of-take_more_own, position-below, publications_of-nil, publication_at, count_of, no_publication, Publication, range_with_len-more, ClosingTerms, log_published, own_position, own_position-at, AreRecords, no_number, published_in, HasOwnPositions, positions_of, Numbered}
 use Rattle.at_journal.proofs.NamedLaws.{process-published_in}
-use Rattle.at_log.proofs.Laws.Positions.{own_position-at}
-use Rattle.at_journal.specs.Order.{AreRecords, no_number, published_in}
-use Rattle.at_journal.specs.Positions.{HasOwnPositions, positions_of}
-use Rattle.at_journal.specs.declared.order.Numbered.{Numbered}
 
 -- a record of a process stands where so many of the process stand before it
 own_position-is : (p m : ℕ) (list : List Publication) → m < length list → (publication_at list m).process ≡ p

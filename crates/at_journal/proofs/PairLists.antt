@@ -1,7 +1,6 @@
 -- Lists of which each element, or each two in turn, have a property.
 use Rattle.std.proofs.Common.{◌≡◌, ℕ, ◌+◌, ◌<◌, ◌≤◌, ◌⊎◌, zero, suc, Bool, true, false, cond, List, [], ◌∷◌, ◌++◌, length, map, filter, get_or, refl, sym, ap, subst, arith, inl, inr}
-use Rattle.std.specs.List.{flat_map, range_with_len}
-use Rattle.std.proofs.lemmas.Bool.{cases_Bool, cases_lt}
+use Rattle.at_journal.proofs.Prelude.{flat_map, range_with_len, cases_Bool, cases_lt}
 
 -- each element has the property
 unfoldable pub Each : {X : Type 0} → (X → Type 0) → List X → Type 0

@@ -1,18 +1,6 @@
 -- Two calls with places and one key: where their processes differ, neither moved.
 use Rattle.std.proofs.Common.{◌≡◌, ◌≢◌, ℕ, ◌+◌, ◌*◌, ◌<◌, true, false, List, length, take, sym, ap, ◌∙◌, inl, inr}
-use Rattle.std.proofs.lemmas.Bool.{cases_Bool}
-use Rattle.at_ledger.specs.Book.{BookTerms}
-use Rattle.at_ledger.specs.Call.{first_account}
-use Rattle.at_history.specs.declared.publication.Publication.{Publication}
-use Rattle.at_log.specs.ClosingTerms.{ClosingTerms, receipts_of}
-use Rattle.at_log.specs.Coherent.{Coherent}
-use Rattle.at_log.specs.JournalOrder.{journal_order, line_key}
-use Rattle.at_log.specs.Placed.{IsPlaced, read, not_owner, full, short, done, round}
-use Rattle.at_log.specs.Receipts.{is_success, receipt_at}
-use Rattle.at_log.specs.Told.{key_at, own_position, round_position}
-use Rattle.at_log.specs.declared.receipt.At.TheVariants.{Previous}
-use Rattle.at_log.specs.declared.receipt.Receipt.{Receipt}
-use Rattle.at_log.proofs.Laws.Keys.{key_at-odd, line_key-receipt, previous_key}
+use Rattle.at_journal.proofs.Prelude.{cases_Bool, BookTerms, first_account, Publication, ClosingTerms, receipts_of, Coherent, journal_order, line_key, IsPlaced, read, not_owner, full, short, done, round, is_success, receipt_at, key_at, own_position, round_position, Previous, Receipt, key_at-odd, line_key-receipt, previous_key}
 use Rattle.at_journal.proofs.BucketRuns.{move_of}
 use Rattle.at_journal.proofs.SameMove.{IsMove, IsMove-process}
 use Rattle.at_journal.proofs.StepCases.{lacks_place}
@@ -20,10 +8,10 @@ use Rattle.at_journal.proofs.StepCases.{lacks_place}
 -- a receipt whose reply says that it has a place has one
 pub has_place : (b : BookTerms) (p : ℕ) (list : List Publication) (earlier : List Receipt) (r : Receipt) → IsPlaced b p list earlier r
     → lacks_place r.reply ≡ false → r.at ≢ Previous
-has_place b p list earlier r (read account amount call reply front) told none = cc (front.at, none)
+has_place b p list earlier r (read account amount call reply cut) told none = cc (cut.at, none)
 has_place b p list earlier r (not_owner source targets call owner reply at) told none = absurd (cc (told, ap lacks_place reply))
 has_place b p list earlier r (full source targets call owner room reply at) told none = absurd (cc (told, ap lacks_place reply))
-has_place b p list earlier r (short source amount targets may single reply front less) told none = cc (front.at, none)
+has_place b p list earlier r (short source amount targets may single reply cut less) told none = cc (cut.at, none)
 has_place b p list earlier r (done source targets may single reply own) told none = cc (own.at, none)
 has_place b p list earlier r (round source targets may shared so) told none = cc (so.at, none)
 
@@ -31,10 +19,10 @@ has_place b p list earlier r (round source targets may shared so) told none = cc
 key_of-moved : (b : BookTerms) (c : ClosingTerms) (p i : ℕ) → i < length (receipts_of c p)
     → IsPlaced b p (journal_order c) (take i (receipts_of c p)) (receipt_at (receipts_of c p) i) → is_success (receipt_at (receipts_of c p) i).reply ≡ true
     → (m : ℕ) × (line_key c p i ≡ 2 * m + 1)
-key_of-moved b c p i within (read account amount call reply front) moved = absurd (cc (moved, ap is_success reply))
+key_of-moved b c p i within (read account amount call reply cut) moved = absurd (cc (moved, ap is_success reply))
 key_of-moved b c p i within (not_owner source targets call owner reply at) moved = absurd (cc (moved, ap is_success reply))
 key_of-moved b c p i within (full source targets call owner room reply at) moved = absurd (cc (moved, ap is_success reply))
-key_of-moved b c p i within (short source amount targets may single reply front less) moved = absurd (cc (moved, ap is_success reply))
+key_of-moved b c p i within (short source amount targets may single reply cut less) moved = absurd (cc (moved, ap is_success reply))
 key_of-moved b c p i within (done source targets may single reply own) moved =
     let r = receipt_at (receipts_of c p) i in (
       own_position p own.number (journal_order c),

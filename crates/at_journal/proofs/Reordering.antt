@@ -1,14 +1,6 @@
 -- Lines in another order, which is reached where each line moves in front of lines that it may pass: it is as legal and as whole.
 use Rattle.std.proofs.Common.{◌≡◌, ℕ, ◌<◌, ◌==◌, Bool, true, false, cond, List, [], ◌∷◌, ◌++◌, length, map, refl, sym, ap, subst, ◌∙◌}
-use Rattle.std.specs.List.{range_with_len}
-use Rattle.std.specs.List.Sorted.{IsPermutation}
-use Rattle.std.proofs.lemmas.Bool.{eqb-true}
-use Rattle.std.proofs.lemmas.List.Sorted.{All-permutation, IsPermutation-cons, IsPermutation-middle, IsPermutation-refl, IsPermutation-trans}
-use Rattle.at_ledger.specs.Book.{BookTerms}
-use Rattle.at_ledger.specs.Run.{Legal, Whole, lines_of}
-use Rattle.at_ledger.specs.State.{LedgerState, opening_state}
-use Rattle.at_ledger.specs.declared.call.Call.{Call}
-use Rattle.at_ledger.specs.declared.call.Line.{Line}
+use Rattle.at_journal.proofs.Prelude.{range_with_len, IsPermutation, eqb-true, All-permutation, IsPermutation-cons, IsPermutation-middle, IsPermutation-refl, IsPermutation-trans, BookTerms, Legal, Whole, lines_of, LedgerState, opening_state, Call, Line}
 use Rattle.at_journal.proofs.Exchange.{AnsweredFrom, AnsweredFrom-exchange, AnsweredFrom-replies, MayPass, line_step, replies-AnsweredFrom}
 use Rattle.at_journal.proofs.PairLists.{Each}
 
@@ -29,33 +21,33 @@ IsPermutation-Reordered xs (y ∷ ys) moved =
     (IsPermutation-cons y (before ++ after) ys (IsPermutation-Reordered (before ++ after) ys moved.4)))
 
 -- a line moves in front of all lines that it may pass
-AnsweredFrom-front : (s : LedgerState) (before : List Line) (y : Line) (after : List Line) → Each (λ x. MayPass x y) before
+AnsweredFrom-cut : (s : LedgerState) (before : List Line) (y : Line) (after : List Line) → Each (λ x. MayPass x y) before
     → AnsweredFrom s (before ++ y ∷ after) → AnsweredFrom s (y ∷ (before ++ after))
 unfolding Each AnsweredFrom
-AnsweredFrom-front s [] y after pass answered = answered
-AnsweredFrom-front s (x ∷ before) y after pass answered =
+AnsweredFrom-cut s [] y after pass answered = answered
+AnsweredFrom-cut s (x ∷ before) y after pass answered =
     AnsweredFrom-exchange s x y (before ++ after) pass.0
-    (answered.0, AnsweredFrom-front (line_step s x).ledger before y after pass.1 answered.1)
+    (answered.0, AnsweredFrom-cut (line_step s x).ledger before y after pass.1 answered.1)
 
 AnsweredFrom-Reordered : (s : LedgerState) (xs ys : List Line) → Reordered xs ys → AnsweredFrom s xs → AnsweredFrom s ys
 unfolding Reordered AnsweredFrom
 AnsweredFrom-Reordered s xs [] moved answered = tt
 AnsweredFrom-Reordered s xs (y ∷ ys) moved answered =
-    let front = AnsweredFrom-front s moved.0 y moved.1 moved.3 (subst (AnsweredFrom s) moved.2 answered) in
-    (front.0, AnsweredFrom-Reordered (line_step s y).ledger (moved.0 ++ moved.1) ys moved.4 front.1)
+    let cut = AnsweredFrom-cut s moved.0 y moved.1 moved.3 (subst (AnsweredFrom s) moved.2 answered) in
+    (cut.0, AnsweredFrom-Reordered (line_step s y).ledger (moved.0 ++ moved.1) ys moved.4 cut.1)
 
 pub Legal-Reordered : (b : BookTerms) (xs ys : List Line) → Reordered xs ys → Legal b xs → Legal b ys
 Legal-Reordered b xs ys moved legal =
     replies-AnsweredFrom (opening_state b) ys (AnsweredFrom-Reordered (opening_state b) xs ys moved (AnsweredFrom-replies (opening_state b) xs legal))
 
 -- the lines of a process stay in their order
-lines_of-front : (p : ℕ) (before : List Line) (y : Line) (after : List Line) → Each (λ x. MayPass x y) before
+lines_of-cut : (p : ℕ) (before : List Line) (y : Line) (after : List Line) → Each (λ x. MayPass x y) before
     → lines_of p (before ++ y ∷ after) ≡ lines_of p (y ∷ (before ++ after))
 unfolding Each
-lines_of-front p [] y after pass = refl
-lines_of-front p (x ∷ before) y after pass =
+lines_of-cut p [] y after pass = refl
+lines_of-cut p (x ∷ before) y after pass =
     let rest = lines_of p (before ++ after) in
-    ap (λ ls. cond (x.process == p) (x ∷ ls) ls) (lines_of-front p before y after pass.1)
+    ap (λ ls. cond (x.process == p) (x ∷ ls) ls) (lines_of-cut p before y after pass.1)
     ∙ both rest (x.process == p) (y.process == p) (λ mine theirs. pass.0.apart (eqb-true x.process p mine ∙ sym (eqb-true y.process p theirs)))
   where
     both : (rest : List Line) (s t : Bool) → (s ≡ true → t ≡ true → ⊥)
@@ -70,7 +62,7 @@ unfolding Reordered
 lines_of-Reordered p xs [] moved = ap (lines_of p) moved
 lines_of-Reordered p xs (y ∷ ys) moved =
     ap (lines_of p) moved.2
-    ∙ (lines_of-front p moved.0 y moved.1 moved.3
+    ∙ (lines_of-cut p moved.0 y moved.1 moved.3
     ∙ ap (λ ls. cond (y.process == p) (y ∷ ls) ls) (lines_of-Reordered p (moved.0 ++ moved.1) ys moved.4))
 
 pub Whole-Reordered : (files : List (List Call)) (xs ys : List Line) → Reordered xs ys → Whole files xs → Whole files ys

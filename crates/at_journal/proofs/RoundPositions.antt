@@ -1,32 +1,6 @@
 -- The positions of the first records of rounds, record by record.
 use Rattle.std.proofs.Common.{◌≡◌, ℕ, ◌+◌, ◌<◌, ◌≤◌, ◌&&◌, ◌⊎◌, true, false, cond, List, [], ◌∷◌, ◌++◌, length, get_or, take, replicate, refl, sym, ap, subst, ◌∙◌, arith, inl, inr}
-use Rattle.std.proofs.Math.ListN.{set}
-use Rattle.std.proofs.lemmas.Bool.{cases_Bool, cases_eq, cases_lt, eq-eqb, lt-ltb, ltb-true, ne_eqb}
-use Rattle.std.proofs.lemmas.List.{get_or-replicate, get_or-set_other, get_or-set_same, get_or-take, get_or_append_left, get_or_push, length-replicate, length-set, length-take-le, length_push}
-use Rattle.std.proofs.lemmas.List.Folds.{list_any_at}
-use Rattle.std.specs.List.{sum_by}
-use Rattle.at_base.specs.declared.decision.Decision.{Decision}
-use Rattle.at_ledger.specs.Book.{BookTerms}
-use Rattle.at_ledger.specs.Call.{TargetPair}
-use Rattle.at_history.proofs.Laws.Prefixes.{take-publication_at}
-use Rattle.at_history.proofs.Laws.Rounds.{IsNextAtMost, firsts-nil, one_if, published, repeats-round, rounds-push_next, sum_by-firsts_nothing}
-use Rattle.at_history.specs.BoardState.{publication_at}
-use Rattle.at_history.specs.Entries.{is_round, is_round_on}
-use Rattle.at_history.specs.Fronts.{prefix_of}
-use Rattle.at_history.specs.Publications.{no_publication}
-use Rattle.at_history.specs.Rounds.{firsts, repeats, rounds}
-use Rattle.at_history.specs.declared.publication.Entry.{Entry}
-use Rattle.at_history.specs.declared.publication.Entry.TheVariants.{Own, Round}
-use Rattle.at_history.specs.declared.publication.Publication.{Publication}
-use Rattle.at_log.proofs.Laws.OrderPremises.{HasRounds-Coherent}
-use Rattle.at_log.proofs.Laws.FirstRecords.{is_round-true}
-use Rattle.at_log.proofs.Laws.OrderRounds.{AreFirsts-take, IsCoherentEntry-journal_order, IsInitial-journal_order, IsNextAtMost-journal_order, round_entry}
-use Rattle.at_log.specs.ClosingTerms.{ClosingTerms}
-use Rattle.at_log.specs.Coherent.{Coherent}
-use Rattle.at_log.specs.JournalOrder.{journal_order}
-use Rattle.at_log.specs.Told.{round_position}
-use Rattle.at_log.proofs.Laws.Positions.{round_position-at}
-use Rattle.at_journal.specs.Positions.{HasRoundPositions, IsOnAccount, with_position}
+use Rattle.at_journal.proofs.Prelude.{set, cases_Bool, cases_eq, cases_lt, eq-eqb, lt-ltb, ltb-true, ne_eqb, get_or-replicate, get_or-set_other, get_or-set_same, get_or-take, get_or_append_left, get_or_push, length-replicate, length-set, length-take-le, length_push, list_any_at, sum_by, Decision, BookTerms, TargetPair, take-publication_at, IsNextAtMost, firsts-nil, one_if, published, repeats-round, rounds-push_next, sum_by-firsts_nothing, publication_at, is_round, is_round_on, prefix_of, no_publication, firsts, repeats, rounds, Entry, Own, Round, Publication, HasRounds-Coherent, is_round-true, AreFirsts-take, IsCoherentEntry-journal_order, IsInitial-journal_order, IsNextAtMost-journal_order, round_entry, ClosingTerms, Coherent, journal_order, round_position, round_position-at, HasRoundPositions, IsOnAccount, with_position}
 
 pub HasRoundPositions-none : (accounts : ℕ) (list : List Publication) → HasRoundPositions accounts [] list (replicate accounts [])
 HasRoundPositions-none accounts list =

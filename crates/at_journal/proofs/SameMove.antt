@@ -1,28 +1,7 @@
 -- Which line moves a publication of the order: no two do.
 use Rattle.std.proofs.Common.{◌≡◌, ℕ, ◌<◌, ◌==◌, ◌&&◌, true, List, length, get_or, take, refl, sym, ap, subst, ◌∙◌, arith}
 use Rattle.std.specs.Prelude.{Some}
-use Rattle.std.proofs.lemmas.Bool.{eq-eqb, eqb-true}
-use Rattle.std.proofs.lemmas.List.Quantifiers.{position-Some}
-use Rattle.std.specs.List.{count_by}
-use Rattle.at_base.specs.declared.decision.Decision.{Decision}
-use Rattle.at_ledger.specs.Account.{AccountTerms, slot_in}
-use Rattle.at_ledger.specs.Book.{BookTerms, account_of}
-use Rattle.at_ledger.specs.Call.{TargetPair}
-use Rattle.at_history.proofs.Laws.Counts.{publications_of-take}
-use Rattle.at_history.specs.BoardState.{publication_at}
-use Rattle.at_history.specs.Entries.{is_own, is_round}
-use Rattle.at_history.specs.Publications.{publications_of}
-use Rattle.at_history.specs.declared.publication.Entry.{Entry}
-use Rattle.at_history.specs.declared.publication.Publication.{Publication}
-use Rattle.at_log.proofs.Laws.Positions.{IsOwnAt, IsRoundAt, own_position-at, round_position-at}
-use Rattle.at_log.proofs.Laws.Replies.{is_payout_from-payout}
-use Rattle.at_log.specs.ClosingTerms.{ClosingTerms, receipts_of}
-use Rattle.at_log.specs.Coherent.{Coherent}
-use Rattle.at_log.specs.JournalOrder.{journal_order}
-use Rattle.at_log.specs.Placed.{IsAtOwn, IsAtRound, MayPay}
-use Rattle.at_log.specs.Receipts.{asks_in, is_at_own, is_at_round, is_payout_from, owns_in, receipt_at}
-use Rattle.at_log.specs.Told.{own_position, round_position}
-use Rattle.at_log.specs.declared.receipt.Receipt.{Receipt}
+use Rattle.at_journal.proofs.Prelude.{eq-eqb, eqb-true, position-Some, count_by, Decision, AccountTerms, slot_in, BookTerms, account_of, TargetPair, publications_of-take, publication_at, is_own, is_round, publications_of, Entry, Publication, IsOwnAt, IsRoundAt, own_position-at, round_position-at, is_payout_from-payout, ClosingTerms, receipts_of, Coherent, journal_order, IsAtOwn, IsAtRound, MayPay, asks_in, is_at_own, is_at_round, is_payout_from, owns_in, receipt_at, own_position, round_position, Receipt}
 use Rattle.at_journal.proofs.CountingLaws.{count_by-past}
 use Rattle.at_journal.proofs.KeepLaws.{no_receipt}
 use Rattle.at_journal.proofs.MoveLaws.{IsNewRound-first, own_entry}

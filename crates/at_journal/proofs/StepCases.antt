@@ -1,20 +1,7 @@
 -- What a call of one process leaves to another: all its room, and where neither moves, the balances too.
 use Rattle.std.proofs.Common.{◌≡◌, ◌≢◌, ℕ, ◌+◌, ◌<◌, ◌≤◌, ◌==◌, ◌&&◌, ◌||◌, Bool, true, false, cond, List, [], ◌∷◌, length, get_or, set, refl, sym, ap, subst, ◌∙◌, arith, inl, inr}
 use Rattle.std.specs.Prelude.{Some}
-use Rattle.std.proofs.lemmas.Bool.{cases_Bool, cases_lt}
-use Rattle.std.proofs.lemmas.List.{get_or-set_other, set_comm}
-use Rattle.std.proofs.lemmas.Nat.{same_from_place}
-use Rattle.at_ledger.specs.Account.{is_shared, is_single}
-use Rattle.at_ledger.specs.Book.{BookTerms, account_of, is_owner}
-use Rattle.at_ledger.specs.Call.{TargetPair, amount_of, payout_of}
-use Rattle.at_ledger.specs.State.{LedgerState, Step, after_done, after_short, asked_of, asked_position, balance_of, counted, is_full, moved, pay, step, with_asked, with_sent}
-use Rattle.at_ledger.specs.declared.call.Call.{Call}
-use Rattle.at_ledger.specs.declared.call.Call.TheVariants.{Transfer, Read, Pay}
-use Rattle.at_ledger.specs.declared.call.Reply.{Reply}
-use Rattle.at_ledger.specs.declared.call.Reply.TheVariants.{Done, Short, NotOwner, Full, Balance}
-use Rattle.at_history.proofs.Laws.Payments.{pay-done}
-use Rattle.at_log.proofs.Laws.Replies.{after_short-shared, after_short-single, pay-full, pay-not_owner, pay-short, step-payout}
-use Rattle.at_log.specs.Receipts.{is_success}
+use Rattle.at_journal.proofs.Prelude.{cases_Bool, cases_lt, get_or-set_other, set_comm, same_from_place, is_shared, is_single, BookTerms, account_of, is_owner, TargetPair, amount_of, payout_of, LedgerState, Step, after_done, after_short, asked_of, asked_position, balance_of, counted, is_full, moved, pay, step, with_asked, with_sent, Call, Transfer, Read, Pay, Reply, Done, Short, NotOwner, Full, Balance, pay-done, after_short-shared, after_short-single, pay-full, pay-not_owner, pay-short, step-payout, is_success}
 use Rattle.at_journal.proofs.StillLaws.{owner_within}
 
 -- whether a call that is answered so has no place

@@ -1,39 +1,6 @@
 -- Lines that move nothing: the ledger answers them as their receipts say, where the balances are those of their place.
 use Rattle.std.proofs.Common.{◌≡◌, ℕ, ◌+◌, ◌*◌, ◌<◌, ◌≤◌, ◌==◌, ◌&&◌, zero, suc, Bool, true, false, cond, List, [], ◌∷◌, length, get_or, set, take, refl, sym, ap, subst, ◌∙◌, arith, inl, inr}
-use Rattle.std.proofs.Math.ListN.{get_or-eq_default}
-use Rattle.std.proofs.lemmas.Bool.{cases_Bool, cases_eq, cases_lt, eq-eqb, ne_eqb}
-use Rattle.std.proofs.lemmas.List.{get_or-set_same, get_or-set_other, get_or_default, length-set, take_all}
-use Rattle.std.proofs.lemmas.List.Sums.{sum_by-cons}
-use Rattle.std.proofs.lemmas.Nat.{mul-add-lt, same_from_place}
-use Rattle.std.specs.List.{sum_by}
-use Rattle.at_ledger.specs.Account.{AccountTerms, is_owner_in, no_account}
-use Rattle.at_ledger.specs.Book.{BookTerms, account_of, is_owner}
-use Rattle.at_ledger.specs.Call.{AreTargetsOn, TargetPair, amount_of}
-use Rattle.at_ledger.specs.State.{LedgerState, Step, asked_position, step}
-use Rattle.at_ledger.specs.declared.call.Reply.TheVariants.{Balance, Done, Short}
-use Rattle.at_history.proofs.Laws.Balances.{ledger}
-use Rattle.at_history.proofs.Laws.HasRuns.{IsRunDecision}
-use Rattle.at_history.proofs.Laws.Rounds.{one_if, sum_by-firsts-take_mono}
-use Rattle.at_history.proofs.Laws.Runs.{is_shared-single}
-use Rattle.at_history.specs.Balances.{IsCovered, amount_for, balance_after, credit_of, credits}
-use Rattle.at_history.specs.BoardState.{publication_at, request_at}
-use Rattle.at_history.specs.Fronts.{place, prefix_of}
-use Rattle.at_history.specs.Publications.{no_publication}
-use Rattle.at_history.specs.Rounds.{firsts}
-use Rattle.at_history.specs.declared.publication.Entry.{Entry}
-use Rattle.at_history.specs.declared.publication.Publication.{Publication}
-use Rattle.at_history.specs.declared.request.Request.{Request}
-use Rattle.at_log.proofs.Laws.OrderPremises.{HasRounds-Coherent}
-use Rattle.at_log.proofs.Laws.Keys.{still_at}
-use Rattle.at_log.proofs.Laws.Replies.{after_short-shared, after_short-single, is_payout_from-payout, pay-full, pay-not_owner, pay-short, step-payout}
-use Rattle.at_log.proofs.Laws.OrderHasRuns.{HasRuns-journal_order, IsInState-record}
-use Rattle.at_log.proofs.Laws.OrderRounds.{AreFirsts-journal_order, IsCoherentEntry-journal_order}
-use Rattle.at_log.proofs.Laws.OrderState.{order_state}
-use Rattle.at_log.specs.ClosingTerms.{ClosingTerms, receipts_of}
-use Rattle.at_log.specs.Coherent.{Coherent, IsCoherentEntry}
-use Rattle.at_log.specs.JournalOrder.{journal_order}
-use Rattle.at_log.specs.Placed.{IsPlaced, read, not_owner, full, short, done, round}
-use Rattle.at_log.specs.Receipts.{is_at_own, is_at_round, is_payout_from, is_success, receipt_at}
+use Rattle.at_journal.proofs.Prelude.{get_or-eq_default, cases_Bool, cases_eq, cases_lt, eq-eqb, ne_eqb, get_or-set_same, get_or-set_other, get_or_default, length-set, take_all, sum_by-cons, mul-add-lt, same_from_place, sum_by, AccountTerms, is_owner_in, no_account, BookTerms, account_of, is_owner, AreTargetsOn, TargetPair, amount_of, LedgerState, Step, asked_position, step, Balance, Done, Short, ledger, IsRunDecision, one_if, sum_by-firsts-take_mono, is_shared-single, IsCovered, amount_for, balance_after, credit_of, credits, publication_at, request_at, place, prefix_of, no_publication, firsts, Entry, Publication, Request, HasRounds-Coherent, still_at, after_short-shared, after_short-single, is_payout_from-payout, pay-full, pay-not_owner, pay-short, step-payout, HasRuns-journal_order, IsInState-record, AreFirsts-journal_order, IsCoherentEntry-journal_order, order_state, ClosingTerms, receipts_of, Coherent, IsCoherentEntry, journal_order, IsPlaced, read, not_owner, full, short, done, round, is_at_own, is_at_round, is_payout_from, is_success, receipt_at}
 use Rattle.at_journal.proofs.KeepLaws.{Keeps, Keeps-next, is_full-Keeps, with_count}
 
 -- an owner's account is there
@@ -156,19 +123,19 @@ pub still-answered : (b : BookTerms) (c : ClosingTerms) (m : ℕ) (done : ℕ �
     → still_at m (is_success (receipt_at (receipts_of c p) i).reply) (receipt_at (receipts_of c p) i).at
     → IsPlaced b p (journal_order c) (take i (receipts_of c p)) (receipt_at (receipts_of c p) i)
     → Answered b c m m done balances sent asked p i
-still-answered b c m count balances sent asked p i coherent keeps known here within still (read account amount call reply front) =
+still-answered b c m count balances sent asked p i coherent keeps known here within still (read account amount call reply cut) =
     let r = receipt_at (receipts_of c p) i in
     let l : LedgerState = ledger b balances sent asked in
-    let at_m : place front.view ≡ m = subst (still_at m (is_success r.reply)) front.at still in
+    let at_m : place cut.view ≡ m = subst (still_at m (is_success r.reply)) cut.at still in
     let is : get_or balances account 0 ≡ amount =
-    sym (balance-Keeps b c m count balances sent asked account coherent keeps) ∙ (ap (λ k. balance_after b (take k (journal_order c)) account) (sym at_m) ∙ front.balance) in
+    sym (balance-Keeps b c m count balances sent asked account coherent keeps) ∙ (ap (λ k. balance_after b (take k (journal_order c)) account) (sym at_m) ∙ cut.balance) in
     let told : Step = record { ledger = l; reply = r.reply } in
     record {
       balances2 = balances;
       sent2 = sent;
       asked2 = asked;
       stepped = ap (step l p) call ∙ (λ t. record { ledger = l; reply = ((λ u. Balance (is u)) ∙ sym reply) t });
-      keeps = still_kept b c m count balances sent asked p i keeps here within (ap is_at_own front.at) (ap is_at_round front.at);
+      keeps = still_kept b c m count balances sent asked p i keeps here within (ap is_at_own cut.at) (ap is_at_round cut.at);
     }
 still-answered b c m count balances sent asked p i coherent keeps known here within still (not_owner source targets call owner reply at) =
     let r = receipt_at (receipts_of c p) i in
@@ -191,12 +158,12 @@ still-answered b c m count balances sent asked p i coherent keeps known here wit
       stepped = step-payout l p source targets r.call call ∙ (pay-full l p source targets owner filled ∙ (λ t. record { ledger = l; reply = sym reply t }));
       keeps = still_kept b c m count balances sent asked p i keeps here within (ap is_at_own at) (ap is_at_round at);
     }
-still-answered b c m count balances sent asked p i coherent keeps known here within still (short source amount targets may single reply front less) =
+still-answered b c m count balances sent asked p i coherent keeps known here within still (short source amount targets may single reply cut less) =
     let r = receipt_at (receipts_of c p) i in
     let l : LedgerState = ledger b balances sent asked in
-    let at_m : place front.view ≡ m = subst (still_at m (is_success r.reply)) front.at still in
+    let at_m : place cut.view ≡ m = subst (still_at m (is_success r.reply)) cut.at still in
     let is : get_or balances source 0 ≡ amount =
-    sym (balance-Keeps b c m count balances sent asked source coherent keeps) ∙ (ap (λ k. balance_after b (take k (journal_order c)) source) (sym at_m) ∙ front.balance) in
+    sym (balance-Keeps b c m count balances sent asked source coherent keeps) ∙ (ap (λ k. balance_after b (take k (journal_order c)) source) (sym at_m) ∙ cut.balance) in
     let free = is_full-Keeps b c m count balances sent asked p source i keeps here known (owner_within b p source may.owner) ∙ may.room in
     let same = after_short-single l p source targets (is_shared-single b source single) in
     record {
@@ -205,7 +172,7 @@ still-answered b c m count balances sent asked p i coherent keeps known here wit
       asked2 = asked;
       stepped = step-payout l p source targets r.call may.call ∙ (pay-short l p source targets may.owner free (omega (arith, is, less))
           ∙ (λ t. record { ledger = same t; reply = sym reply t }));
-      keeps = still_kept b c m count balances sent asked p i keeps here within (ap is_at_own front.at) (ap is_at_round front.at);
+      keeps = still_kept b c m count balances sent asked p i keeps here within (ap is_at_own cut.at) (ap is_at_round cut.at);
     }
 still-answered b c m count balances sent asked p i coherent keeps known here within still (done source targets may single reply own) =
     absurd (subst (still_at m (is_success (receipt_at (receipts_of c p) i).reply)) own.at still)

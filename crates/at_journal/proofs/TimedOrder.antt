@@ -1,13 +1,6 @@
 -- The lines of a journal are linearizable: each line in turn is one before whose beginning no call ends, and passes those before it.
 use Rattle.std.proofs.Common.{◌≡◌, ℕ, ◌-◌, ◌<◌, ◌≤◌, ◌==◌, ◌&&◌, not, zero, suc, Bool, true, false, List, [], ◌∷◌, ◌++◌, length, get_or, refl, ap, subst, arith, inl, inr, length-append}
-use Rattle.std.proofs.lemmas.Bool.{cases_Bool, eq-eqb, eqb-true, not-true}
-use Rattle.at_ledger.specs.Book.{BookTerms, IsBegun}
-use Rattle.at_ledger.specs.declared.call.Line.{Line}
-use Rattle.at_log.specs.ClosingTerms.{ClosingTerms}
-use Rattle.at_log.specs.Coherent.{Coherent}
-use Rattle.at_log.specs.JournalOrder.{journal_lines}
-use Rattle.at_journal.specs.Calls.{calls_in}
-use Rattle.at_journal.specs.Linearizable.{AreTimed, CallTimes, EndsBefore, IsLinearizable}
+use Rattle.at_journal.proofs.Prelude.{cases_Bool, eq-eqb, eqb-true, not-true, BookTerms, IsBegun, Line, ClosingTerms, Coherent, journal_lines, calls_in, AreTimed, CallTimes, EndsBefore, IsLinearizable}
 use Rattle.at_journal.proofs.Choosing.{AreOrdered, First, StandInTime, begun_of, ended_of, key-le, pass-least, pass-lacks_place}
 use Rattle.at_journal.proofs.JournalRuns.{Legal-journal_lines}
 use Rattle.at_journal.proofs.LinePairs.{AreReceiptLines-journal_lines, IsReceiptLine, MayPrecede, Pairwise-journal_lines, key_of_line}
@@ -81,7 +74,7 @@ module _ (b : BookTerms) (c : ClosingTerms) (times : CallTimes) (coherent : Cohe
         free = free;
       }
 
-  -- some line may move to the front
+  -- some line may move to the cut
   find_first : (x : Line) (xs : List Line) → AreOrdered c (x ∷ xs) → First times (x ∷ xs)
   unfolding Each has_least_key
   find_first x xs ordered =

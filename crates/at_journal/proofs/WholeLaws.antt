@@ -1,30 +1,12 @@
 -- The journal has each receipt once, and those of a process in the order of its calls.
 use Rattle.std.proofs.Common.{◌≡◌, ℕ, ◌+◌, ◌*◌, ◌<◌, ◌==◌, cond, List, [], ◌∷◌, length, map, filter, get_or, sum, refl, sym, ap, ◌∙◌, arith}
 use Rattle.std.specs.Prelude.{nat_lt}
-use Rattle.std.specs.List.{All, flat_map, range_with_len}
-use Rattle.std.specs.List.Sorted.{IsNonDecreasingBy}
-use Rattle.std.proofs.lemmas.Bool.{eq-eqb, lt-ltb, ne_eqb}
-use Rattle.std.proofs.lemmas.List.{ext_get_or, get_or-map, length-map}
-use Rattle.std.proofs.lemmas.List.FromFn.{get_or-map-range_with_len, get_or-range_with_len, length-map-range_with_len, length-range_with_len}
-use Rattle.at_ledger.specs.Book.{BookTerms}
-use Rattle.at_ledger.specs.Run.{Whole, lines_of}
-use Rattle.at_ledger.specs.declared.call.Call.{Call}
-use Rattle.at_ledger.specs.declared.call.Line.{Line}
-use Rattle.at_log.specs.ClosingTerms.{ClosingTerms, log_lengths, receipts_of}
-use Rattle.at_log.specs.Coherent.{Coherent}
-use Rattle.at_log.specs.JournalOrder.{journal_lines, line_key, line_of, process_lines_at}
-use Rattle.at_log.specs.Receipts.{calls_of, receipt_at}
-use Rattle.at_log.specs.declared.receipt.Receipt.{Receipt}
-use Rattle.at_log.proofs.Laws.Buckets.{flat_map-buckets}
-use Rattle.at_log.proofs.Laws.Order.{All-flat_map, filter-first, flat_map-values}
+use Rattle.at_journal.proofs.Prelude.{All, flat_map, range_with_len, IsNonDecreasingBy, eq-eqb, lt-ltb, ne_eqb, ext_get_or, get_or-map, length-map, get_or-map-range_with_len, get_or-range_with_len, length-map-range_with_len, length-range_with_len, BookTerms, Whole, lines_of, Call, Line, ClosingTerms, log_lengths, receipts_of, Coherent, journal_lines, line_key, line_of, process_lines_at, calls_of, receipt_at, Receipt, flat_map-buckets, All-flat_map, filter-first, flat_map-values, line_key-le, line_key-sorted, calls_in}
 use Rattle.at_journal.proofs.JournalRuns.{length-journal_order}
 use Rattle.at_journal.proofs.KeepLaws.{no_receipt}
-use Rattle.at_log.proofs.Laws.KeyBounds.{line_key-le}
-use Rattle.at_log.proofs.Laws.Keys.{line_key-sorted}
 use Rattle.at_journal.proofs.KeyRuns.{flat_map-only}
 use Rattle.at_journal.proofs.LineRuns.{line}
 use Rattle.at_journal.proofs.OrderedLaws.{filter-flat_map}
-use Rattle.at_journal.specs.Calls.{calls_in}
 
 -- lines of a process are all its own
 filter-own : (p : ℕ) (c : ClosingTerms) (ks : List ℕ) → lines_of p (map (line c p) ks) ≡ map (line c p) ks

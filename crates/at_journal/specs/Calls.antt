@@ -1,10 +1,6 @@
 -- The calls of a closing, by process and number.
 use Rattle.std.specs.Prelude.{◌<◌, List, length, map, All}
-use Rattle.at_ledger.specs.declared.call.Call.{Call}
-use Rattle.at_ledger.specs.declared.call.Line.{Line}
-use Rattle.at_log.specs.ClosingTerms.{ClosingTerms, receipts_of}
-use Rattle.at_log.specs.JournalOrder.{line_of}
-use Rattle.at_log.specs.Receipts.{calls_of, receipt_at}
+use Rattle.at_journal.specs.Prelude.{Call, Line, ClosingTerms, receipts_of, line_of, calls_of, receipt_at}
 use Rattle.at_journal.specs.declared.keyed.CallAt.{CallAt}
 
 -- the calls of each process, in their order

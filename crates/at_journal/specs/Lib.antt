@@ -1,3 +1,4 @@
+pub mod Prelude
 pub mod Held
 pub mod Calls
 pub mod Order

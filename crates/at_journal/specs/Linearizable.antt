@@ -1,14 +1,6 @@
 -- Lines that are linearizable, for times at which their calls begin and end.
 use Rattle.std.specs.Prelude.{◌≢◌, ℕ, ◌-◌, ◌<◌, ◌≤◌, List, length, slice_index_or}
-use Rattle.std.specs.List.Sorted.{IsPermutation}
-use Rattle.at_ledger.specs.Book.{BookTerms}
-use Rattle.at_ledger.specs.Run.{Legal, Whole}
-use Rattle.at_ledger.specs.declared.call.Call.{Call}
-use Rattle.at_ledger.specs.declared.call.Line.{Line}
-use Rattle.at_log.specs.ClosingTerms.{ClosingTerms, receipts_of}
-use Rattle.at_log.specs.InTime.{IsNotBehind}
-use Rattle.at_log.specs.Receipts.{receipt_at}
-use Rattle.at_log.specs.declared.receipt.At.{At}
+use Rattle.at_journal.specs.Prelude.{IsPermutation, BookTerms, Legal, Whole, Call, Line, ClosingTerms, receipts_of, IsNotBehind, receipt_at, At}
 
 -- when each call begins and ends, by its process and its number from 0
 pub record CallTimes : Type 0 where

@@ -1,20 +1,15 @@
 -- The records of a closing by their processes and numbers, in the order of the publications.
 use Rattle.std.specs.Prelude.{◌≡◌, ℕ, ◌⊎◌, ◌-◌, ◌<◌, List, length, map, slice_index, All, Contains}
-use Rattle.std.specs.List.{flat_map, range_with_len}
-use Rattle.at_base.specs.Counts.{Covers}
-use Rattle.at_history.specs.BoardState.{publication_at}
-use Rattle.at_history.specs.declared.publication.Publication.{Publication}
-use Rattle.at_log.specs.ClosingTerms.{ClosingTerms, log_lengths, log_of, log_published}
-use Rattle.at_log.specs.HeldFronts.{held_fronts}
+use Rattle.at_journal.specs.Prelude.{flat_map, range_with_len, Covers, publication_at, Publication, ClosingTerms, log_lengths, log_of, log_published, held_cuts}
 use Rattle.at_journal.specs.declared.order.Numbered.{Numbered}
 
--- each held front has a count for each process, and the lengths of the logs cover it
+-- each held cut has a count for each process, and the lengths of the logs cover it
 abbrev pub AreWithin : ClosingTerms → Type 0
-AreWithin c = (view : List ℕ) → Contains (held_fronts c) view → length view ≡ length c.logs × Covers (log_lengths c) view
+AreWithin c = (view : List ℕ) → Contains (held_cuts c) view → length view ≡ length c.logs × Covers (log_lengths c) view
 
--- of two held fronts one covers the other
+-- of two held cuts one covers the other
 abbrev pub AreNested : ClosingTerms → Type 0
-AreNested c = (view other : List ℕ) → Contains (held_fronts c) view → Contains (held_fronts c) other → Covers view other ⊎ Covers other view
+AreNested c = (view other : List ℕ) → Contains (held_cuts c) view → Contains (held_cuts c) other → Covers view other ⊎ Covers other view
 
 -- the view of each record has how many records its process published before it
 abbrev pub AreNumbered : ClosingTerms → Type 0

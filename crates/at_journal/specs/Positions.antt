@@ -1,20 +1,6 @@
 -- Where the records of a closing stand in the order of its publications.
 use Rattle.std.specs.Prelude.{◌≡◌, ℕ, ◌^◌, ◌<◌, ◌≤◌, ◌==◌, ◌++◌, List, [], ◌∷◌, length, filter, slice_index, slice_index_or, slice_set, All, ⊤, if◌then◌else◌, true}
-use Rattle.std.specs.List.{range_with_len}
-use Rattle.at_history.specs.Publications.{count_of}
-use Rattle.at_history.specs.Rounds.{rounds}
-use Rattle.at_history.specs.declared.publication.Entry.{Entry}
-use Rattle.at_history.specs.declared.publication.Entry.TheVariants.{Own, Round}
-use Rattle.at_history.specs.declared.publication.Publication.{Publication}
-use Rattle.at_log.specs.ClosingTerms.{ClosingTerms, receipts_of}
-use Rattle.at_log.specs.Coherent.{Coherent}
-use Rattle.at_log.specs.JournalOrder.{journal_order}
-use Rattle.at_log.specs.Receipts.{is_success, receipt_at}
-use Rattle.at_ledger.specs.Book.{BookTerms}
-use Rattle.at_ledger.specs.Call.{first_account}
-use Rattle.at_log.specs.Told.{own_position, round_position}
-use Rattle.at_log.specs.declared.receipt.At.{At}
-use Rattle.at_log.specs.declared.receipt.Receipt.{Receipt}
+use Rattle.at_journal.specs.Prelude.{range_with_len, count_of, rounds, Entry, Own, Round, Publication, ClosingTerms, receipts_of, Coherent, journal_order, is_success, receipt_at, BookTerms, first_account, own_position, round_position, At, Receipt}
 use Rattle.at_journal.specs.Order.{AreRecords, no_number, published_in}
 use Rattle.at_journal.specs.declared.order.Numbered.{Numbered}
 

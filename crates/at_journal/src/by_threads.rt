@@ -4,72 +4,65 @@
 //! there are processes.
 
 ghost use Rattle.std.specs.Prelude.{◌≡◌, ◌^◌, ◌<◌, ◌≤◌, length, map, sum, All, IfOk, Ok};
-ghost use Rattle.std.specs.List.{filter_map, flat_map};
-ghost use Rattle.std.specs.Option.{option_copied};
-ghost use Rattle.at_log.specs.ClosingTerms.{log_lengths, receipts_of};
-ghost use Rattle.at_log.specs.HeldFronts.{front_at};
-ghost use Rattle.at_journal.specs.Held.{AreAdded, AreHeld, AreNamed, NameFronts};
-ghost use Rattle.at_log.specs.Coherent.{Coherent};
-ghost use Rattle.at_log.specs.JournalOrder.{journal_lines, journal_order};
-ghost use Rattle.at_log.specs.Told.{keys_of};
+ghost use Rattle.at_journal.specs.Prelude.{filter_map, flat_map, option_copied, log_lengths, receipts_of, cut_at, Coherent, journal_lines, journal_order, keys_of};
+ghost use Rattle.at_journal.specs.Held.{AreAdded, AreHeld, AreNamed, NameCuts};
 ghost use Rattle.at_journal.specs.Calls.{AreCallsOf, line_at};
 ghost use Rattle.at_journal.specs.Order.{AreRecords, published_in};
 ghost use Rattle.at_journal.specs.Ordered.{all_keyed, all_keys, keyed_of};
 ghost use Rattle.at_journal.specs.Positions.{MayAllBeKeyed, MayBeKeyed};
 
-use crate::NoMemory;
 use crate::calls::in_key_order;
-use crate::fronts::put_all_views;
+use crate::cuts::put_all_views;
 use crate::keyed::{CallAt, Keyed};
 use crate::lines::{count_receipts, push_calls};
-use crate::named_fronts::{FrontAt, fronts_named, put_all_named};
+use crate::named_cuts::{CutAt, cuts_named, put_all_named};
 use crate::order::{Numbered, order_of, total_of};
 use crate::positions::{own_positions, round_positions};
 use at_base::Counts;
 use at_ledger::Book;
 use at_log::Closing;
-use std::alloc::Global;
+use std::alloc::{AllocError, Global};
 use std::thread::{Threads, map_indices};
 
-/// Puts the fronts that each list names at their places, unless one is held there.
-fn put_lists<'c>(fronts: &mut Vec<Option<&'c Counts>>, closing: &'c Closing, lists: &[Vec<FrontAt>])
+/// Puts the cuts that each list names at their places, unless one is held there.
+fn put_lists<'c>(cuts: &mut Vec<Option<&'c Counts>>, closing: &'c Closing, lists: &[Vec<CutAt>])
     requires { AreNamed closing.now (map (λ v. v.items) lists.now) }
     ensures { AreAdded
-        (flat_map (λ receipts. filter_map (λ r. front_at r.at) receipts) closing.now.receipts)
-        (map option_copied fronts.old.items) (map option_copied fronts.new.items) }
+        (flat_map (λ receipts. filter_map (λ r. cut_at r.at) receipts) closing.now.receipts)
+        (map option_copied cuts.old.items) (map option_copied cuts.new.items) }
 {
     for p in 0..closing.processes() {
-        put_all_named(fronts, closing.receipts(p), lists[p as usize].as_slice());
+        put_all_named(cuts, closing.receipts(p), lists[p as usize].as_slice());
     }
 }
 
-/// The held fronts by their places. A thread looks at each process's receipts, and most of their places are those of a record's view.
+/// The held cuts by their places. A thread looks at each process's receipts, and most of their places are those of a record's view.
 fn held_by_threads<'c, R: Threads + Sync>(
     rt: &R,
     alloc: Global,
     closing: &'c Closing,
     total: u64,
-) -> Result<Vec<Option<&'c Counts>>, NoMemory>
+) -> Result<Vec<Option<&'c Counts>>, AllocError>
     requires total { total ≡ sum (log_lengths closing.now) }
     requires few { All (λ receipts. length receipts < 2 ^ 32) closing.now.receipts }
-    ensures { IfOk result (λ fronts. AreHeld closing.now (map option_copied fronts.items)) }
+    ensures { IfOk result (λ cuts. AreHeld closing.now (map option_copied cuts.items)) }
 {
     let made = map_indices(
         rt,
         alloc,
         closing.processes() as usize,
-        &|p: usize| -> Result<Vec<FrontAt>, NoMemory>
+        &|p: usize| -> Result<Vec<CutAt>, AllocError>
             requires { (p < 2 ^ 32) × (p < length closing.now.receipts)
                 × (length (receipts_of closing.now p) < 2 ^ 32) }
-            ensures { IfOk result (λ list. NameFronts (receipts_of closing.entry.now p) list.items) }
-        { fronts_named(alloc, closing.receipts(p as u32)) },
+            ensures { IfOk result (λ list. NameCuts (receipts_of closing.entry.now p) list.items) }
+        { cuts_named(alloc, closing.receipts(p as u32)) },
     )?;
     let lists = all_done(alloc, made)?;
-    let mut fronts = Vec::new(alloc);
-    fronts.resize(total as usize, None)?;
-    put_all_views(&mut fronts, closing);
-    put_lists(&mut fronts, closing, lists.as_slice());
-    Ok(fronts)
+    let mut cuts = Vec::new(alloc);
+    cuts.resize(total as usize, None)?;
+    put_all_views(&mut cuts, closing);
+    put_lists(&mut cuts, closing, lists.as_slice());
+    Ok(cuts)
 }
 
 /// The publications in their order.
@@ -78,7 +71,7 @@ fn publications_by_threads<R: Threads + Sync>(
     alloc: Global,
     book: &Book,
     closing: &Closing,
-) -> Result<Vec<Numbered>, NoMemory>
+) -> Result<Vec<Numbered>, AllocError>
     requires coherent { Coherent book.now closing.now }
     requires few { All (λ receipts. length receipts < 2 ^ 32) closing.now.receipts }
     ensures order { IfOk result (λ order. published_in closing.now order.items
@@ -87,8 +80,8 @@ fn publications_by_threads<R: Threads + Sync>(
     ensures small { length (journal_order closing.now) ≤ 2 ^ 36 }
 {
     let total = total_of(closing);
-    let fronts = held_by_threads(rt, alloc, closing, total)?;
-    order_of(alloc, closing, fronts.as_slice())
+    let cuts = held_by_threads(rt, alloc, closing, total)?;
+    order_of(alloc, closing, cuts.as_slice())
 }
 
 /// The calls of a process with their keys.
@@ -98,7 +91,7 @@ fn calls_of_process(
     p: u32,
     own: &[Vec<u64>],
     starts: &[Vec<u64>],
-) -> Result<Vec<Keyed>, NoMemory>
+) -> Result<Vec<Keyed>, AllocError>
     requires { MayBeKeyed closing.now p (map (λ v. v.items) own.now) (map (λ v. v.items) starts.now) }
     ensures { IfOk result (λ all. all.items
         ≡ keyed_of p (keys_of p (journal_order closing.now) (receipts_of closing.now p))) }
@@ -111,8 +104,8 @@ fn calls_of_process(
 /// The lists, if all of them were made.
 fn all_done<T: Drop>(
     alloc: Global,
-    made: Vec<Result<Vec<T>, NoMemory>>,
-) -> Result<Vec<Vec<T>>, NoMemory>
+    made: Vec<Result<Vec<T>, AllocError>>,
+) -> Result<Vec<Vec<T>>, AllocError>
     ensures { IfOk result (λ lists. made.items ≡ map Ok lists.items) }
 {
     let mut lists = Vec::with_capacity(alloc, made.len())?;
@@ -123,7 +116,7 @@ fn all_done<T: Drop>(
 }
 
 /// The calls of all lists, which are so many, one list after another.
-fn joined(alloc: Global, lists: Vec<Vec<Keyed>>, count: usize) -> Result<Vec<Keyed>, NoMemory>
+fn joined(alloc: Global, lists: Vec<Vec<Keyed>>, count: usize) -> Result<Vec<Keyed>, AllocError>
     ensures { IfOk result (λ all. all.items ≡ flat_map (λ v. v.items) lists.items) }
 {
     let mut all = Vec::with_capacity(alloc, count)?;
@@ -141,7 +134,7 @@ fn keyed_by_threads<R: Threads + Sync>(
     closing: &Closing,
     order: &[Numbered],
     starts: &[Vec<u64>],
-) -> Result<Vec<Keyed>, NoMemory>
+) -> Result<Vec<Keyed>, AllocError>
     requires { MayAllBeKeyed book.now closing.now order.now (map (λ v. v.items) starts.now) }
     ensures { IfOk result (λ all. all.items ≡ all_keyed (all_keys closing.now)) }
 {
@@ -151,7 +144,7 @@ fn keyed_by_threads<R: Threads + Sync>(
         rt,
         alloc,
         closing.processes() as usize,
-        &|p: usize| -> Result<Vec<Keyed>, NoMemory>
+        &|p: usize| -> Result<Vec<Keyed>, AllocError>
             requires { MayBeKeyed closing.now p (map (λ v. v.items) own.now) (map (λ v. v.items) starts.now) }
             ensures { IfOk result (λ all. all.items
                 ≡ keyed_of p (keys_of p (journal_order closing.entry.now)
@@ -169,7 +162,7 @@ pub fn journal_calls_by_threads<R: Threads + Sync>(
     alloc: Global,
     book: &Book,
     closing: &Closing,
-) -> Result<Vec<CallAt>, NoMemory>
+) -> Result<Vec<CallAt>, AllocError>
     requires coherent { Coherent book.now closing.now }
     requires few { All (λ receipts. length receipts < 2 ^ 32) closing.now.receipts }
     ensures calls { IfOk result (λ calls. AreCallsOf closing.now calls.items) }

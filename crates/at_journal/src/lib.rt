@@ -9,19 +9,15 @@
 
 mod by_threads;
 mod calls;
-mod fronts;
+mod cuts;
 mod keyed;
 mod lines;
-mod named_fronts;
+mod named_cuts;
 mod order;
 mod positions;
 
 ghost use Rattle.std.specs.Prelude.{◌≡◌, ℕ, ◌^◌, ◌<◌, length, All, IfOk};
-ghost use Rattle.at_ledger.specs.Run.{Legal, Whole, last_state};
-ghost use Rattle.at_ledger.specs.State.{balance_of};
-ghost use Rattle.at_history.specs.Balances.{balance_after};
-ghost use Rattle.at_log.specs.Coherent.{Coherent};
-ghost use Rattle.at_log.specs.JournalOrder.{journal_lines, journal_order};
+ghost use Rattle.at_journal.specs.Prelude.{Legal, Whole, last_state, balance_of, balance_after, Coherent, journal_lines, journal_order};
 ghost use Rattle.at_journal.specs.Calls.{calls_in};
 ghost use Rattle.at_journal.specs.Linearizable.{AreTimed, CallTimes, IsLinearizable};
 
@@ -29,17 +25,16 @@ pub use crate::by_threads::journal_calls_by_threads;
 pub use crate::calls::journal_calls;
 pub use crate::keyed::CallAt;
 use crate::lines::lines;
-pub use at_base::NoMemory;
 use at_ledger::{Book, Line};
 use at_log::Closing;
-use std::alloc::Global;
+use std::alloc::{AllocError, Global};
 
 /// The receipts of a closing as lines, in one order in which the ledger answers each call as it was answered.
 ///
-/// Each line stands where its receipt stands among the publications: a read at its front, a success behind its own record or
+/// Each line stands where its receipt stands among the publications: a read at its cut, a success behind its own record or
 /// the first record of its round, and a reply without a place with the call before it. Lines that stand at one place come
 /// by process, and those of a process in the order of its calls.
-pub fn journal(alloc: Global, book: &Book, closing: &Closing) -> Result<Vec<Line>, NoMemory>
+pub fn journal(alloc: Global, book: &Book, closing: &Closing) -> Result<Vec<Line>, AllocError>
     requires coherent { Coherent book.now closing.now }
     requires few { All (λ receipts. length receipts < 2 ^ 32) closing.now.receipts }
     ensures lines { IfOk result (λ lines. lines.items ≡ journal_lines closing.now) }

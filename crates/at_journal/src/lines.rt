@@ -1,21 +1,17 @@
 //! The calls of a closing with their keys, and as lines.
 
 ghost use Rattle.std.specs.Prelude.{◌≡◌, ℕ, ◌+◌, ◌*◌, ◌++◌, ◌^◌, ◌<◌, ◌≤◌, [], length, map, slice_index, slice_index_or, All, IfOk, OnOk};
-ghost use Rattle.at_log.specs.ClosingTerms.{receipts_of};
-ghost use Rattle.at_log.specs.JournalOrder.{journal_order};
-ghost use Rattle.at_log.specs.Receipts.{is_success, receipt_at};
-ghost use Rattle.at_log.specs.Told.{key_of, keys_of};
+ghost use Rattle.at_journal.specs.Prelude.{receipts_of, journal_order, is_success, receipt_at, key_of, keys_of};
 ghost use Rattle.at_journal.specs.Calls.{AreCallsOf, line_at};
 ghost use Rattle.at_journal.specs.Ordered.{all_keyed, all_keys, keyed_of};
 ghost use Rattle.at_journal.specs.Positions.{HasStarts, MayAllBeKeyed};
 
-use crate::NoMemory;
 use crate::keyed::{CallAt, Keyed};
 use crate::order::Numbered;
 use crate::positions::own_positions;
 use at_ledger::{Book, Line, Reply};
 use at_log::{At, Closing};
-use std::alloc::Global;
+use std::alloc::{AllocError, Global};
 
 /// Whether a call moved its amounts.
 fn is_success(reply: &Reply) -> bool
@@ -53,7 +49,7 @@ fn key_of(
 {
     let receipt = &closing.receipts(p)[i];
     match &receipt.at {
-        At::Front(counts) => 2 * counts.total(),
+        At::Cut(counts) => 2 * counts.total(),
         At::Own(number) => 2 * own[*number as usize] + 1,
         At::Round { round, place } => {
             if is_success(&receipt.reply) {
@@ -73,7 +69,7 @@ pub(crate) fn push_calls(
     p: u32,
     own: &[u64],
     starts: &[Vec<u64>],
-) -> Result<(), NoMemory>
+) -> Result<(), AllocError>
     requires known { p < length closing.now.receipts }
     requires few { length (receipts_of closing.now p) < 2 ^ 32 }
     requires starts { (i : ℕ) → i < length (receipts_of closing.now p)
@@ -111,7 +107,7 @@ pub(crate) fn keyed_calls(
     closing: &Closing,
     order: &[Numbered],
     starts: &[Vec<u64>],
-) -> Result<Vec<Keyed>, NoMemory>
+) -> Result<Vec<Keyed>, AllocError>
     requires { MayAllBeKeyed book.now closing.now order.now (map (λ v. v.items) starts.now) }
     ensures { IfOk result (λ all. all.items ≡ all_keyed (all_keys closing.now)) }
 {
@@ -144,7 +140,7 @@ pub(crate) fn lines(
     alloc: Global,
     closing: &Closing,
     calls: &[CallAt],
-) -> Result<Vec<Line>, NoMemory>
+) -> Result<Vec<Line>, AllocError>
     requires calls { AreCallsOf closing.now calls.now }
     requires few { All (λ receipts. length receipts < 2 ^ 32) closing.now.receipts }
     ensures { IfOk result (λ lines. lines.items ≡ map (line_at closing.now) calls.now) }

@@ -1,16 +1,13 @@
 //! The order of a closing's publications.
 
 ghost use Rattle.std.specs.Prelude.{◌≡◌, ◌++◌, ◌^◌, ◌<◌, ◌≤◌, length, map, slice_index, sum, OnOk, IfOk};
-ghost use Rattle.std.specs.Option.{option_copied};
-ghost use Rattle.at_log.specs.ClosingTerms.{log_lengths, log_of};
-ghost use Rattle.at_log.specs.JournalOrder.{journal_order};
+ghost use Rattle.at_journal.specs.Prelude.{option_copied, log_lengths, log_of, journal_order};
 ghost use Rattle.at_journal.specs.Held.{AreHeld};
 ghost use Rattle.at_journal.specs.Order.{AreNested, AreNumbered, AreRecords, AreWithin, published_in, records_between, records_of_process};
 
-use crate::NoMemory;
 use at_base::Counts;
 use at_log::Closing;
-use std::alloc::Global;
+use std::alloc::{AllocError, Global};
 
 /// A record by its process and its number in the log of that.
 #[derive(Drop)]
@@ -49,7 +46,12 @@ pub(crate) fn total_of(closing: &Closing) -> u64
 }
 
 /// Adds the records of a process from one number up to another.
-fn push_records(order: &mut Vec<Numbered>, process: u32, from: u64, to: u64) -> Result<(), NoMemory>
+fn push_records(
+    order: &mut Vec<Numbered>,
+    process: u32,
+    from: u64,
+    to: u64,
+) -> Result<(), AllocError>
     requires { to ≤ 2 ^ 32 }
     ensures { OnOk result (order.new.items ≡ order.old.items
         ++ records_of_process process from to) }
@@ -63,20 +65,24 @@ fn push_records(order: &mut Vec<Numbered>, process: u32, from: u64, to: u64) -> 
     Ok(())
 }
 
-/// Adds the records that a front counts and that an earlier one doesn't.
-fn push_next(order: &mut Vec<Numbered>, listed: &Counts, front: &Counts) -> Result<(), NoMemory>
-    requires { length listed.now ≡ length front.now }
+/// Adds the records that a cut counts and that an earlier one doesn't.
+fn push_next(order: &mut Vec<Numbered>, listed: &Counts, cut: &Counts) -> Result<(), AllocError>
+    requires { length listed.now ≡ length cut.now }
     ensures { OnOk result (order.new.items ≡ order.old.items
-        ++ records_between (length front.now) (slice_index listed.now) (slice_index front.now)) }
+        ++ records_between (length cut.now) (slice_index listed.now) (slice_index cut.now)) }
 {
-    for p in 0..front.len() {
-        push_records(order, p, u64::from(listed.get(p)), u64::from(front.get(p)))?;
+    for p in 0..cut.len() {
+        push_records(order, p, u64::from(listed.get(p)), u64::from(cut.get(p)))?;
     }
     Ok(())
 }
 
-/// Adds the records that a front doesn't count.
-fn push_last(order: &mut Vec<Numbered>, listed: &Counts, closing: &Closing) -> Result<(), NoMemory>
+/// Adds the records that a cut doesn't count.
+fn push_last(
+    order: &mut Vec<Numbered>,
+    listed: &Counts,
+    closing: &Closing,
+) -> Result<(), AllocError>
     requires listed { length listed.now ≡ length closing.now.logs }
     requires within { AreWithin closing.now }
     requires numbered { AreNumbered closing.now }
@@ -90,27 +96,27 @@ fn push_last(order: &mut Vec<Numbered>, listed: &Counts, closing: &Closing) -> R
     Ok(())
 }
 
-/// The order of the publications: front by front, and then those that no front but the last counts.
+/// The order of the publications: cut by cut, and then those that no cut but the last counts.
 pub(crate) fn order_of(
     alloc: Global,
     closing: &Closing,
-    fronts: &[Option<&Counts>],
-) -> Result<Vec<Numbered>, NoMemory>
+    cuts: &[Option<&Counts>],
+) -> Result<Vec<Numbered>, AllocError>
     requires within { AreWithin closing.now }
     requires nested { AreNested closing.now }
     requires numbered { AreNumbered closing.now }
-    requires held { AreHeld closing.now (map option_copied fronts.now) }
+    requires held { AreHeld closing.now (map option_copied cuts.now) }
     ensures order { IfOk result (λ order. published_in closing.now order.items
         ≡ journal_order closing.now) }
     ensures records { IfOk result (λ order. AreRecords closing.now order.items) }
 {
-    let mut order = Vec::with_capacity(alloc, fronts.len())?;
+    let mut order = Vec::with_capacity(alloc, cuts.len())?;
     let nothing = Counts::zeros(closing.processes());
     let mut listed = &nothing;
-    for place in 0..fronts.len() {
-        if let Some(front) = fronts[place] {
-            push_next(&mut order, listed, front)?;
-            listed = front;
+    for place in 0..cuts.len() {
+        if let Some(cut) = cuts[place] {
+            push_next(&mut order, listed, cut)?;
+            listed = cut;
         }
     }
     push_last(&mut order, listed, closing)?;

@@ -1,20 +1,17 @@
 //! Where the records of a closing stand in the order of its publications.
 
 ghost use Rattle.std.specs.Prelude.{◌≡◌, ◌<◌, [], length, map, replicate, All, OnOk, IfOk};
-ghost use Rattle.at_ledger.specs.Book.{IsBook};
-ghost use Rattle.at_log.specs.Coherent.{Coherent};
-ghost use Rattle.at_log.specs.JournalOrder.{journal_order};
+ghost use Rattle.at_journal.specs.Prelude.{IsBook, Coherent, journal_order};
 ghost use Rattle.at_journal.specs.Order.{AreRecords, published_in};
 ghost use Rattle.at_journal.specs.Positions.{ArePositions, HasRoundPositions, IsOnAccount, with_position};
 
-use crate::NoMemory;
 use crate::order::Numbered;
 use at_ledger::Book;
 use at_log::{Closing, Entry};
-use std::alloc::Global;
+use std::alloc::{AllocError, Global};
 
 /// Notes where a record stands, if it is the first of the next round of its account.
-fn note_position(starts: &mut Vec<Vec<u64>>, entry: &Entry, position: u64) -> Result<(), NoMemory>
+fn note_position(starts: &mut Vec<Vec<u64>>, entry: &Entry, position: u64) -> Result<(), AllocError>
     requires { IsOnAccount (length starts.old.items) entry.now }
     ensures { OnOk result (map (λ v. v.items) starts.new.items
         ≡ with_position position entry.now (map (λ v. v.items) starts.old.items)) }
@@ -32,7 +29,7 @@ fn note_position(starts: &mut Vec<Vec<u64>>, entry: &Entry, position: u64) -> Re
 }
 
 /// So many lists with nothing in them.
-fn empty_lists(alloc: Global, count: u32) -> Result<Vec<Vec<u64>>, NoMemory>
+fn empty_lists(alloc: Global, count: u32) -> Result<Vec<Vec<u64>>, AllocError>
     ensures { IfOk result (λ lists. map (λ v. v.items) lists.items ≡ replicate count []) }
 {
     let mut lists = Vec::new(alloc);
@@ -47,7 +44,7 @@ pub(crate) fn own_positions(
     alloc: Global,
     processes: u32,
     order: &[Numbered],
-) -> Result<Vec<Vec<u64>>, NoMemory>
+) -> Result<Vec<Vec<u64>>, AllocError>
     requires { All (λ x. x.process < processes) order.now }
     ensures { IfOk result (λ lists. ArePositions processes order.now
         (map (λ v. v.items) lists.items)) }
@@ -65,7 +62,7 @@ pub(crate) fn round_positions(
     book: &Book,
     closing: &Closing,
     order: &[Numbered],
-) -> Result<Vec<Vec<u64>>, NoMemory>
+) -> Result<Vec<Vec<u64>>, AllocError>
     requires coherent { Coherent book.now closing.now }
     requires order { published_in closing.now order.now ≡ journal_order closing.now }
     requires records { AreRecords closing.now order.now }

@@ -1,22 +1,8 @@
 -- One more account of a book.
 use Rattle.std.proofs.Common.{◌≡◌, ℕ, ◌+◌, ◌<◌, ◌≤◌, ◌^◌, ◌==◌, if◌then◌else◌, true, false, cond, leb, ltb, length, List, [], ◌∷◌, get_or, take, drop, map, length-append, Some, None, Option, sym, ap, ◌∙◌, arith}
-use Rattle.std.proofs.lemmas.Bool.{leb-false, ltb-false}
-use Rattle.std.proofs.lemmas.Bool.Decides.{nat_tests}
-use Rattle.std.proofs.lemmas.List.{at_drop_more, at_drop_all}
-use Rattle.std.specs.List.{sum_by}
-use Rattle.std.specs.Option.{option_or}
-use Rattle.std.proofs.lemmas.List.Elements.{All-push}
-use Rattle.std.proofs.lemmas.List.Sums.{sum_by_push, sum_by_more_le_part}
+use Rattle.at_ledger.proofs.Prelude.{leb-false, ltb-false, nat_tests, at_drop_more, at_drop_all, sum_by, option_or, All-push, sum_by_push, sum_by_more_le_part, AccountTerms, is_owner_in, rounds_room, rounds_room_of, BookTerms, IsAccount, IsBegun, IsSummed, rounds_of, total_of, account_fault, accounts_fault, book_fault, book_without_accounts, limits_fault, owners_fault, sums_fault, terms_of, with_account, Draft, DraftAccount, BookError, NoAccount, RoundsOverLimit, TotalOverLimit, most_accounts, most_rounds}
 use Rattle.at_ledger.proofs.Faults.{choice-none}
 use Rattle.at_ledger.proofs.Owners.{IsAccount-from_none}
-use Rattle.at_ledger.specs.Account.{AccountTerms, is_owner_in, rounds_room, rounds_room_of}
-use Rattle.at_ledger.specs.Book.{BookTerms, IsAccount, IsBegun, IsSummed, rounds_of, total_of}
-use Rattle.at_ledger.specs.Draft.{account_fault, accounts_fault, book_fault, book_without_accounts, limits_fault, owners_fault, sums_fault, terms_of, with_account}
-use Rattle.at_ledger.specs.declared.draft.Draft.{Draft}
-use Rattle.at_ledger.specs.declared.draft.DraftAccount.{DraftAccount}
-use Rattle.at_ledger.specs.declared.draft.BookError.{BookError}
-use Rattle.at_ledger.specs.declared.draft.BookError.TheVariants.{NoAccount, RoundsOverLimit, TotalOverLimit}
-use Rattle.at_ledger.specs.Limits.{most_accounts, most_rounds}
 
 -- an account without a fault keeps what holds of a book so far
 pub IsSummed-with_account : (b : BookTerms) (t : AccountTerms) (rounds total : ℕ) → IsBegun b

@@ -1,8 +1,6 @@
 -- Calls that name accounts which are there.
 use Rattle.std.proofs.Common.{ℕ, ◌≤◌, arith}
-use Rattle.at_ledger.specs.Call.{IsCallOn}
-use Rattle.at_ledger.specs.declared.call.Call.{Call}
-use Rattle.at_ledger.specs.declared.call.Call.TheVariants.{Transfer, Read, Pay}
+use Rattle.at_ledger.proofs.Prelude.{IsCallOn, Call, Transfer, Read, Pay}
 
 -- a call on so many accounts is one on more
 pub IsCallOn-more : (accounts more : ℕ) (call : Call) → accounts ≤ more → IsCallOn accounts call → IsCallOn more call

@@ -1,22 +1,8 @@
 -- Lists of lines that go on from a state: they are the legal and whole ones.
 use Rattle.std.proofs.Common.{◌≡◌, ℕ, zero, suc, ◌+◌, ◌-◌, ◌<◌, ◌==◌, true, false, ⊎_elim, List, [], ◌∷◌, length, drop, get_or, map, replicate, sum, sum_by, All, Some, refl, sym, ap, ◌∙◌, arith, add-one, eq-eqb}
 use Rattle.std.specs.Prelude.{slice_get}
-use Rattle.std.specs.List.{range_with_len}
-use Rattle.std.proofs.lemmas.Bool.{cases_Bool}
-use Rattle.std.proofs.lemmas.Bool.Decides.{Decides-eqb}
-use Rattle.std.proofs.lemmas.List.{drop_all, get_or-replicate, length-drop, length-replicate, length-set}
-use Rattle.std.proofs.lemmas.List.Elements.{All-cons, All-nil}
-use Rattle.std.proofs.lemmas.List.Folds.{sum_by-replicate}
-use Rattle.std.proofs.lemmas.Option.{get_or_from_slice_get, slice_get-get_or, slice_get_within}
-use Rattle.std.proofs.Math.Seq.{drop-cons}
-use Rattle.at_ledger.specs.Book.{BookTerms}
-use Rattle.at_ledger.specs.State.{LedgerState, opening_state, step}
-use Rattle.at_ledger.specs.Run.{Legal, Run, Whole, asked_in, lines_of, run_from}
-use Rattle.at_ledger.specs.declared.call.Call.{Call}
-use Rattle.at_ledger.specs.declared.call.Call.TheVariants.{Read}
-use Rattle.at_ledger.specs.declared.call.Line.{Line}
+use Rattle.at_ledger.proofs.Prelude.{range_with_len, cases_Bool, Decides-eqb, drop_all, get_or-replicate, length-drop, length-replicate, length-set, All-cons, All-nil, sum_by-replicate, get_or_from_slice_get, slice_get-get_or, slice_get_within, drop-cons, BookTerms, LedgerState, opening_state, step, Legal, Run, Whole, asked_in, lines_of, run_from, Call, Read, Line, AreWithinFiles, IsNextOfProcess, with_made}
 use Rattle.at_ledger.proofs.Run.{run_from-cons, run_from-nil}
-use Rattle.at_ledger.specs.NextCalls.{AreWithinFiles, IsNextOfProcess, with_made}
 use Rattle.at_ledger.proofs.Made.{AreAllMade, AreWithinFiles-next, all_made, get_or-with_made, get_or-with_made_other, some_left, sum-all_made, sum-le, sum-with_made}
 
 -- each line is the next one at its state, and at the end all calls are made
@@ -77,7 +63,7 @@ left-drop calls n call is =
 on_process : {A : Type 0} (q p : ℕ) → ((q == p) ≡ true → A) → ((q == p) ≡ false → A) → A
 on_process {A = A} q p own other = ⊎_elim own other (cases_Bool (q == p))
 
--- the lines of a process, and one of it or of another in front
+-- the lines of a process, and one of it or of another in cut
 lines_of-own : (l : Line) (lines : List Line) (p : ℕ) → (l.process == p) ≡ true → lines_of p (l ∷ lines) ≡ l ∷ lines_of p lines
 lines_of-own l lines p is = rw is refl
 

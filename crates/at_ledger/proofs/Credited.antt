@@ -1,9 +1,6 @@
 -- Amounts added to their targets, one after another.
 use Rattle.std.proofs.Common.{◌≡◌, ℕ, ◌+◌, ◌<◌, ◌≤◌, List, length, get_or, set, drop, sum, arith}
-use Rattle.std.proofs.lemmas.List.{at_drop_more, at_drop_all}
-use Rattle.std.proofs.lemmas.List.Sums.{sum_by-drop_more, sum_by-set}
-use Rattle.at_ledger.specs.Call.{TargetPair, amount_of}
-use Rattle.at_ledger.specs.State.{credited}
+use Rattle.at_ledger.proofs.Prelude.{at_drop_more, at_drop_all, sum_by-drop_more, sum_by-set, TargetPair, amount_of, credited}
 
 -- the next target is credited first
 pub credited-drop_more : (balances : List ℕ) (targets : List TargetPair) (i : ℕ) → i < length targets

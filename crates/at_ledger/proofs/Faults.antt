@@ -1,6 +1,6 @@
 -- The first of several faults.
 use Rattle.std.proofs.Common.{◌≡◌, Bool, true, false, cond, Option, Some, None, refl}
-use Rattle.std.specs.Option.{option_or}
+use Rattle.at_ledger.proofs.Prelude.{option_or}
 
 -- a test that gives a fault failed where there is none
 pub choice-none : {A : Type 0} (b : Bool) (x : A) (rest : Option A) → cond b (Some x) rest ≡ None → (b ≡ false) × (rest ≡ None)

@@ -1,10 +1,6 @@
 -- The files of all processes, one after another.
 use Rattle.std.proofs.Common.{◌≡◌, ℕ, ◌+◌, ◌<◌, ◌≤◌, List, [], ◌∷◌, ◌++◌, length, take, get_or, sum_by, All, Vec, refl, sym, ap, ◌∙◌, arith}
-use Rattle.std.specs.Global.{Global}
-use Rattle.std.proofs.lemmas.List.{get_or-map, length-map, map-append}
-use Rattle.std.proofs.lemmas.List.Sums.{sum_by_more}
-use Rattle.at_ledger.specs.declared.call.Call.{Call}
-use Rattle.at_ledger.specs.Files.{contents_of}
+use Rattle.at_ledger.proofs.Prelude.{Global, get_or-map, length-map, map-append, sum_by_more, Call, contents_of}
 
 pub length-contents_of : {T : Type 0} (files : List (Vec T Global)) → length (contents_of files) ≡ length files
 length-contents_of {T} files = length-map files (λ (f : Vec T Global). f.items)

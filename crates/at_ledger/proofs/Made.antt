@@ -1,16 +1,7 @@
 -- How many calls each process has made.
 use Rattle.std.proofs.Common.{◌≡◌, Some, ℕ, zero, suc, ◌+◌, ◌<◌, ◌≤◌, ◌==◌, Bool, true, false, ◌⊎◌, ⊎_elim, List, [], ◌∷◌, length, get_or, sum, sum_by, All, refl, sym, subst, ◌∙◌, arith}
 use Rattle.std.specs.Prelude.{slice_get}
-use Rattle.std.proofs.lemmas.List.{get_or-set_other, get_or-set_same, length-set}
-use Rattle.std.proofs.lemmas.List.Sums.{sum_by-cons, sum_by-set}
-use Rattle.std.proofs.lemmas.Bool.Decides.{Decides-eqb}
-use Rattle.std.proofs.lemmas.Option.{get_or_from_slice_get, slice_get_within}
-use Rattle.at_ledger.specs.Files.{IsPlayable}
-use Rattle.at_ledger.specs.Call.{IsCallOn}
-use Rattle.at_ledger.specs.declared.call.Call.{Call}
-use Rattle.at_ledger.specs.declared.call.Line.{Line}
-use Rattle.at_ledger.specs.State.{LedgerState}
-use Rattle.at_ledger.specs.NextCalls.{AreWithinFiles, IsNextOfProcess, with_made}
+use Rattle.at_ledger.proofs.Prelude.{get_or-set_other, get_or-set_same, length-set, sum_by-cons, sum_by-set, Decides-eqb, get_or_from_slice_get, slice_get_within, IsPlayable, IsCallOn, Call, Line, LedgerState, AreWithinFiles, IsNextOfProcess, with_made}
 
 -- the first file, and the others
 AreWithinFiles-tail : (file : List Call) (files : List (List Call)) (n : ℕ) (made : List ℕ) → AreWithinFiles (file ∷ files) (n ∷ made) → AreWithinFiles files made

@@ -1,17 +1,7 @@
 -- The walk over the owners of an account.
 use Rattle.std.proofs.Common.{◌≡◌, ℕ, ◌+◌, ◌<◌, ◌≤◌, leb, ltb, List, [], ◌∷◌, length, get_or, drop, Some, None, ap, ◌∙◌, arith}
-use Rattle.std.proofs.lemmas.List.{at_drop_more, at_drop_all}
-use Rattle.std.specs.Option.{option_or}
-use Rattle.std.specs.List.{All}
-use Rattle.std.proofs.lemmas.List.Elements.{All-nil, All-cons}
-use Rattle.std.proofs.lemmas.Bool.{leb-false, ltb-false}
+use Rattle.at_ledger.proofs.Prelude.{at_drop_more, at_drop_all, option_or, All, All-nil, All-cons, leb-false, ltb-false, IsRisingFrom, IsAccount, owner_fault, owners_fault, terms_with, BookError, OwnerOutOfRange, OwnersNotRising, TooManyOwners, most_owners}
 use Rattle.at_ledger.proofs.Faults.{choice-none, option_or-none}
-use Rattle.at_ledger.specs.Account.{IsRisingFrom}
-use Rattle.at_ledger.specs.Book.{IsAccount}
-use Rattle.at_ledger.specs.Draft.{owner_fault, owners_fault, terms_with}
-use Rattle.at_ledger.specs.declared.draft.BookError.{BookError}
-use Rattle.at_ledger.specs.declared.draft.BookError.TheVariants.{OwnerOutOfRange, OwnersNotRising, TooManyOwners}
-use Rattle.at_ledger.specs.Limits.{most_owners}
 
 -- an owner without a fault: the walk goes on after it
 pub owners_fault-drop_good : (processes account count least : ℕ) (owners : List ℕ) (i : ℕ) → i < length owners

@@ -1,12 +1,6 @@
 -- Runs of the ledger, one after another.
 use Rattle.std.proofs.Common.{◌≡◌, ℕ, ◌+◌, ◌<◌, List, [], ◌∷◌, ◌++◌, Bool, true, false, cond, length, get_or, take, refl, ap, ◌∙◌, rules}
-use Rattle.std.proofs.lemmas.List.{take_more}
-use Rattle.at_ledger.specs.Call.{TargetPair}
-use Rattle.at_ledger.specs.Book.{BookTerms}
-use Rattle.at_ledger.specs.State.{LedgerState, Step, step, pay}
-use Rattle.at_ledger.specs.Run.{Run, run_after, run_from}
-use Rattle.at_ledger.specs.declared.call.Call.{Call}
-use Rattle.at_ledger.specs.declared.call.Call.TheVariants.{Transfer, Read, Pay}
+use Rattle.at_ledger.proofs.Prelude.{take_more, TargetPair, BookTerms, LedgerState, Step, step, pay, Run, run_after, run_from, Call, Transfer, Read, Pay}
 
 -- no call
 pub run_from-nil : (s : LedgerState) → run_from s [] ≡ record { replies = []; last = s }

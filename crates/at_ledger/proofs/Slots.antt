@@ -1,11 +1,6 @@
 -- Slots of owners that rise.
 use Rattle.std.proofs.Common.{◌≡◌, ℕ, ◌+◌, ◌<◌, ◌≤◌, zero, suc, eqb, List, [], ◌∷◌, length, get_or, Some, arith}
-use Rattle.std.proofs.lemmas.Bool.{lt-ltb}
-use Rattle.std.proofs.lemmas.Bool.Decides.{nat_tests}
-use Rattle.std.proofs.lemmas.List.Elements.{All-get_or}
-use Rattle.std.proofs.lemmas.List.Sums.{position_or_len_is}
-use Rattle.at_ledger.specs.Account.{AccountTerms, IsRisingFrom, slot_in}
-use Rattle.at_ledger.specs.Book.{BookTerms, IsAccount, IsBegun, account_of}
+use Rattle.at_ledger.proofs.Prelude.{lt-ltb, nat_tests, All-get_or, position_or_len_is, AccountTerms, IsRisingFrom, slot_in, BookTerms, IsAccount, IsBegun, account_of}
 
 -- each owner is at least `least`
 IsRisingFrom-least : (least : ℕ) (owners : List ℕ) (i : ℕ) → IsRisingFrom least owners → i < length owners → least ≤ get_or owners i 0

@@ -1,19 +1,15 @@
 -- Two lists beside one another, of which the first few are used: the accounts and the amounts of targets.
 use Rattle.std.proofs.Common.{◌≡◌, ℕ, zero, suc, ◌+◌, ◌<◌, ◌≤◌, List, [], ◌∷◌, ◌++◌, length, take, set, get_or, refl, ap, ◌∙◌, arith, length-take}
-use Rattle.std.specs.List.{zip}
-use Rattle.std.proofs.lemmas.List.{get_or-take, take_more_set}
-use Rattle.std.proofs.lemmas.List.Sums.{sum_by_more}
-use Rattle.std.proofs.lemmas.Slice.Zip.{get_or-zip, length-zip}
-use Rattle.at_ledger.specs.Call.{amount_of, target_at}
+use Rattle.at_ledger.proofs.Prelude.{zip, get_or-take, take_more_set, sum_by_more, get_or-zip, length-zip, amount_of, target_at}
 
-pub length-zip_front : {A B : Type 0} → (n : ℕ) (xs : List A) (ys : List B) → n ≤ length xs → n ≤ length ys → length (take n (zip xs ys)) ≡ n
-length-zip_front n xs ys wide long =
+pub length-zip_cut : {A B : Type 0} → (n : ℕ) (xs : List A) (ys : List B) → n ≤ length xs → n ≤ length ys → length (take n (zip xs ys)) ≡ n
+length-zip_cut n xs ys wide long =
     let both = length-zip xs ys in
-    let cut = length-take n (zip xs ys) in
+    let split = length-take n (zip xs ys) in
     omega arith
 
-pub target_at-zip_front : (n : ℕ) (xs ys : List ℕ) (i : ℕ) → i < n → n ≤ length xs → n ≤ length ys → target_at (take n (zip xs ys)) i ≡ (get_or xs i 0, get_or ys i 0)
-target_at-zip_front n xs ys i below wide long =
+pub target_at-zip_cut : (n : ℕ) (xs ys : List ℕ) (i : ℕ) → i < n → n ≤ length xs → n ≤ length ys → target_at (take n (zip xs ys)) i ≡ (get_or xs i 0, get_or ys i 0)
+target_at-zip_cut n xs ys i below wide long =
     get_or-take n (zip xs ys) i (0, 0) below ∙ get_or-zip xs ys i (0, 0) (omega arith) (omega arith)
 
 zip-set : {A B : Type 0} → (xs : List A) (ys : List B) (i : ℕ) (x : A) (y : B) → zip (set xs i x) (set ys i y) ≡ set (zip xs ys) i (x, y)
@@ -23,8 +19,8 @@ zip-set (a ∷ xs) [] (suc i) x y = refl
 zip-set (a ∷ xs) (b ∷ ys) zero x y = refl
 zip-set (a ∷ xs) (b ∷ ys) (suc i) x y = ap (λ l. (a, b) ∷ l) (zip-set xs ys i x y)
 
-pub zip_front-push : {A B : Type 0} → (n : ℕ) (xs : List A) (ys : List B) (x : A) (y : B) → n < length xs → n < length ys → take (n + 1) (zip (set xs n x) (set ys n y)) ≡ take n (zip xs ys) ++ (x, y) ∷ []
-zip_front-push n xs ys x y wide long =
+pub zip_cut-push : {A B : Type 0} → (n : ℕ) (xs : List A) (ys : List B) (x : A) (y : B) → n < length xs → n < length ys → take (n + 1) (zip (set xs n x) (set ys n y)) ≡ take n (zip xs ys) ++ (x, y) ∷ []
+zip_cut-push n xs ys x y wide long =
     let both = length-zip xs ys in
     ap (take (n + 1)) (zip-set xs ys n x y) ∙ take_more_set (zip xs ys) n (x, y) (omega arith)
 

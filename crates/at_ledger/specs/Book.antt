@@ -1,6 +1,6 @@
 -- A checked book: its processes, its accounts in order, and the room that each process has.
 use Rattle.std.specs.Prelude.{◌≡◌, ℕ, ◌+◌, ◌^◌, ◌<◌, ◌≤◌, Bool, List, length, All, sum_by, slice_index_or, Some, if◌then◌else◌}
-use Rattle.std.specs.List.{list_any}
+use Rattle.at_ledger.specs.Prelude.{list_any}
 use Rattle.at_ledger.specs.Account.{AccountTerms, no_account, is_owner_in, is_single, rounds_room, rounds_room_of, slot_in, slots_of, IsRisingFrom}
 use Rattle.at_ledger.specs.Limits.{most_accounts, most_own_room, most_owners, most_processes, most_request_room, most_rounds}
 

@@ -1,6 +1,6 @@
 -- The walk over a draft that finds its first fault, and the book that a draft without one gives.
 use Rattle.std.specs.Prelude.{ℕ, ◌+◌, ◌^◌, ◌++◌, Bool, ◌&&◌, ◌==◌, List, [], ◌∷◌, length, map, nat_lt, nat_le, Option, Some, None, if◌then◌else◌}
-use Rattle.std.specs.Option.{option_or}
+use Rattle.at_ledger.specs.Prelude.{option_or}
 use Rattle.at_ledger.specs.Account.{AccountTerms, rounds_room}
 use Rattle.at_ledger.specs.Book.{BookTerms, rounds_of, total_of}
 use Rattle.at_ledger.specs.declared.draft.Draft.{Draft}

@@ -1,6 +1,6 @@
 -- Runs of the sequential ledger, and the lists of lines that are one.
 use Rattle.std.specs.Prelude.{◌≡◌, ℕ, ◌<◌, ◌==◌, List, [], ◌∷◌, length, map, filter, slice_index_or, All}
-use Rattle.std.specs.List.{range_with_len}
+use Rattle.at_ledger.specs.Prelude.{range_with_len}
 use Rattle.at_ledger.specs.Book.{BookTerms}
 use Rattle.at_ledger.specs.State.{LedgerState, step, opening_state}
 use Rattle.at_ledger.specs.declared.call.Call.{Call}

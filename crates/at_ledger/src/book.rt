@@ -3,11 +3,10 @@
 ghost use Rattle.std.specs.Prelude.{◌≡◌, ◌<◌, ◌≤◌, length, map, slice_index, None, Some, IfOk, OnOk, IfSome};
 ghost use Rattle.at_ledger.specs.Limits.{most_owners};
 
-use crate::NoMemory;
 use crate::account::Account;
 use crate::builder::BookBuilder;
 use crate::draft::{BookError, BookFault, Draft, OWNERS_MAX};
-use std::alloc::Global;
+use std::alloc::{AllocError, Global};
 use std::marker::Model;
 
 /// The processes, the accounts with their owners and openings, and the room that each process has.
@@ -168,7 +167,7 @@ impl Book {
     }
 
     /// What each account opens with, in order.
-    pub(crate) fn openings(&self, alloc: Global) -> Result<Vec<u64>, NoMemory>
+    pub(crate) fn openings(&self, alloc: Global) -> Result<Vec<u64>, AllocError>
         ensures { IfOk result (λ v. v.items ≡ map (λ t. t.opening) self.now.accounts) }
     {
         let accounts = self.accounts.as_slice();
@@ -211,7 +210,7 @@ impl Book {
 
     /// The same book with the own room that can be used, in memory of its own. Where no account has one owner no process uses any, and a
     /// book has at least 1.
-    pub fn with_usable_room(&self, alloc: Global) -> Result<Book, NoMemory>
+    pub fn with_usable_room(&self, alloc: Global) -> Result<Book, AllocError>
         ensures { IfOk result (λ b. b ≡ with_usable_room self.now) }
     {
         let mut book = self.copy(alloc)?;
@@ -222,7 +221,7 @@ impl Book {
     }
 
     /// The same book, in memory of its own.
-    pub fn copy(&self, alloc: Global) -> Result<Book, NoMemory>
+    pub fn copy(&self, alloc: Global) -> Result<Book, AllocError>
         ensures { IfOk result (λ b. b ≡ self.now) }
     {
         let mut accounts = Vec::new(alloc);

@@ -13,9 +13,6 @@ mod draft;
 mod state;
 mod targets;
 
-/// What a call answers that found no memory.
-pub type NoMemory = std::alloc::AllocError;
-
 pub use crate::book::Book;
 pub use crate::builder::BookBuilder;
 pub use crate::call::{Call, Line, Reply};

@@ -4,11 +4,10 @@ ghost use Rattle.std.specs.Prelude.{◌≡◌, ◌+◌, ◌^◌, ◌<◌, ◌≤
 ghost use Rattle.at_ledger.specs.Call.{AreTargetsOn, amount_of};
 ghost use Rattle.at_ledger.specs.State.{credited};
 
-use crate::NoMemory;
 use crate::book::Book;
 use crate::call::{Call, Reply};
 use crate::targets::Targets;
-use std::alloc::Global;
+use std::alloc::{AllocError, Global};
 use std::marker::Model;
 
 /// The balances, and the room that each process has used.
@@ -46,7 +45,7 @@ impl State {
     ghost use Rattle.at_ledger.specs.State.{IsLedger, after_short, asked_of, asked_position, balance_of, counted, is_full, moved, opening_state, pay, sent_of, step, with_asked, with_sent};
 
     /// The openings, with no room used. The state keeps a copy of the book.
-    pub fn new(alloc: Global, book: &Book) -> Result<State, NoMemory>
+    pub fn new(alloc: Global, book: &Book) -> Result<State, AllocError>
         ensures { IfOk result (λ s. s ≡ opening_state book.now) }
     {
         let processes = book.processes() as usize;

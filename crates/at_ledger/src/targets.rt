@@ -21,7 +21,7 @@ pub struct Targets {
 
 impl Model for Targets {
     ghost use Rattle.std.specs.Prelude.{◌≤◌, List, ℕ, take};
-    ghost use Rattle.std.specs.List.{zip};
+    ghost use Rattle.at_ledger.specs.Prelude.{zip};
     ghost use Rattle.at_ledger.specs.Limits.{most_targets};
 
     ghost Value = { List (ℕ × ℕ) };

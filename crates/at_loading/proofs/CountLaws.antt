@@ -1,22 +1,7 @@
 -- Files whose calls are counted, and not kept.
 use Rattle.std.proofs.Common.{◌≡◌, ◌∙◌, ℕ, ◌+◌, ◌<◌, ◌≤◌, zero, suc, Bool, true, false, List, [], ◌∷◌, length, map, sum, sum_by, Vec, get_or, take, ◌==◌, ◌⊎◌, inl, inr, Result, Ok, Err, All, refl, sym, ap, arith, if◌then◌else◌}
-use Rattle.std.specs.Global.{Global}
-use Rattle.std.proofs.lemmas.List.{length-map}
-use Rattle.std.proofs.lemmas.List.Sums.{sum_by-cons, sum_by_more}
-use Rattle.at_files.specs.BookRecords.{NamedBook}
-use Rattle.at_files.specs.Results.{and_then}
-use Rattle.at_ledger.specs.declared.call.Call.{Call}
-use Rattle.at_ledger.specs.Files.{contents_of}
-use Rattle.at_ledger.proofs.FileLists.{get_or-contents_of, length-contents_of}
-use Rattle.at_ledger.specs.Limits.{most_calls}
-use Rattle.at_report.specs.Lines.{Word}
-use Rattle.at_report.specs.declared.status.Status.{Status}
-use Rattle.at_report.specs.declared.status.Status.TheVariants.{Done, Usage, BadBook, BadPayments, ReadFault, WriteFault, NoMemory, TooLong, BadSchedule, BadOrder, BadMessages, NotLegal, TooManyOrders}
+use Rattle.at_loading.proofs.Prelude.{Global, length-map, sum_by-cons, sum_by_more, NamedBook, and_then, Call, contents_of, get_or-contents_of, length-contents_of, most_calls, Word, Status, Done, Usage, BadBook, BadPayments, ReadFault, WriteFault, NoMemory, TooLong, BadSchedule, BadOrder, BadMessages, NotLegal, TooManyOrders, CountsBytes, CountsRead, IsCount, call_count, counted_given, IsBrought, IsUnread, MayRefuse, EachSpells, Files, IsReached, IsSpelled, Loaded, LoadedOf, MayReach, MayReachOf, PaysBytes, SpellsFile, SpelledOf, all_loaded, book_loaded, calls_given, fetched, file_first, file_loaded, files_beside, files_loaded, loaded, named_book, with_book, Form}
 use Rattle.at_report.specs.declared.status.UsageFault.TheVariants as usage
-use Rattle.at_loading.specs.Counting.{CountsBytes, CountsRead, IsCount, call_count, counted_given}
-use Rattle.at_loading.specs.Faults.{IsBrought, IsUnread, MayRefuse}
-use Rattle.at_loading.specs.Loading.{EachSpells, Files, IsReached, IsSpelled, Loaded, LoadedOf, MayReach, MayReachOf, PaysBytes, SpellsFile, SpelledOf, all_loaded, book_loaded, calls_given, fetched, file_first, file_loaded, files_beside, files_loaded, loaded, named_book, with_book}
-use Rattle.at_loading.specs.Words.{Form}
 use Rattle.at_loading.proofs.Laws.SpelledLoaded.{loaded-Spelled}
 
 -- what a result that was changed comes of

@@ -1,3 +1,4 @@
+pub mod Prelude
 pub mod Laws
 mod ValueLaws
 mod CountLaws

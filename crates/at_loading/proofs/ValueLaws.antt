@@ -1,9 +1,6 @@
 -- The values that words are, one more word at a time.
 use Rattle.std.proofs.Common.{◌≡◌, ℕ, ◌+◌, ◌<◌, List, [], ◌∷◌, ◌++◌, length, get_or, take, Option, Some, None, refl}
-use Rattle.std.proofs.lemmas.List.{take_more}
-use Rattle.at_base.specs.Numbers.{number_of}
-use Rattle.at_report.specs.Lines.{Word}
-use Rattle.at_loading.specs.Words.{before_values, small, values_named}
+use Rattle.at_loading.proofs.Prelude.{take_more, number_of, Word, before_values, small, values_named}
 
 -- one more value after others
 before_values-push : (x : Option ℕ) (xs more : Option (List ℕ)) (values : List ℕ) (value : ℕ) → before_values x xs ≡ Some values

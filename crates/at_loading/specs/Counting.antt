@@ -1,10 +1,6 @@
 -- What is read where the calls are counted, and not kept.
 use Rattle.std.specs.Prelude.{◌≡◌, ℕ, ◌≤◌, Bool, true, List, [], ◌∷◌, Ok, length, sum_by}
-use Rattle.at_files.specs.BookRecords.{NamedBook}
-use Rattle.at_files.specs.Results.{and_then}
-use Rattle.at_ledger.specs.Book.{BookTerms}
-use Rattle.at_ledger.specs.declared.call.Call.{Call}
-use Rattle.at_ledger.specs.Limits.{most_calls}
+use Rattle.at_loading.specs.Prelude.{NamedBook, and_then, BookTerms, Call, most_calls}
 use Rattle.at_loading.specs.Words.{Form}
 use Rattle.at_loading.specs.Loading.{Files, Giving, Loaded, PaysBytes, Spelled, Spelling, calls_given, loaded}
 

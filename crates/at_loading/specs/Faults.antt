@@ -1,8 +1,6 @@
 -- When each refusal may come.
 use Rattle.std.specs.Prelude.{◌≡◌, ℕ, ◌+◌, ◌<◌, ◌≤◌, ◌-◌, ◌^◌, ◌≢◌, ◌⊎◌, ⊤, Bool, true, Result, Ok, Err}
-use Rattle.at_io.specs.Faults.{Rose}
-use Rattle.at_report.specs.declared.status.Status.{Status}
-use Rattle.at_report.specs.declared.status.Status.TheVariants.{Done, Usage, BadBook, BadPayments, ReadFault, WriteFault, NoMemory, TooLong, BadSchedule, BadOrder, BadMessages}
+use Rattle.at_loading.specs.Prelude.{Rose, Status, Done, Usage, BadBook, BadPayments, ReadFault, WriteFault, NoMemory, TooLong, BadSchedule, BadOrder, BadMessages}
 use Rattle.at_report.specs.declared.status.UsageFault.TheVariants as usage
 
 -- a refusal that only the bytes of the files can bring: no fault was counted, and it is the one that a telling shelf's files bring

@@ -1,26 +1,10 @@
 -- What the files that the words name give, or why they are refused.
 use Rattle.std.specs.Prelude.{◌≡◌, ℕ, ◌+◌, Bool, true, ◌<◌, ◌≤◌, ◌==◌, ⊤, List, [], ◌∷◌, zero, suc, length, take, nat_lt, slice_index_or, Option, Some, None, Result, Ok, Err, if◌then◌else◌}
-use Rattle.at_broadcast.specs.declared.message.Message.{Message}
-use Rattle.at_ledger.specs.Book.{BookTerms}
-use Rattle.at_ledger.specs.declared.call.Call.{Call}
-use Rattle.at_ledger.specs.Files.{contents_of}
-use Rattle.at_files.specs.Records.{file_records}
-use Rattle.at_files.specs.Results.{and_then}
-use Rattle.at_files.specs.Names.{AreNamesOf, NameList}
-use Rattle.at_files.specs.BookRecords.{NamedBook}
-use Rattle.at_files.specs.BookFile.{book_of_records, Spells}
-use Rattle.at_files.specs.Messages.{Sends, messages_spelled}
-use Rattle.at_files.specs.Payments.{payments_of, Pays}
-use Rattle.at_files.specs.ReplayPayments.{replay_payments_of, PaysReplay}
+use Rattle.at_loading.specs.Prelude.{Message, BookTerms, Call, contents_of, file_records, and_then, AreNamesOf, NameList, NamedBook, book_of_records, Spells, Sends, messages_spelled, payments_of, Pays, replay_payments_of, PaysReplay, MessagesWhy, BadRecord, most_file_bytes, Status, Word}
 use Rattle.at_files.specs.declared.book_fault.BadBook.{BadBook}
-use Rattle.at_files.specs.declared.messages.MessagesWhy.{MessagesWhy}
 use Rattle.at_files.specs.declared.payments_fault.BadPayments.{BadPayments}
-use Rattle.at_files.specs.declared.spelled.BadRecord.{BadRecord}
-use Rattle.at_io.specs.Limits.{most_file_bytes}
-use Rattle.at_report.specs.declared.status.Status.{Status}
 use Rattle.at_report.specs.declared.status.Status.TheVariants as status
 use Rattle.at_report.specs.declared.status.UsageFault.TheVariants as usage
-use Rattle.at_report.specs.Lines.{Word}
 use Rattle.at_loading.specs.Words.{Form}
 use Rattle.at_loading.specs.declared.loading.Loaded as program
 

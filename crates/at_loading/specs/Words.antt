@@ -1,9 +1,6 @@
 -- What the words of each command ask for.
 use Rattle.std.specs.Prelude.{ℕ, ⊤, ◌&&◌, List, [], ◌∷◌, map, length, codes, bytes_eq, nat_le, Option, Some, None, option_map, if◌then◌else◌, String, string_bytes}
-use Rattle.std.specs.Global.{Global}
-use Rattle.at_base.specs.Numbers.{number_of}
-use Rattle.at_ledger.specs.Draft.{is_within}
-use Rattle.at_report.specs.Lines.{Word}
+use Rattle.at_loading.specs.Prelude.{Global, number_of, is_within, Word}
 use Rattle.at_loading.specs.Limits.{MayMake, MayAgreeOn, largest_value, least_values, most_made_calls, most_made_processes, most_values}
 use Rattle.at_loading.specs.declared.asked.Asked as program
 use Rattle.at_loading.specs.declared.asked.Asked.TheVariants as given

@@ -1,8 +1,7 @@
 //! How many calls the files of a form have. The calls themselves aren't kept.
 
 ghost use Rattle.std.specs.Prelude.{◌≡◌, ℕ, ◌≤◌, All, IfOk, IfErr, OnOk, Err, length, sum, sum_by};
-ghost use Rattle.at_io.specs.Shelf.{SameFiles};
-ghost use Rattle.at_ledger.specs.Files.{contents_of};
+ghost use Rattle.at_loading.specs.Prelude.{SameFiles, contents_of};
 ghost use Rattle.at_loading.specs.Counting.{CountsBytes, CountsRead, IsCount, counted_given};
 ghost use Rattle.at_loading.specs.Faults.{HasFileNumbers, Kind, MayRefuse};
 ghost use Rattle.at_loading.specs.Loading.{MayReach, loaded};

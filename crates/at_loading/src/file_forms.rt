@@ -1,8 +1,7 @@
 //! The forms of the processes' files.
 
 ghost use Rattle.std.specs.Prelude.{◌≡◌, IfOk, IfErr, Ok};
-ghost use Rattle.at_files.specs.BookRecords.{NamedBook};
-ghost use Rattle.at_files.specs.Names.{AreNamesOf};
+ghost use Rattle.at_loading.specs.Prelude.{NamedBook, AreNamesOf};
 ghost use Rattle.at_loading.specs.Faults.{Kind, RefusesFile};
 ghost use Rattle.at_loading.specs.Loading.{Giving, PaysBytes, PaysReplayBytes, SendsBytes, Spelling, calls_given, messages_given, named_book, replay_calls_given};
 

@@ -1,11 +1,7 @@
 //! Reading the files that the words name.
 
 ghost use Rattle.std.specs.Prelude.{◌≡◌, ℕ, ◌+◌, ◌^◌, ◌<◌, ◌≤◌, true, length, All, IfOk, IfErr, OnOk, Ok, Err};
-ghost use Rattle.at_io.specs.Shelf.{SameFiles};
-ghost use Rattle.at_ledger.specs.Files.{IsPlayable, contents_of};
-ghost use Rattle.at_files.specs.BookRecords.{NamedBook};
-ghost use Rattle.at_files.specs.Names.{AreNamesOf};
-ghost use Rattle.at_io.specs.Limits.{most_file_bytes};
+ghost use Rattle.at_loading.specs.Prelude.{SameFiles, IsPlayable, contents_of, NamedBook, AreNamesOf, most_file_bytes};
 ghost use Rattle.at_loading.specs.Words.{words_of, form_shown};
 ghost use Rattle.at_loading.specs.Faults.{HasFileNumbers, IsUnfetched, Kind, MayRefuse, MayRefuseOf};
 ghost use Rattle.at_loading.specs.Loading.{EachSpells, HoldsFile, IsBookRead, IsFileReached, IsSpelled, MayReach, MayReachOf, Spelled, SpelledOf, SpellsBook, SpellsFile, all_loaded, loaded_beside, loaded_shown, book_loaded, fetched, file_loaded, files_loaded, loaded, named_book};

@@ -1,7 +1,7 @@
 //! The words of the commands that read no file: `make` and `agree`.
 
 ghost use Rattle.std.specs.Prelude.{◌≡◌, ◌^◌, ◌<◌, ◌≤◌, length, option_map, All, IfSome};
-ghost use Rattle.at_base.specs.Numbers.{number_of};
+ghost use Rattle.at_loading.specs.Prelude.{number_of};
 ghost use Rattle.at_loading.specs.Limits.{MayMake, most_made_calls, most_made_processes, most_values};
 ghost use Rattle.at_loading.specs.Words.{making_of, small, values_named, within, words_of};
 

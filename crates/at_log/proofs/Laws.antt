@@ -4,7 +4,7 @@ pub mod Positions
 pub mod Replies
 pub mod Keys
 pub mod KeyBounds
--- the journal's order of publications: their keys (PublicationKeys), each log and each held front in it (Order), each record's view
+-- the journal's order of publications: their keys (PublicationKeys), each log and each held cut in it (Order), each record's view
 -- (Views)
 pub mod PublicationKeys
 pub mod Order

@@ -1,6 +1,5 @@
 -- A call and a receipt may be moved to another thread.
-use denote.Param.Send.{IsSend, sendable}
-use Rattle.std.proofs.Crossing.{crosses}
+use Rattle.at_log.proofs.Prelude.{IsSend, sendable, crosses}
 use Rattle.at_ledger.specs.contracts.call.Call as call
 use Rattle.at_log.specs.contracts.receipt.Receipt as receipt
 

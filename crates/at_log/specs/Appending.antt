@@ -1,12 +1,6 @@
 -- What an append asks of a seat and a record, and what it has stored before it publishes.
 use Rattle.std.specs.Prelude.{◌≡◌, ℕ, ◌<◌, List, length, slice_index}
-use Rattle.at_ledger.specs.Book.{BookTerms}
-use Rattle.at_board.specs.declared.knowledge.Knowledge.{Knowledge}
-use Rattle.at_board.specs.declared.knowledge.Part.{Part}
-use Rattle.at_board.specs.Knowledge.Parts.{own_part, with_part}
-use Rattle.at_board.specs.Steps.Publish.{MayEnter}
-use Rattle.at_history.specs.Fronts.{prefix_of}
-use Rattle.at_history.specs.Sound.{HasView}
+use Rattle.at_log.specs.Prelude.{BookTerms, Knowledge, Part, own_part, with_part, MayEnter, prefix_of, HasView}
 use Rattle.at_log.specs.declared.record.Record.{Record}
 use Rattle.at_log.specs.ClosingTerms.{published_by}
 

@@ -1,6 +1,6 @@
 -- A closing as plain data.
 use Rattle.std.specs.Prelude.{ℕ, List, [], length, map, slice_index_or}
-use Rattle.at_history.specs.declared.publication.Publication.{Publication}
+use Rattle.at_log.specs.Prelude.{Publication}
 use Rattle.at_log.specs.declared.record.Record.{Record}
 use Rattle.at_log.specs.declared.receipt.Receipt.{Receipt}
 

@@ -1,27 +1,16 @@
 -- Closings that a ledger can have left: their journal is a legal run.
 use Rattle.std.specs.Prelude.{◌≡◌, ℕ, ◌<◌, ◌≤◌, ◌⊎◌, ◌↔◌, Bool, true, false, ◌&&◌, ◌==◌, List, length, nat_lt, slice_index, count_by, All, Contains}
-use Rattle.at_base.specs.Counts.{Covers}
-use Rattle.at_base.specs.declared.decision.Decision.{Decision}
-use Rattle.at_ledger.specs.Book.{BookTerms, account_of}
-use Rattle.at_ledger.specs.Call.{TargetPair, amount_of}
-use Rattle.at_history.specs.declared.publication.Entry.{Entry}
-use Rattle.at_history.specs.declared.publication.Publication.{Publication}
-use Rattle.at_history.specs.Balances.{IsCovered}
-use Rattle.at_history.specs.BoardState.{publication_at}
-use Rattle.at_history.specs.Fronts.{place, prefix_of}
-use Rattle.at_ledger.specs.Account.{slots_of}
-use Rattle.at_history.specs.Rounds.{firsts, owns_of}
-use Rattle.at_history.specs.Sound.{AreTargets, IsSoundOwn, IsSoundRound}
+use Rattle.at_log.specs.Prelude.{Covers, Decision, BookTerms, account_of, TargetPair, amount_of, Entry, Publication, IsCovered, publication_at, place, prefix_of, slots_of, firsts, owns_of, AreTargets, IsSoundOwn, IsSoundRound}
 use Rattle.at_log.specs.ClosingTerms.{ClosingTerms, log_lengths, log_of, log_published, receipts_of}
-use Rattle.at_log.specs.HeldFronts.{held_fronts}
+use Rattle.at_log.specs.HeldCuts.{held_cuts}
 use Rattle.at_log.specs.JournalOrder.{journal_order}
 use Rattle.at_log.specs.Told.{Told}
 
--- of two held fronts one covers the other, and the lengths of the logs cover all
+-- of two held cuts one covers the other, and the lengths of the logs cover all
 pub record AreChained (b : BookTerms) (c : ClosingTerms) : Type 0 where
-  pub sized : All (λ view. length view ≡ b.processes) (held_fronts c)
-  pub chain : (view other : List ℕ) → Contains (held_fronts c) view → Contains (held_fronts c) other → Covers view other ⊎ Covers other view
-  pub ends : (view : List ℕ) → Contains (held_fronts c) view → Covers (log_lengths c) view
+  pub sized : All (λ view. length view ≡ b.processes) (held_cuts c)
+  pub chain : (view other : List ℕ) → Contains (held_cuts c) view → Contains (held_cuts c) other → Covers view other ⊎ Covers other view
+  pub ends : (view : List ℕ) → Contains (held_cuts c) view → Covers (log_lengths c) view
 
 -- records of one round of one account agree
 abbrev pub IsAgreed : ClosingTerms → ℕ → ℕ → Decision → List TargetPair → Type 0
@@ -56,11 +45,11 @@ IsCoherentEntry b c process prefix (Entry.Round account round decision targets) 
     IsSoundRound b process prefix account round × AreTargets b targets × IsAgreed c account round decision targets
     × IsProposed b c account round decision targets × IsNumbered b c account round decision
 
--- the laws of a closing: of its fronts, of each record's view and entry, of own records' number, and of each process's receipts
+-- the laws of a closing: of its cuts, of each record's view and entry, of own records' number, and of each process's receipts
 pub record Coherent (b : BookTerms) (c : ClosingTerms) : Type 0 where
   pub logs : length c.logs ≡ b.processes
   pub receipts : length c.receipts ≡ b.processes
-  pub fronts : AreChained b c
+  pub cuts : AreChained b c
   pub views : (p i : ℕ) → i < length (log_of c p) → slice_index (publication_at (log_published c p) i).view p ≡ i
   pub entries : (p i : ℕ) → i < length (log_of c p) → let x : Publication = publication_at (log_published c p) i in
       IsCoherentEntry b c p (prefix_of x.view (journal_order c)) x.entry

@@ -1,10 +1,6 @@
 -- What the words of a closed board tell of the records of a process.
 use Rattle.std.specs.Prelude.{◌≡◌, ℕ, List}
-use Rattle.at_history.specs.declared.publication.Entry.{Entry}
-use Rattle.at_history.specs.BoardState.{publication_at}
-use Rattle.at_history.specs.Publications.{publications_of}
-use Rattle.at_board.specs.Ends.Closing.{EndTerms, IsEnd}
-use Rattle.at_board.specs.Knowledge.Seats.{SeatTerms}
+use Rattle.at_log.specs.Prelude.{Entry, publication_at, publications_of, EndTerms, IsEnd, SeatTerms}
 
 -- the entry of record i of the process, in whatever state the board was closed
 abbrev pub IsEndedEntry : EndTerms → ℕ → ℕ → Entry → Type 0

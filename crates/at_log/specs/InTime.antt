@@ -1,20 +1,17 @@
 -- A closing's journal in time: what stood before another call looked isn't behind it in the journal's order.
 use Rattle.std.specs.Prelude.{◌≡◌, ℕ, ◌*◌, ◌<◌, ◌≤◌, false, List, length, slice_index}
-use Rattle.at_history.specs.BoardState.{publication_at}
-use Rattle.at_history.specs.Fronts.{place}
-use Rattle.at_history.specs.Publications.{publications_of}
-use Rattle.at_history.specs.declared.publication.Publication.{Publication}
+use Rattle.at_log.specs.Prelude.{publication_at, place, publications_of, Publication}
 use Rattle.at_log.specs.ClosingTerms.{ClosingTerms, receipts_of}
 use Rattle.at_log.specs.JournalOrder.{line_key}
 use Rattle.at_log.specs.Receipts.{is_success, receipt_at}
 use Rattle.at_log.specs.Told.{keys_of}
 use Rattle.at_log.specs.declared.receipt.At.{At}
-use Rattle.at_log.specs.declared.receipt.At.TheVariants.{Front, Own, Round, Previous}
+use Rattle.at_log.specs.declared.receipt.At.TheVariants.{Cut, Own, Round, Previous}
 
--- the place of the look that a receipt rests on: that of its front, of the view of its own record, or of its round's decision. A
+-- the place of the look that a receipt rests on: that of its cut, of the view of its own record, or of its round's decision. A
 -- receipt without a place has none
 abbrev pub look_at : ℕ → List Publication → At → ℕ
-look_at process list (Front view) = place view
+look_at process list (Cut view) = place view
 look_at process list (Own number) = place (publication_at (publications_of process list) number).view
 look_at process list (Round round at) = at
 look_at process list Previous = 0

@@ -1,20 +1,16 @@
 -- The order of a closing's publications, and of its lines.
 use Rattle.std.specs.Prelude.{ℕ, ◌+◌, ◌*◌, ◌==◌, List, length, map, filter, min, nat_lt, slice_index, sum}
-use Rattle.std.specs.List.{flat_map, fold, range_with_len}
-use Rattle.at_ledger.specs.declared.call.Line.{Line}
-use Rattle.at_history.specs.declared.publication.Publication.{Publication}
-use Rattle.at_history.specs.BoardState.{publication_at}
-use Rattle.at_history.specs.Fronts.{place}
+use Rattle.at_log.specs.Prelude.{flat_map, fold, range_with_len, Line, Publication, publication_at, place}
 use Rattle.at_log.specs.declared.receipt.Receipt.{Receipt}
 use Rattle.at_log.specs.ClosingTerms.{ClosingTerms, log_lengths, log_of, log_published, receipts_of}
-use Rattle.at_log.specs.HeldFronts.{held_fronts}
+use Rattle.at_log.specs.HeldCuts.{held_cuts}
 use Rattle.at_log.specs.Receipts.{receipt_at}
 use Rattle.at_log.specs.Told.{keys_of}
 
--- the key of a publication: the least place of a held front that counts it
+-- the key of a publication: the least place of a held cut that counts it
 abbrev pub publication_key : ClosingTerms → ℕ → ℕ → ℕ
 publication_key c process number =
-    fold min (sum (log_lengths c)) (map place (filter (λ view. nat_lt number (slice_index view process)) (held_fronts c)))
+    fold min (sum (log_lengths c)) (map place (filter (λ view. nat_lt number (slice_index view process)) (held_cuts c)))
 
 -- the numbers of the publications of a process that have this key
 abbrev pub numbers_at : ClosingTerms → ℕ → ℕ → List ℕ

@@ -1,10 +1,6 @@
 -- Where an appended record stands.
 use Rattle.std.specs.Prelude.{◌≡◌, ◌+◌, ◌<◌}
-use Rattle.at_history.specs.declared.publication.Publication.{Publication}
-use Rattle.at_board.specs.declared.knowledge.Knowledge.{Knowledge}
-use Rattle.at_history.specs.BoardState.{publication_at}
-use Rattle.at_history.specs.Publications.{count_of, publications_of}
-use Rattle.at_board.specs.Knowledge.Parts.{own_part}
+use Rattle.at_log.specs.Prelude.{Publication, Knowledge, publication_at, count_of, publications_of, own_part}
 
 -- the record is the last of its process's log, where it stands by the number of those before it
 pub record IsLast (before after : Knowledge) (x : Publication) : Type 0 where

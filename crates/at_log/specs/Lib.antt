@@ -1,8 +1,9 @@
+pub mod Prelude
 pub mod Receipts
 pub mod Placed
 pub mod Told
 pub mod ClosingTerms
-pub mod HeldFronts
+pub mod HeldCuts
 pub mod Coherent
 pub mod JournalOrder
 pub mod InTime
@@ -10,3 +11,7 @@ pub mod Appending
 pub mod LastRecord
 pub mod Loading
 pub mod Ended
+pub mod InOrder
+pub mod BetweenCalls
+pub mod Left
+pub mod Standing

@@ -1,9 +1,6 @@
 -- What a load of a record answers: a published record never changes.
 use Rattle.std.specs.Prelude.{◌≡◌, ℕ, List}
-use Rattle.at_history.specs.declared.publication.Entry.{Entry}
-use Rattle.at_board.specs.declared.knowledge.Knowledge.{Knowledge}
-use Rattle.at_history.specs.BoardState.{publication_at}
-use Rattle.at_history.specs.Publications.{publications_of}
+use Rattle.at_log.specs.Prelude.{Entry, Knowledge, publication_at, publications_of}
 
 -- the entry of record i of the process
 abbrev pub IsEntryOf : Knowledge → ℕ → ℕ → Entry → Type 0

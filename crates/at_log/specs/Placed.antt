@@ -1,18 +1,6 @@
 -- Where a receipt stands in a list of publications, and why its reply is right there.
 use Rattle.std.specs.Prelude.{◌≡◌, ℕ, ◌<◌, Bool, true, false, ◌&&◌, ◌||◌, ◌==◌, List, count_by, length, take, Some, if◌then◌else◌}
-use Rattle.at_base.specs.declared.decision.Decision.{Decision}
-use Rattle.at_ledger.specs.Account.{is_shared, is_single, slot_in}
-use Rattle.at_ledger.specs.Book.{BookTerms, account_of, is_owner}
-use Rattle.at_ledger.specs.Call.{TargetPair, amount_of, payout_of}
-use Rattle.at_ledger.specs.declared.call.Call.TheVariants.{Read}
-use Rattle.at_ledger.specs.declared.call.Reply.TheVariants.{Done, Short, NotOwner, Full, Balance}
-use Rattle.at_history.specs.declared.publication.Entry.{Entry}
-use Rattle.at_history.specs.declared.publication.Publication.{Publication}
-use Rattle.at_history.specs.Balances.{balance_after}
-use Rattle.at_history.specs.BoardState.{publication_at}
-use Rattle.at_history.specs.Entries.{is_own}
-use Rattle.at_history.specs.Fronts.{IsFront, prefix_of}
-use Rattle.at_history.specs.Publications.{count_of, publications_of}
+use Rattle.at_log.specs.Prelude.{Decision, is_shared, is_single, slot_in, BookTerms, account_of, is_owner, TargetPair, amount_of, payout_of, Read, Done, Short, NotOwner, Full, Balance, Entry, Publication, balance_after, publication_at, is_own, IsCut, prefix_of, count_of, publications_of}
 use Rattle.at_log.specs.declared.receipt.At.{At}
 use Rattle.at_log.specs.declared.receipt.Receipt.{Receipt}
 use Rattle.at_log.specs.Receipts.{asks_in, owns_in}
@@ -23,11 +11,11 @@ has_no_room b source earlier =
     (is_single (account_of b source) && (owns_in earlier == b.own_room))
     || (is_shared (account_of b source) && (asks_in source earlier == b.request_room))
 
--- the receipt stands at a front of the list, whose prefix has this balance
-pub record IsAtFront (b : BookTerms) (list : List Publication) (account amount : ℕ) (r : Receipt) : Type 0 where
+-- the receipt stands at a cut of the list, whose prefix has this balance
+pub record IsAtCut (b : BookTerms) (list : List Publication) (account amount : ℕ) (r : Receipt) : Type 0 where
   pub view : List ℕ
-  pub front : IsFront b.processes view list
-  pub at : r.at ≡ At.Front view
+  pub cut : IsCut b.processes view list
+  pub at : r.at ≡ At.Cut view
   pub balance : balance_after b (prefix_of view list) account ≡ amount
 
 -- the receipt stands at an own record of its process, which is the next one and moves just this
@@ -58,14 +46,14 @@ pub record MayPay (b : BookTerms) (process : ℕ) (earlier : List Receipt) (sour
 
 -- a receipt that is right in a list, after the earlier receipts of its process
 pub data IsPlaced (b : BookTerms) (process : ℕ) (list : List Publication) (earlier : List Receipt) (r : Receipt) : Type 0 where
-  read : (account balance : ℕ) → r.call ≡ Read account → r.reply ≡ Balance balance → IsAtFront b list account balance r
+  read : (account balance : ℕ) → r.call ≡ Read account → r.reply ≡ Balance balance → IsAtCut b list account balance r
       → IsPlaced b process list earlier r
   not_owner : (source : ℕ) (targets : List TargetPair) → payout_of r.call ≡ Some (source, targets) → is_owner b process source ≡ false
       → r.reply ≡ NotOwner → r.at ≡ At.Previous → IsPlaced b process list earlier r
   full : (source : ℕ) (targets : List TargetPair) → payout_of r.call ≡ Some (source, targets) → is_owner b process source ≡ true
       → has_no_room b source earlier ≡ true → r.reply ≡ Full → r.at ≡ At.Previous → IsPlaced b process list earlier r
   short : (source balance : ℕ) (targets : List TargetPair) → MayPay b process earlier source targets r → is_single (account_of b source) ≡ true
-      → r.reply ≡ Short → IsAtFront b list source balance r → balance < amount_of targets → IsPlaced b process list earlier r
+      → r.reply ≡ Short → IsAtCut b list source balance r → balance < amount_of targets → IsPlaced b process list earlier r
   done : (source : ℕ) (targets : List TargetPair) → MayPay b process earlier source targets r → is_single (account_of b source) ≡ true
       → r.reply ≡ Done → IsAtOwn process list earlier source targets r → IsPlaced b process list earlier r
   round : (source : ℕ) (targets : List TargetPair) → MayPay b process earlier source targets r → is_shared (account_of b source) ≡ true

@@ -1,12 +1,8 @@
 -- What receipts say together.
-use Rattle.std.specs.Prelude.{ℕ, Bool, true, false, ◌&&◌, ◌==◌, List, [], ◌∷◌, count_by, map, slice_index_or, Vec}
-use Rattle.std.specs.Global.{Global}
-use Rattle.at_ledger.specs.declared.call.Call.{Call}
-use Rattle.at_ledger.specs.declared.call.Call.TheVariants.{Transfer, Read, Pay}
-use Rattle.at_ledger.specs.declared.call.Reply.{Reply}
-use Rattle.at_ledger.specs.declared.call.Reply.TheVariants.{Done, Short, NotOwner, Full, Balance}
+use Rattle.std.specs.Prelude.{ℕ, Bool, true, false, ◌&&◌, ◌==◌, List, [], ◌∷◌, count_by, map, slice_index_or}
+use Rattle.at_log.specs.Prelude.{Call, Transfer, Read, Pay, Reply, Done, Short, NotOwner, Full, Balance}
 use Rattle.at_log.specs.declared.receipt.At.{At}
-use Rattle.at_log.specs.declared.receipt.At.TheVariants.{Front, Own, Round, Previous}
+use Rattle.at_log.specs.declared.receipt.At.TheVariants.{Cut, Own, Round, Previous}
 use Rattle.at_log.specs.declared.receipt.Receipt.{Receipt}
 
 -- whether the call is a pay-out from this account
@@ -17,14 +13,14 @@ is_payout_from account (Pay from targets) = from == account
 
 -- whether the call stands at its own record
 abbrev pub is_at_own : At → Bool
-is_at_own (Front view) = false
+is_at_own (Cut view) = false
 is_at_own (Own number) = true
 is_at_own (Round round place) = false
 is_at_own Previous = false
 
 -- whether it stands in a round
 abbrev pub is_at_round : At → Bool
-is_at_round (Front view) = false
+is_at_round (Cut view) = false
 is_at_round (Own number) = false
 is_at_round (Round round place) = true
 is_at_round Previous = false
@@ -40,10 +36,6 @@ is_success (Balance amount) = false
 -- the calls that receipts are of
 abbrev pub calls_of : List Receipt → List Call
 calls_of receipts = map (λ r. r.call) receipts
-
--- lists of the program, as receipts or calls of each process, each by what it holds
-abbrev pub lists_in : {T : Type 0} → List (Vec T Global) → List (List T)
-lists_in lists = map (λ list. list.items) lists
 
 -- how many successes from single accounts there are
 abbrev pub owns_in : List Receipt → ℕ

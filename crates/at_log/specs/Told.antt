@@ -1,16 +1,8 @@
 -- Lists of receipts that account for all that a process has in a list of publications.
 use Rattle.std.specs.Prelude.{◌≡◌, ℕ, ◌+◌, ◌-◌, ◌*◌, ◌<◌, Bool, ◌==◌, List, [], ◌∷◌, length, take, if◌then◌else◌}
-use Rattle.std.specs.List.Sorted.{IsNonDecreasing}
-use Rattle.at_ledger.specs.Call.{first_account}
-use Rattle.at_ledger.specs.Book.{BookTerms}
-use Rattle.at_ledger.specs.declared.call.Call.{Call}
-use Rattle.at_history.specs.declared.publication.Publication.{Publication}
-use Rattle.at_history.specs.Entries.{is_round}
-use Rattle.at_history.specs.Fronts.{place}
-use Rattle.at_history.specs.Rounds.{named, owns_of}
-use Rattle.at_ledger.specs.Book.{HasSlot}
+use Rattle.at_log.specs.Prelude.{IsNonDecreasing, first_account, BookTerms, Call, Publication, is_round, place, named, owns_of, HasSlot}
 use Rattle.at_log.specs.declared.receipt.At.{At}
-use Rattle.at_log.specs.declared.receipt.At.TheVariants.{Front, Own, Round, Previous}
+use Rattle.at_log.specs.declared.receipt.At.TheVariants.{Cut, Own, Round, Previous}
 use Rattle.at_log.specs.declared.receipt.Receipt.{Receipt}
 use Rattle.at_log.specs.Placed.{IsPlaced}
 use Rattle.at_log.specs.Receipts.{asks_in, is_success, owns_in, receipt_at}
@@ -28,10 +20,10 @@ round_position account round [] = 0
 round_position account round (x ∷ xs) = if is_round account round x.entry then 0 else round_position account round xs + 1
 
 -- where a receipt stands in the order of the calls: twice its place, and one more where it moved. The place is that of
--- its front, of its own record, of the first record of its round where it moved, and else of the round's decision. A
+-- its cut, of its own record, of the first record of its round where it moved, and else of the round's decision. A
 -- receipt without a place stands with the one before it
 abbrev pub key_at : ℕ → List Publication → ℕ → Call → Bool → At → ℕ
-key_at process list previous call moved (Front view) = 2 * place view
+key_at process list previous call moved (Cut view) = 2 * place view
 key_at process list previous call moved (Own number) = 2 * own_position process number list + 1
 key_at process list previous call moved (Round round place) =
     if moved then 2 * round_position (first_account call) round list + 1 else 2 * place

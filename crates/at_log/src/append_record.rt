@@ -1,12 +1,7 @@
 //! An append: records are published on the board one after another.
 
 ghost use Rattle.std.specs.Prelude.{◌≡◌, ◌+◌, ◌-◌};
-ghost use Rattle.at_board.specs.Counting.{raised};
-ghost use Rattle.at_board.specs.Knowledge.Seats.{IsOf};
-ghost use Rattle.at_board.specs.Steps.Publish.{Publishes};
-ghost use Rattle.at_board.specs.Knowledge.Parts.{own_part};
-ghost use Rattle.at_board.specs.declared.words.TheConstants.{RECORD_WORDS};
-ghost use Rattle.at_ledger.specs.Book.{log_room_of};
+ghost use Rattle.at_log.specs.Prelude.{raised, IsOf, Publishes, own_part, RECORD_WORDS, log_room_of};
 ghost use Rattle.at_log.specs.Appending.{MayAppend};
 ghost use Rattle.at_log.specs.ClosingTerms.{published_by};
 ghost use Rattle.at_log.specs.LastRecord.{IsLast};

@@ -1,11 +1,7 @@
 //! The log of a process of a closed board.
 
 ghost use Rattle.std.specs.Prelude.{◌≡◌, ◌<◌, ◌≤◌, List, [], length, map};
-ghost use Rattle.std.specs.Vec.{vec_capacity};
-ghost use Rattle.at_ledger.specs.Book.{IsBook};
-ghost use Rattle.at_history.specs.Publications.{publications_of};
-ghost use Rattle.at_board.specs.Ends.Closing.{IsEnd, records_of};
-ghost use Rattle.at_board.specs.Knowledge.Seats.{SeatTerms};
+ghost use Rattle.at_log.specs.Prelude.{vec_capacity, IsBook, publications_of, IsEnd, records_of, SeatTerms};
 ghost use Rattle.at_log.specs.ClosingTerms.{published_by};
 ghost use Rattle.at_log.specs.Ended.{IsEndedEntry, IsEndedView};
 

@@ -1,10 +1,7 @@
 //! A load of a record's entry.
 
 ghost use Rattle.std.specs.Prelude.{◌≡◌, ◌+◌};
-ghost use Rattle.at_board.specs.Counting.{stepped};
-ghost use Rattle.at_board.specs.Knowledge.Records.{SeesRecord};
-ghost use Rattle.at_board.specs.Knowledge.Seats.{IsOf};
-ghost use Rattle.at_board.specs.declared.words.TheConstants.{RECORD_WORDS};
+ghost use Rattle.at_log.specs.Prelude.{stepped, SeesRecord, IsOf, RECORD_WORDS};
 ghost use Rattle.at_log.specs.Loading.{IsEntryOf};
 
 use at_board::{Board, BoardSeat, Entry, RECORD_WORDS, entry_of};

@@ -1,9 +1,7 @@
 //! A load of a record's view.
 
 ghost use Rattle.std.specs.Prelude.{◌≡◌, ◌+◌};
-ghost use Rattle.at_board.specs.Counting.{stepped};
-ghost use Rattle.at_board.specs.Knowledge.Records.{SeesRecord};
-ghost use Rattle.at_board.specs.Knowledge.Seats.{IsOf};
+ghost use Rattle.at_log.specs.Prelude.{stepped, SeesRecord, IsOf};
 ghost use Rattle.at_log.specs.Loading.{IsViewOf};
 
 use at_base::Counts;

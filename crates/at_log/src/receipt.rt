@@ -6,8 +6,8 @@ use at_ledger::{Call, Reply};
 /// Where a call stands among the publications.
 #[derive(Drop)]
 pub enum At {
-    /// At the front of its snapshot: a read, or a pay-out from a single account that was short.
-    Front(Counts),
+    /// At the cut of its snapshot: a read, or a pay-out from a single account that was short.
+    Cut(Counts),
     /// At its own record, by its number in the log of its process: a pay-out from a single account that was done.
     Own(u32),
     /// In a round of a shared account, done or short. The place is that of the round's decision.

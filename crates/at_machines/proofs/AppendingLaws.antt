@@ -1,24 +1,6 @@
 -- An append from one turn to the next.
 use Rattle.std.proofs.Common.{◌≡◌, ℕ, ◌<◌, ◌≤◌, List, length, get_or, refl, sym, ap, subst, ◌∙◌, arith}
-use Rattle.std.proofs.lemmas.List.{set-get_or}
-use Rattle.at_ledger.specs.Book.{BookTerms}
-use Rattle.at_history.proofs.Laws.Fronts.{length-IsFront}
-use Rattle.at_history.specs.declared.publication.Publication.{Publication}
-use Rattle.at_board.specs.Knowledge.Parts.{no_part, own_part}
-use Rattle.at_board.specs.Knowledge.Seats.{IsKept}
-use Rattle.at_board.specs.Steps.Publish.{FitsNext, MayPublish, Publishes}
-use Rattle.at_board.specs.Steps.StoreRecordWord.{MayStoreWord, StoresWord}
-use Rattle.at_board.specs.Words.Addresses.{record_width}
-use Rattle.at_board.specs.Words.Packed.{IsForm, record_words}
-use Rattle.at_board.specs.declared.knowledge.Part.{Part}
-use Rattle.at_board.specs.declared.knowledge.Knowledge.{Knowledge}
-use Rattle.at_log.proofs.Laws.LastRecord.{IsLast-Publishes}
-use Rattle.at_log.proofs.Laws.StoredWords.{FitsNext-MayAppend, IsStoring-more, MayPublish-IsStoring, MayStoreWord-IsStoring, Publishes-IsStoring}
-use Rattle.at_log.specs.Appending.{IsStoring, MayAppend}
-use Rattle.at_log.specs.LastRecord.{IsLast}
-use Rattle.at_log.specs.declared.record.Record.{Record}
-use Rattle.at_machines.specs.Kept.{IsAppendingSo}
-use Rattle.at_machines.specs.Appending.{AppendingTerms, appending_after, publication_of, starting_appending}
+use Rattle.at_machines.proofs.Prelude.{set-get_or, BookTerms, length-IsCut, Publication, no_part, own_part, IsKept, FitsNext, MayPublish, Publishes, MayStoreWord, StoresWord, record_width, IsForm, record_words, Part, Knowledge, IsLast-Publishes, FitsNext-MayAppend, IsStoring-more, MayPublish-IsStoring, MayStoreWord-IsStoring, Publishes-IsStoring, IsStoring, MayAppend, IsLast, Record, IsAppendingSo, AppendingTerms, appending_after, publication_of, starting_appending}
 
 -- no word is stored
 IsStoring-start : (v : Knowledge) (words : List ℕ) → IsStoring v v words 0
@@ -44,7 +26,7 @@ IsForm-IsAppendingSo a so = (FitsNext-MayAppend a.start.book a.start a.rec refl 
 
 pub length-view-IsAppendingSo : (b : BookTerms) (a : AppendingTerms) → a.mark.book ≡ b → IsAppendingSo a → length a.rec.view ≡ b.processes
 length-view-IsAppendingSo b a book so =
-    length-IsFront a.start.book.processes a.rec.view a.start.seen so.may.view.front
+    length-IsCut a.start.book.processes a.rec.view a.start.seen so.may.view.cut
     ∙ ap (λ (t : BookTerms). t.processes) (sym so.book ∙ book)
 
 -- what stands before the board's book is put in place of the one at the start

@@ -1,22 +1,6 @@
 -- Asking from one turn to the next.
 use Rattle.std.proofs.Common.{◌≡◌, ℕ, ◌<◌, ◌≤◌, ◌^◌, List, length, get_or, refl, sym, ap, subst, ◌∙◌, arith}
-use Rattle.at_ledger.specs.Book.{BookTerms, HasSlot}
-use Rattle.at_ledger.specs.Call.{AreTargetsOn, TargetPair}
-use Rattle.at_board.specs.Knowledge.Parts.{asking_on, own_part}
-use Rattle.at_board.specs.Knowledge.Seats.{IsKept}
-use Rattle.at_board.specs.Steps.Announce.{Announces, MayAnnounce}
-use Rattle.at_board.specs.Steps.StoreRequestWord.{MayStoreRequest, StoresRequestWord}
-use Rattle.at_board.specs.Words.Packed.{request_words}
-use Rattle.at_board.specs.declared.knowledge.Asking.{Asking}
-use Rattle.at_board.specs.declared.knowledge.Knowledge.{Knowledge}
-use Rattle.at_board.specs.declared.words.TheConstants.{REQUEST_WORDS}
-use Rattle.at_rows.proofs.Laws.Accounts.{HasAccount, HasAccount-IsSeat, asking_on-with_asking}
-use Rattle.at_rows.proofs.Laws.Asking.{Announces-IsStoringRequest, HasAsked-Announces, HasLoadedNothing-Announces, IsStoringRequest-more, IsStoringRequest-start, MayAnnounce-IsStoringRequest, MayAskFor-slot, MayStoreRequest-IsStoringRequest}
-use Rattle.at_rows.proofs.Laws.Loading.{AreTargetsOn-AreTargets}
-use Rattle.at_rows.specs.Asks.{HasAsked, HasLoadedNothing, MayAskFor, asked_for, opened}
-use Rattle.at_rows.specs.Storing.{with_request_stored}
-use Rattle.at_machines.specs.Asking.{AskingTerms, asking_after, request_asked, starting_to_ask}
-use Rattle.at_machines.specs.KeptAsking.{IsAskingSo}
+use Rattle.at_machines.proofs.Prelude.{BookTerms, HasSlot, AreTargetsOn, TargetPair, asking_on, own_part, IsKept, Announces, MayAnnounce, MayStoreRequest, StoresRequestWord, request_words, Asking, Knowledge, REQUEST_WORDS, HasAccount, HasAccount-IsSeat, asking_on-with_asking, Announces-IsStoringRequest, HasAsked-Announces, HasLoadedNothing-Announces, IsStoringRequest-more, IsStoringRequest-start, MayAnnounce-IsStoringRequest, MayAskFor-slot, MayStoreRequest-IsStoringRequest, AreTargetsOn-AreTargets, HasAsked, HasLoadedNothing, MayAskFor, asked_for, opened, with_request_stored, AskingTerms, asking_after, request_asked, starting_to_ask, IsAskingSo}
 
 pub IsAskingSo-start : (v : Knowledge) (a : ℕ) (targets : List TargetPair) (since : ℕ) → IsKept v → (slot : ℕ) × MayAskFor v.book v a slot (asked_for targets since)
     → IsAskingSo (starting_to_ask v a targets since)

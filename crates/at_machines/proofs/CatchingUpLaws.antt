@@ -1,30 +1,6 @@
 -- Totals that catch up, from one turn to the next.
 use Rattle.std.proofs.Common.{◌≡◌, ◌↔◌, ℕ, ◌+◌, ◌-◌, ◌*◌, ◌^◌, ◌<◌, ◌≤◌, Bool, true, false, not, IsTrue, List, length, get_or, set, refl, sym, ap, subst, arith, inl, inr, Option, Some, None, get_or-set_other, get_or-set_same, length-set, if◌then◌else◌, ◌∙◌}
-use Rattle.std.proofs.lemmas.Bool.{cases_eq, cases_lt, eq-eqb, ne_eqb}
-use Rattle.std.specs.List.{sum}
-use Rattle.std.specs.Option.{is_some}
-use Rattle.at_base.specs.Counts.{Covers}
-use Rattle.at_ledger.specs.Book.{BookTerms}
-use Rattle.at_history.proofs.Laws.Counts.{get_or-counts, length-counts}
-use Rattle.at_history.proofs.Laws.Fronts.{sum-Covers-le}
-use Rattle.at_history.proofs.Laws.Rooms.{log_room_of-le}
-use Rattle.at_history.specs.Publications.{count_of}
-use Rattle.at_history.specs.declared.publication.Entry.{Entry}
-use Rattle.at_history.specs.declared.publication.Publication.{Publication}
-use Rattle.at_board.specs.Knowledge.Seats.{IsKept}
-use Rattle.at_board.specs.declared.knowledge.Knowledge.{Knowledge}
-use Rattle.at_board.specs.declared.step.BoardStep.{BoardStep}
-use Rattle.at_board.specs.declared.step.BoardWord.{BoardWord}
-use Rattle.at_board.specs.declared.words.TheConstants.{RECORD_WORDS}
-use Rattle.at_fold.proofs.Laws.CatchingUp.{MayCount-IsCatchingUp, count_of-IsCatchingUp, IsCatchingUp-more, upto-IsCatchingUp}
-use Rattle.at_fold.proofs.Laws.LoadedRecords.{sum-caught}
-use Rattle.at_fold.specs.CatchingUp.{IsCatchingUp}
-use Rattle.at_fold.specs.HasCounted.{HasCounted, MayCount}
-use Rattle.at_fold.specs.Sums.{TotalSums}
-use Rattle.at_log.specs.Loading.{IsEntryOf}
-use Rattle.at_machines.specs.CatchingUp.{CountsNext, catch_step, loaded_of}
-use Rattle.at_machines.specs.KeptCatchingUp.{IsCatchingUpSo, IsLoadingNext}
-use Rattle.at_machines.specs.Loading.{LoadingTerms, entry_step, starting_loading}
+use Rattle.at_machines.proofs.Prelude.{cases_eq, cases_lt, eq-eqb, ne_eqb, sum, is_some, Covers, BookTerms, get_or-counts, length-counts, sum-Covers-le, log_room_of-le, count_of, Entry, Publication, IsKept, Knowledge, BoardStep, BoardWord, RECORD_WORDS, MayCount-IsCatchingUp, count_of-IsCatchingUp, IsCatchingUp-more, upto-IsCatchingUp, sum-caught, IsCatchingUp, HasCounted, MayCount, TotalSums, IsEntryOf, CountsNext, catch_step, loaded_of, IsCatchingUpSo, IsLoadingNext, LoadingTerms, entry_step, starting_loading}
 
 -- of the processes up to this one nothing is left to count
 past : (b : BookTerms) (seen : List Publication) (counts start : List ℕ) (t : TotalSums) (p p' : ℕ) → IsCatchingUp b seen counts start t p → p' ≤ length counts

@@ -1,18 +1,6 @@
 -- A collect from one turn to the next.
 use Rattle.std.proofs.Common.{◌≡◌, ℕ, ◌<◌, List, length, set, refl, sym, ap, subst, ◌∙◌, arith, inl, inr}
-use Rattle.std.proofs.lemmas.Bool.{cases_lt}
-use Rattle.at_ledger.specs.Book.{BookTerms}
-use Rattle.at_history.proofs.Laws.Prefixes.{IsPrefix-trans}
-use Rattle.at_history.specs.declared.publication.Publication.{Publication}
-use Rattle.at_board.specs.Knowledge.Overviews.{LearnsOverview}
-use Rattle.at_board.specs.declared.knowledge.Loads.{Loads}
-use Rattle.at_board.specs.declared.knowledge.Knowledge.{Knowledge}
-use Rattle.at_board.specs.Steps.LoadLength.{LoadsLength}
-use Rattle.at_snapshot.proofs.Laws.Collects.{IsCollect-IsCollecting, IsCollecting-load, collect_of-IsCollecting}
-use Rattle.at_snapshot.proofs.Laws.Loads.{loads_of-same}
-use Rattle.at_snapshot.specs.Collected.{IsCollect, IsCollecting, collect_of}
-use Rattle.at_machines.specs.Kept.{IsCollectingSo}
-use Rattle.at_machines.specs.Collecting.{CollectingTerms, LoadsLengthOf, collecting_after, starting_collecting}
+use Rattle.at_machines.proofs.Prelude.{cases_lt, BookTerms, IsPrefix-trans, Publication, LearnsOverview, Loads, Knowledge, LoadsLength, IsCollect-IsCollecting, IsCollecting-load, collect_of-IsCollecting, loads_of-same, IsCollect, IsCollecting, collect_of, IsCollectingSo, CollectingTerms, LoadsLengthOf, collecting_after, starting_collecting}
 
 pub IsCollectingSo-start : (v : Knowledge) (counts : List ℕ) → 0 < length v.parts → length counts ≡ v.book.processes
     → IsCollectingSo (starting_collecting v) counts

@@ -1,25 +1,6 @@
 -- Collecting rows from one turn to the next.
 use Rattle.std.proofs.Common.{◌≡◌, ◌≢◌, ℕ, ◌+◌, ◌-◌, ◌*◌, ◌<◌, ◌≤◌, ◌++◌, List, [], length, Option, refl, sym, ap, subst, ◌∙◌, arith, inl, inr}
-use Rattle.std.proofs.lemmas.Bool.{cases_lt}
-use Rattle.std.specs.Option.{option_to_list}
-use Rattle.at_ledger.specs.Account.{slots_of}
-use Rattle.at_ledger.specs.Book.{BookTerms, account_of}
-use Rattle.at_board.specs.Knowledge.Candidates.{HasLoadedRows}
-use Rattle.at_board.specs.Knowledge.Parts.{SeesRequest, own_part}
-use Rattle.at_board.specs.Knowledge.Seats.{IsKept}
-use Rattle.at_board.specs.declared.knowledge.Knowledge.{Knowledge}
-use Rattle.at_board.specs.declared.words.TheConstants.{REQUEST_WORDS}
-use Rattle.at_rows.proofs.Laws.Accounts.{HasAccount, HasAccount-IsSeat}
-use Rattle.at_rows.proofs.Laws.Collecting.{AreCandidates-IsCollectingRows, CollectsRows-IsCollectingRows, HasAsked-IsCollectingRows, HasLoadedRows-IsCollectingRows, IsCollectingRows-row, IsCollectingRows-start, SeesRequest-HasAsked, steps-IsCollectingRows}
-use Rattle.at_rows.specs.Asks.{HasAsked}
-use Rattle.at_rows.specs.Collecting.{IsCollectingRows}
-use Rattle.at_rows.specs.OpenRequests.{request_of}
-use Rattle.at_rows.specs.Rows.{AreCandidates, CollectsRows, LoadsRow, row_steps}
-use Rattle.at_rows.specs.declared.open_request.OpenRequest.{OpenRequest}
-use Rattle.at_machines.specs.CollectingRows.{CollectingRowsTerms, GoesOn, MakesNextLoad, rows_after}
-use Rattle.at_machines.specs.KeptRows.{IsCollectingRowsSo}
-use Rattle.at_machines.specs.LoadingRow.{LoadingRowTerms, MakesLoadOf, NextRowLoad, row_after, row_turns, starting_row}
-use Rattle.at_machines.specs.LoadingRow.NextRowLoad.{announced_word, request_word, nothing}
+use Rattle.at_machines.proofs.Prelude.{cases_lt, option_to_list, slots_of, BookTerms, account_of, HasLoadedRows, SeesRequest, own_part, IsKept, Knowledge, REQUEST_WORDS, HasAccount, HasAccount-IsSeat, AreCandidates-IsCollectingRows, CollectsRows-IsCollectingRows, HasAsked-IsCollectingRows, HasLoadedRows-IsCollectingRows, IsCollectingRows-row, IsCollectingRows-start, SeesRequest-HasAsked, steps-IsCollectingRows, HasAsked, IsCollectingRows, request_of, AreCandidates, CollectsRows, LoadsRow, row_steps, OpenRequest, CollectingRowsTerms, GoesOn, MakesNextLoad, rows_after, IsCollectingRowsSo, LoadingRowTerms, MakesLoadOf, NextRowLoad, row_after, row_turns, starting_row, announced_word, request_word, nothing}
 
 -- the seat has seen its own request
 pub SeesRequest-start : (v : Knowledge) (a : ℕ) (own : OpenRequest) → IsKept v → HasAsked v.book v a own → SeesRequest v a own.slot own.number (request_of own)

@@ -1,54 +1,14 @@
 -- A round from one turn to the next.
 use Rattle.std.proofs.Common.{◌≡◌, ℕ, ◌<◌, ◌++◌, false, List, [], ◌∷◌, get_or, refl, sym, ap, subst, ◌∙◌, arith, inl}
-use Rattle.std.proofs.lemmas.List.{append_assoc}
-use Rattle.std.specs.List.{Contains}
-use Rattle.at_base.specs.Decision.{word_of}
-use Rattle.at_base.specs.declared.decision.Decision.{Decision}
-use Rattle.at_ledger.specs.Book.{BookTerms}
-use Rattle.at_history.proofs.Laws.Fronts.{IsFront-IsPrefix}
-use Rattle.at_history.proofs.Laws.Histories.{ArePublishedBy-IsHistory}
-use Rattle.at_history.proofs.Laws.Prefixes.{IsPrefix-trans}
-use Rattle.at_history.specs.Fronts.{IsFront, place, prefix_of}
-use Rattle.at_history.specs.Publications.{IsPrefix, count_of}
-use Rattle.at_history.specs.Rounds.{is_settled, rounds}
-use Rattle.at_history.specs.Sound.{IsSoundRound}
-use Rattle.at_history.specs.declared.publication.Entry.{Entry}
-use Rattle.at_history.specs.declared.publication.Publication.{Publication}
-use Rattle.at_history.specs.declared.request.Request.{Request}
-use Rattle.at_board.specs.Knowledge.Parts.{SeesDecision, own_part}
-use Rattle.at_board.specs.Knowledge.Seats.{IsKept}
-use Rattle.at_board.specs.Steps.Decide.{Decides, MayPropose}
-use Rattle.at_board.specs.Steps.Publish.{Publishes}
-use Rattle.at_board.specs.declared.knowledge.Knowledge.{Knowledge}
-use Rattle.at_board.specs.declared.knowledge.Part.{Part}
-use Rattle.at_board.specs.declared.knowledge.SeenDecision.{SeenDecision}
-use Rattle.at_fold.proofs.Laws.MorePublished.{StaysCounted-HasCounted}
-use Rattle.at_fold.specs.HasCounted.{CountsFront, HasCounted}
-use Rattle.at_fold.specs.Sums.{TotalSums}
-use Rattle.at_log.specs.Appending.{MayAppend}
-use Rattle.at_log.specs.ClosingTerms.{published_by}
-use Rattle.at_log.specs.declared.record.Record.{Record}
-use Rattle.at_rows.proofs.Laws.Accounts.{HasAccount, HasAccount-IsSeat}
-use Rattle.at_rows.specs.Loads.{LoadsRequest, loaded_words}
-use Rattle.at_rows.specs.OpenRequests.{request_of, seen_of}
-use Rattle.at_rows.specs.declared.open_request.OpenRequest.{OpenRequest}
-use Rattle.at_shared.proofs.Laws.After.{HasAccount-IsAfter, IsAfter, IsAfter-Decides, IsAfter-LoadsRequest, IsAfter-trans, own_part-Decides, own_part-LoadsRequest}
-use Rattle.at_shared.proofs.Laws.Turns.{IsSoundRound-Decides}
-use Rattle.at_shared.specs.HelpTurns.{DecidesNext}
-use Rattle.at_shared.specs.HelpingTerms.{HelpingTerms}
-use Rattle.at_shared.specs.Helpings.{IsHelpingAt}
-use Rattle.at_machines.specs.KeptDeciding.{HasLoadedDecided, IsDecidingSo}
-use Rattle.at_machines.specs.LoadingRequest.{LoadingRequestTerms}
-use Rattle.at_machines.specs.declared.round_stage.RoundStage.{RoundStage}
-use Rattle.at_machines.specs.declared.round_stage.RoundStage.TheVariants.{Loading, Proposing}
+use Rattle.at_machines.proofs.Prelude.{append_assoc, Contains, word_of, Decision, BookTerms, IsCut-IsPrefix, ArePublishedBy-IsHistory, IsPrefix-trans, IsCut, place, prefix_of, IsPrefix, count_of, is_settled, rounds, IsSoundRound, Entry, Publication, Request, SeesDecision, own_part, IsKept, Decides, MayPropose, Publishes, Knowledge, Part, SeenDecision, StaysCounted-HasCounted, CountsCut, HasCounted, TotalSums, MayAppend, published_by, Record, HasAccount, HasAccount-IsSeat, LoadsRequest, loaded_words, request_of, seen_of, OpenRequest, HasAccount-IsAfter, IsAfter, IsAfter-Decides, IsAfter-LoadsRequest, IsAfter-trans, own_part-Decides, own_part-LoadsRequest, IsSoundRound-Decides, DecidesNext, HelpingTerms, IsHelpingAt, HasLoadedDecided, IsDecidingSo, LoadingRequestTerms, RoundStage, Loading, Proposing}
 
-pub IsDecidingSo-start : (b : BookTerms) (v : Knowledge) (totals : TotalSums) (h : HelpingTerms) (front : List ℕ) (account round : ℕ) (proposal : Decision) → IsKept v
-    → v.book ≡ b → HasCounted totals b v.seen → CountsFront totals b v.seen → totals.upto ≡ front → get_or front v.first 0 ≡ (own_part v).published
-    → IsHelpingAt b v (prefix_of front v.seen) h → is_settled h.account h.own.slot h.own.number (prefix_of front v.seen) ≡ false → account ≡ h.account
-    → round ≡ rounds h.account (prefix_of front v.seen) → proposal.place ≡ place front
-    → (r : Request) × MayPropose b v h.account (rounds h.account (prefix_of front v.seen)) proposal r
-    → IsDecidingSo v v totals h front account round (Proposing proposal)
-IsDecidingSo-start b v totals h front account round proposal kept book counted at_front upto own helping unsettled account_is round_is placed may =
+pub IsDecidingSo-start : (b : BookTerms) (v : Knowledge) (totals : TotalSums) (h : HelpingTerms) (cut : List ℕ) (account round : ℕ) (proposal : Decision) → IsKept v
+    → v.book ≡ b → HasCounted totals b v.seen → CountsCut totals b v.seen → totals.upto ≡ cut → get_or cut v.first 0 ≡ (own_part v).published
+    → IsHelpingAt b v (prefix_of cut v.seen) h → is_settled h.account h.own.slot h.own.number (prefix_of cut v.seen) ≡ false → account ≡ h.account
+    → round ≡ rounds h.account (prefix_of cut v.seen) → proposal.place ≡ place cut
+    → (r : Request) × MayPropose b v h.account (rounds h.account (prefix_of cut v.seen)) proposal r
+    → IsDecidingSo v v totals h cut account round (Proposing proposal)
+IsDecidingSo-start b v totals h cut account round proposal kept book counted at_cut upto own helping unsettled account_is round_is placed may =
     let back = sym book in
     record {
       seat = kept;
@@ -56,28 +16,28 @@ IsDecidingSo-start b v totals h front account round proposal kept book counted a
       account_is = account_is;
       round_is = round_is;
       counted = subst (λ (t : BookTerms). HasCounted totals t v.seen) back counted;
-      at_front = subst (λ (t : BookTerms). CountsFront totals t v.seen) back at_front;
+      at_cut = subst (λ (t : BookTerms). CountsCut totals t v.seen) back at_cut;
       upto = upto;
       own = own;
-      helping = subst (λ (t : BookTerms). IsHelpingAt t v (prefix_of front v.seen) h) back helping;
+      helping = subst (λ (t : BookTerms). IsHelpingAt t v (prefix_of cut v.seen) h) back helping;
       unsettled = unsettled;
       stage_so = (
         refl,
         record {
-          at_front = placed;
-          may = subst (λ (t : BookTerms). (r : Request) × MayPropose t v h.account (rounds h.account (prefix_of front v.seen)) proposal r) back may;
+          at_cut = placed;
+          may = subst (λ (t : BookTerms). (r : Request) × MayPropose t v h.account (rounds h.account (prefix_of cut v.seen)) proposal r) back may;
         },
       );
     }
 
 -- the decided request is loaded
-pub HasLoadedDecided-LoadsRequest : (b : BookTerms) (start mark : Knowledge) (totals : TotalSums) (h : HelpingTerms) (front : List ℕ) (account round : ℕ) (d : Decision)
-    (l : LoadingRequestTerms) (w : Knowledge) (x : OpenRequest) → b ≡ start.book → IsDecidingSo start mark totals h front account round (Loading d l)
+pub HasLoadedDecided-LoadsRequest : (b : BookTerms) (start mark : Knowledge) (totals : TotalSums) (h : HelpingTerms) (cut : List ℕ) (account round : ℕ) (d : Decision)
+    (l : LoadingRequestTerms) (w : Knowledge) (x : OpenRequest) → b ≡ start.book → IsDecidingSo start mark totals h cut account round (Loading d l)
     → LoadsRequest b l.start w l.account l.slot l.number x
-    → HasLoadedDecided start w h front d (record { entry = Entry.Round account round d x.targets; view = front })
-HasLoadedDecided-LoadsRequest b start mark totals h front account round d l w x book so told =
+    → HasLoadedDecided start w h cut d (record { entry = Entry.Round account round d x.targets; view = cut })
+HasLoadedDecided-LoadsRequest b start mark totals h cut account round d l w x book so told =
     let (mark_is, left, account_is, slot_is, number_is, decides) = so.stage_so in
-    let record_of : ℕ → ℕ → Record = λ a r. record { entry = Entry.Round a r d x.targets; view = front } in
+    let record_of : ℕ → ℕ → Record = λ a r. record { entry = Entry.Round a r d x.targets; view = cut } in
     record {
       decided = l.start;
       decides = decides;
@@ -88,14 +48,14 @@ HasLoadedDecided-LoadsRequest b start mark totals h front account round d l w x 
       record_is = ap (λ a. record_of a round) so.account_is ∙ ap (record_of h.account) so.round_is;
     }
 
-module _ (start mark : Knowledge) (totals : TotalSums) (h : HelpingTerms) (front : List ℕ) (account round : ℕ) (stage : RoundStage)
-    (so : IsDecidingSo start mark totals h front account round stage) (loaded : Knowledge) (d : Decision) (rec : Record)
-    (told : HasLoadedDecided start loaded h front d rec) where
+module _ (start mark : Knowledge) (totals : TotalSums) (h : HelpingTerms) (cut : List ℕ) (account round : ℕ) (stage : RoundStage)
+    (so : IsDecidingSo start mark totals h cut account round stage) (loaded : Knowledge) (d : Decision) (rec : Record)
+    (told : HasLoadedDecided start loaded h cut d rec) where
   abbrev b : BookTerms
   b = start.book
 
   abbrev next_round : ℕ
-  next_round = rounds h.account (prefix_of front start.seen)
+  next_round = rounds h.account (prefix_of cut start.seen)
 
   decides : Decides b start told.decided h.account next_round told.decides.proposal (word_of d)
   decides = told.decides.decides.decides
@@ -118,17 +78,17 @@ module _ (start mark : Knowledge) (totals : TotalSums) (h : HelpingTerms) (front
   seen_is : loaded.seen ≡ told.decided.seen
   seen_is = ap (λ (v : Knowledge). v.seen) told.loads.same
 
-  -- the front is one still
-  is_front : IsFront b.processes front start.seen
-  is_front = subst (λ f. IsFront b.processes f start.seen) so.upto so.at_front.front
+  -- the cut is one still
+  is_cut : IsCut b.processes cut start.seen
+  is_cut = subst (λ f. IsCut b.processes f start.seen) so.upto so.at_cut.cut
 
-  front_loaded : IsFront b.processes front loaded.seen
-  front_loaded =
-      IsFront-IsPrefix b.processes front start.seen loaded.seen is_front (ArePublishedBy-IsHistory b start.seen so.at_front.history) after_loads.more
+  cut_loaded : IsCut b.processes cut loaded.seen
+  cut_loaded =
+      IsCut-IsPrefix b.processes cut start.seen loaded.seen is_cut (ArePublishedBy-IsHistory b start.seen so.at_cut.history) after_loads.more
 
-  counts_own : get_or front loaded.first 0 ≡ count_of loaded.first loaded.seen
+  counts_own : get_or cut loaded.first 0 ≡ count_of loaded.first loaded.seen
   counts_own =
-      ap (λ p. get_or front p 0) after_loads.first
+      ap (λ p. get_or cut p 0) after_loads.first
       ∙ (so.own ∙ (sym decides.own ∙ (ap (λ (list : List Publication). count_of start.first list) (sym seen_is) ∙ ap (λ p. count_of p loaded.seen) (sym after_loads.first))))
 
   -- and counts the records of the seat's process, which are as many still
@@ -141,21 +101,21 @@ module _ (start mark : Knowledge) (totals : TotalSums) (h : HelpingTerms) (front
   pub own-HasLoadedDecided : get_or totals.upto loaded.first 0 ≡ (own_part loaded).published
   own-HasLoadedDecided =
       ap (λ upto. get_or upto loaded.first 0) so.upto
-      ∙ (ap (λ p. get_or front p 0) after_loads.first ∙ (so.own ∙ sym published_loaded))
+      ∙ (ap (λ p. get_or cut p 0) after_loads.first ∙ (so.own ∙ sym published_loaded))
 
   pub process-HasLoadedDecided : loaded.first < loaded.book.processes
   process-HasLoadedDecided = omega (arith, so.seat.known, after_loads.first, ap (λ (t : BookTerms). t.processes) book-HasLoadedDecided)
 
   -- the round is the next one there
-  sound_decided : IsSoundRound b told.decided.first (prefix_of front told.decided.seen) h.account next_round
+  sound_decided : IsSoundRound b told.decided.first (prefix_of cut told.decided.seen) h.account next_round
   sound_decided =
-      IsSoundRound-Decides b start told.decided h.account h.own.slot next_round next_round (word_of d) told.decides.proposal front so.at_front.history is_front
+      IsSoundRound-Decides b start told.decided h.account h.own.slot next_round next_round (word_of d) told.decides.proposal cut so.at_cut.history is_cut
       so.helping.asked.slot_in refl decides
 
-  sound_loaded : IsSoundRound b loaded.first (prefix_of front loaded.seen) h.account next_round
+  sound_loaded : IsSoundRound b loaded.first (prefix_of cut loaded.seen) h.account next_round
   sound_loaded =
-      subst (λ p. IsSoundRound b p (prefix_of front loaded.seen) h.account next_round) (sym (ap (λ (v : Knowledge). v.first) told.loads.same))
-      (subst (λ (list : List Publication). IsSoundRound b told.decided.first (prefix_of front list) h.account next_round) (sym seen_is) sound_decided)
+      subst (λ p. IsSoundRound b p (prefix_of cut loaded.seen) h.account next_round) (sym (ap (λ (v : Knowledge). v.first) told.loads.same))
+      (subst (λ (list : List Publication). IsSoundRound b told.decided.first (prefix_of cut list) h.account next_round) (sym seen_is) sound_decided)
 
   sees_loaded : SeesDecision loaded h.account next_round d
   sees_loaded =
@@ -169,7 +129,7 @@ module _ (start mark : Knowledge) (totals : TotalSums) (h : HelpingTerms) (front
       (record {
         view = record {
           process = omega (arith, so.seat.known, after_loads.first);
-          front = front_loaded;
+          cut = cut_loaded;
           own = counts_own;
         };
         entry = (sound_loaded, inl (sees_loaded, (request_of told.request, told.loads.sees, refl)));
@@ -177,11 +137,11 @@ module _ (start mark : Knowledge) (totals : TotalSums) (h : HelpingTerms) (front
 
   -- the record is published: the round is decided and published
   module _ (after : Knowledge) (published : Publishes b loaded after (published_by loaded.first rec)) where
-    pub DecidesNext-HasLoadedDecided : DecidesNext b start after h front d
+    pub DecidesNext-HasLoadedDecided : DecidesNext b start after h cut d
     DecidesNext-HasLoadedDecided = record {
       unsettled = so.unsettled;
       proposal = told.decides.proposal;
-      at_front = told.decides.proposes.at_front;
+      at_cut = told.decides.proposes.at_cut;
       may = told.decides.proposes.may;
       decided = told.decided;
       decides = told.decides.decides;

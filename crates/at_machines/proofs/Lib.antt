@@ -1,3 +1,4 @@
+pub mod Prelude
 pub mod Laws
 pub mod CollectingLaws
 pub mod LoadingLaws

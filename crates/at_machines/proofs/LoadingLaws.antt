@@ -1,19 +1,6 @@
 -- The words of a record that are loaded one after another.
 use Rattle.std.proofs.Common.{◌≡◌, ℕ, ◌+◌, ◌<◌, List, length, get_or, set, sym, subst, ◌∙◌, arith, below_more, zero-add}
-use Rattle.std.proofs.lemmas.Grind.{same_number_lists}
-use Rattle.std.proofs.lemmas.List.{get_or-set_other, get_or-set_same, get_or_append_left, length-set}
-use Rattle.at_history.specs.BoardState.{publication_at}
-use Rattle.at_history.specs.Publications.{publications_of}
-use Rattle.at_history.specs.declared.publication.Publication.{Publication}
-use Rattle.at_board.specs.Knowledge.Records.{IsRecordWord, SeesRecord}
-use Rattle.at_board.specs.Knowledge.Seats.{IsKept}
-use Rattle.at_board.specs.Words.Packed.{entry_words}
-use Rattle.at_board.specs.declared.knowledge.Knowledge.{Knowledge}
-use Rattle.at_board.specs.declared.words.TheConstants.{RECORD_WORDS}
-use Rattle.at_log.proofs.Laws.SeenRecords.{IsViewOf-IsLoaded, get_or-record_words}
-use Rattle.at_log.specs.Loading.{IsViewOf}
-use Rattle.at_machines.specs.Kept.{IsLoadingSo}
-use Rattle.at_machines.specs.Loading.{LoadingTerms, loading_after, starting_loading}
+use Rattle.at_machines.proofs.Prelude.{same_number_lists, get_or-set_other, get_or-set_same, get_or_append_left, length-set, publication_at, publications_of, Publication, IsRecordWord, SeesRecord, IsKept, entry_words, Knowledge, RECORD_WORDS, IsViewOf-IsLoaded, get_or-record_words, IsViewOf, IsLoadingSo, LoadingTerms, loading_after, starting_loading}
 
 pub IsLoadingSo-start : (v : Knowledge) (p i first : ℕ) (words : List ℕ) → SeesRecord v p i → IsLoadingSo (starting_loading v p i) first words
 IsLoadingSo-start v p i first words seen = record {

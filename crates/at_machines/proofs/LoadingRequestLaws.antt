@@ -1,23 +1,6 @@
 -- A load of an announced request from one turn to the next.
 use Rattle.std.proofs.Common.{◌≡◌, ℕ, ◌<◌, ◌^◌, List, length, get_or, set, sym, ap, subst, ◌∙◌, arith, inl, inr}
-use Rattle.std.proofs.lemmas.Bool.{cases_lt}
-use Rattle.at_ledger.specs.Book.{BookTerms}
-use Rattle.at_history.specs.declared.request.Request.{Request}
-use Rattle.at_board.specs.Knowledge.Seats.{IsKept}
-use Rattle.at_board.specs.Steps.LoadRequestWord.{KnowsOf, LoadsRequestWord, MayLoadRequest}
-use Rattle.at_board.specs.Words.Packed.{request_words}
-use Rattle.at_board.specs.Words.Targets.{ArePacked, accounts_of}
-use Rattle.at_board.specs.declared.knowledge.Knowledge.{Knowledge}
-use Rattle.at_board.specs.declared.words.TheConstants.{REQUEST_WORDS}
-use Rattle.at_rows.proofs.Laws.Accounts.{HasAccount, HasAccount-IsSeat}
-use Rattle.at_rows.proofs.Laws.Loading.{IsLoaded-more, IsLoaded-start, KnowsOf-IsLoaded, LoadsRequest-IsLoading, account-KnowsOf, since-IsLoading}
-use Rattle.at_rows.specs.Asks.{opened}
-use Rattle.at_rows.specs.Loading.{IsLoading}
-use Rattle.at_rows.specs.Loads.{LoadsRequest}
-use Rattle.at_rows.specs.declared.open_request.OpenRequest.{OpenRequest}
-use Rattle.at_board.specs.Knowledge.Parts.{own_part}
-use Rattle.at_machines.specs.KeptRequests.{IsLoadingRequestSo}
-use Rattle.at_machines.specs.LoadingRequest.{LoadingRequestTerms, request_after, starting_request}
+use Rattle.at_machines.proofs.Prelude.{cases_lt, BookTerms, Request, IsKept, KnowsOf, LoadsRequestWord, MayLoadRequest, request_words, ArePacked, accounts_of, Knowledge, REQUEST_WORDS, HasAccount, HasAccount-IsSeat, IsLoaded-more, IsLoaded-start, KnowsOf-IsLoaded, LoadsRequest-IsLoading, account-KnowsOf, since-IsLoading, opened, IsLoading, LoadsRequest, OpenRequest, own_part, IsLoadingRequestSo, LoadingRequestTerms, request_after, starting_request}
 
 pub IsLoadingRequestSo-start : (v : Knowledge) (a slot number : ℕ) (words : List ℕ) → IsKept v → KnowsOf v a slot number
     → IsLoadingRequestSo (starting_request v a slot number) words

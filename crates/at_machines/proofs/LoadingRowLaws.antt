@@ -1,19 +1,6 @@
 -- The row of an owner from one turn to the next.
 use Rattle.std.proofs.Common.{◌≡◌, ℕ, ◌+◌, Some, refl, sym, subst, ◌∙◌}
-use Rattle.at_ledger.specs.Book.{BookTerms}
-use Rattle.at_board.specs.Knowledge.Parts.{own_part}
-use Rattle.at_board.specs.Steps.LoadAnnounced.{LoadsAnnounced}
-use Rattle.at_board.specs.declared.knowledge.Knowledge.{Knowledge}
-use Rattle.at_rows.proofs.Laws.Accounts.{HasAccount, HasAccount-IsSeat}
-use Rattle.at_rows.proofs.Laws.Rows.{LoadsRow-other, LoadsRow-own}
-use Rattle.at_rows.specs.Loads.{LoadsRequest}
-use Rattle.at_rows.specs.Rows.{LoadsRow}
-use Rattle.at_rows.specs.declared.open_request.OpenRequest.{OpenRequest}
-use Rattle.at_machines.specs.KeptRows.{IsLoadingRowSo}
-use Rattle.at_machines.specs.LoadingRequest.{LoadingRequestTerms}
-use Rattle.at_machines.specs.LoadingRow.{LoadingRowTerms}
-use Rattle.at_machines.specs.declared.row_stage.RowStage.{RowStage}
-use Rattle.at_machines.specs.declared.row_stage.RowStage.TheVariants.{Announced, Last}
+use Rattle.at_machines.proofs.Prelude.{BookTerms, own_part, LoadsAnnounced, Knowledge, HasAccount, HasAccount-IsSeat, LoadsRow-other, LoadsRow-own, LoadsRequest, LoadsRow, OpenRequest, IsLoadingRowSo, LoadingRequestTerms, LoadingRowTerms, RowStage, Announced, Last}
 
 -- the seat has something on the account
 has_account : (r : LoadingRowTerms) (stage : RowStage) → IsLoadingRowSo r stage → HasAccount r.start r.account

@@ -1,38 +1,22 @@
 -- A look from one turn to the next.
 use Rattle.std.proofs.Common.{◌≡◌, ℕ, ◌+◌, ◌≤◌, List, ap, length, sym, subst, ◌∙◌, arith}
-use Rattle.std.specs.List.{sum}
-use Rattle.at_ledger.specs.Book.{BookTerms}
-use Rattle.at_history.proofs.Laws.Fronts.{length-IsFront, place-IsFront-le, sum-Covers-le}
-use Rattle.at_history.proofs.Laws.Histories.{ArePublishedBy-IsHistory}
-use Rattle.at_history.specs.Fronts.{places_max}
-use Rattle.at_board.specs.declared.knowledge.Knowledge.{Knowledge}
-use Rattle.at_fold.proofs.Laws.MorePublished.{StaysCounted-HasCounted}
-use Rattle.at_fold.specs.HasCounted.{HasCounted, StaysCounted}
-use Rattle.at_fold.specs.Sums.{TotalSums}
-use Rattle.at_single.proofs.Laws.Looks.{Covers-IsSnapshot}
-use Rattle.at_single.specs.Looks.{HasLooked}
-use Rattle.at_snapshot.specs.Collected.{HasLoaded}
-use Rattle.at_machines.specs.CatchingUp.{CatchingUpTerms, loads_left}
-use Rattle.at_machines.specs.KeptLooking.{IsLookingSo}
-use Rattle.at_machines.specs.KeptSnapshots.{IsSnapped}
-use Rattle.at_machines.specs.Snapping.{SnappingTerms}
-use Rattle.at_machines.specs.declared.look_stage.LookStage.TheVariants.{CatchUp, Snap}
+use Rattle.at_machines.proofs.Prelude.{sum, BookTerms, length-IsCut, place-IsCut-le, sum-Covers-le, ArePublishedBy-IsHistory, places_max, Knowledge, StaysCounted-HasCounted, HasCounted, StaysCounted, TotalSums, Covers-IsSnapshot, HasLooked, HasLoaded, CatchingUpTerms, loads_left, IsLookingSo, IsSnapped, SnappingTerms, CatchUp, Snap}
 
--- a front counts at most what is seen
-pub sum-IsSnapped : (b : BookTerms) (v w : Knowledge) (front : List ℕ) → IsSnapped b v w front → sum front ≤ length w.seen
-sum-IsSnapped b v w front snapped =
-    place-IsFront-le b.processes front w.seen snapped.snapshot.front (ArePublishedBy-IsHistory b w.seen snapped.loads.history)
+-- a cut counts at most what is seen
+pub sum-IsSnapped : (b : BookTerms) (v w : Knowledge) (cut : List ℕ) → IsSnapped b v w cut → sum cut ≤ length w.seen
+sum-IsSnapped b v w cut snapped =
+    place-IsCut-le b.processes cut w.seen snapped.snapshot.cut (ArePublishedBy-IsHistory b w.seen snapped.loads.history)
 
 -- and so it is no more than the logs have room for
-pub few-IsSnapped : (b : BookTerms) (v w : Knowledge) (front : List ℕ) → IsSnapped b v w front → sum front ≤ places_max
-few-IsSnapped b v w front snapped = omega (arith, sum-IsSnapped b v w front snapped, snapped.loads.history.few)
+pub few-IsSnapped : (b : BookTerms) (v w : Knowledge) (cut : List ℕ) → IsSnapped b v w cut → sum cut ≤ places_max
+few-IsSnapped b v w cut snapped = omega (arith, sum-IsSnapped b v w cut snapped, snapped.loads.history.few)
 
 -- and at least what totals had counted before
-pub more-IsSnapped : (b : BookTerms) (v w : Knowledge) (was : TotalSums) (front : List ℕ) → HasCounted was b v.seen → IsSnapped b v w front
-    → sum was.upto ≤ sum front
-more-IsSnapped b v w was front counted snapped =
-    sum-Covers-le front was.upto (length-IsFront b.processes front w.seen snapped.snapshot.front ∙ sym counted.processes)
-    (Covers-IsSnapshot b v w was front snapped.snapshot counted)
+pub more-IsSnapped : (b : BookTerms) (v w : Knowledge) (was : TotalSums) (cut : List ℕ) → HasCounted was b v.seen → IsSnapped b v w cut
+    → sum was.upto ≤ sum cut
+more-IsSnapped b v w was cut counted snapped =
+    sum-Covers-le cut was.upto (length-IsCut b.processes cut w.seen snapped.snapshot.cut ∙ sym counted.processes)
+    (Covers-IsSnapshot b v w was cut snapped.snapshot counted)
 
 -- what was counted at the start stays counted
 pub StaysCounted-HasLoaded : (b : BookTerms) (v w : Knowledge) (was : TotalSums) → HasCounted was b v.seen → HasLoaded b v w → StaysCounted was b w.seen
@@ -40,15 +24,15 @@ StaysCounted-HasLoaded b v w was counted loads =
     StaysCounted-HasCounted was b w.seen (StaysCounted-HasCounted was b v.seen counted w.seen loads.more)
 
 module _ (start mark w : Knowledge) (was totals : TotalSums) (turns : ℕ) (s : SnappingTerms) (so : IsLookingSo start mark was totals turns (Snap s)) where
-  -- nothing new is counted by the front
-  pub HasLooked-snapped : (front : List ℕ) → IsSnapped start.book start w front → totals.upto ≡ front → HasLooked start.book start w was totals front
-  HasLooked-snapped front snapped upto = record {
+  -- nothing new is counted by the cut
+  pub HasLooked-snapped : (cut : List ℕ) → IsSnapped start.book start w cut → totals.upto ≡ cut → HasLooked start.book start w was totals cut
+  HasLooked-snapped cut snapped upto = record {
     snapshot = snapped.snapshot;
     loads = snapped.loads;
     counted = subst (λ (t : TotalSums). StaysCounted t start.book w.seen) (sym so.stage_so.totals_are)
         (StaysCounted-HasLoaded start.book start w was so.counted snapped.loads);
     upto = upto;
-    more = more-IsSnapped start.book start w was front so.counted snapped;
+    more = more-IsSnapped start.book start w was cut so.counted snapped;
   }
 
 -- one more word is loaded

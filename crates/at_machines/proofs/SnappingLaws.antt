@@ -1,33 +1,6 @@
 -- A snapshot from one turn to the next.
 use Rattle.std.proofs.Common.{◌≡◌, ℕ, suc, ◌+◌, ◌-◌, ◌*◌, ◌<◌, ◌≤◌, List, length, get_or, refl, sym, ap, subst, ◌∙◌, arith, inl, inr, Option, Some, None}
-use Rattle.std.proofs.Math.Nat.{suc-mul}
-use Rattle.at_history.proofs.Laws.Prefixes.{IsPrefix-refl}
-use Rattle.at_history.specs.BoardState.{publication_at}
-use Rattle.at_history.specs.Publications.{IsPrefix, publications_of}
-use Rattle.at_history.specs.declared.publication.Publication.{Publication}
-use Rattle.at_board.specs.declared.knowledge.Knowledge.{Knowledge}
-use Rattle.at_board.specs.Knowledge.Parts.{loads_of, own_part}
-use Rattle.at_board.specs.Knowledge.Seats.{IsKept, SeatTerms}
-use Rattle.at_board.specs.Steps.LoadLength.{LoadsLength}
-use Rattle.at_ledger.specs.Book.{BookTerms}
-use Rattle.at_snapshot.proofs.Laws.Loads.{HasLoaded-LoadsLength, HasLoaded-trans, parts-HasLoaded}
-use Rattle.at_snapshot.proofs.Laws.Turns.{IsSnapped-IsSnapping, IsSnapping-Again, IsSnapping-start, turns_left-some}
-use Rattle.at_snapshot.proofs.Laws.Verdicts.{IsAnswer-IsVerdictOn, OnCounts-IsAnswer}
-use Rattle.at_snapshot.specs.Collected.{HasLoaded, IsCollect, collect_of}
-use Rattle.at_snapshot.specs.Scans.{IsScanOf, ScanTerms, collects_after, starting_scan}
-use Rattle.at_snapshot.specs.Snapping.{IsSnapping}
-use Rattle.at_snapshot.specs.Snapshots.{IsSnapshot, OnCounts}
-use Rattle.at_snapshot.specs.Verdicts.{IsVerdictOn, answer_of}
-use Rattle.at_snapshot.specs.declared.collects.Collects.{Collects}
-use Rattle.at_snapshot.specs.declared.collects.Verdict.{Verdict}
-use Rattle.at_snapshot.specs.declared.collects.Verdict.TheVariants.{Lent, Repeated, Undecided}
-use Rattle.at_snapshot.specs.declared.scan.Turn.{Turn}
-use Rattle.at_machines.specs.Collecting.{CollectingTerms, LoadsLengthOf, collecting_after, starting_collecting}
-use Rattle.at_machines.specs.Loading.{starting_loading}
-use Rattle.at_machines.specs.KeptSnapshots.{HasLoadedSoFar, IsSnapped, IsSnappingSo, LeadsTo, TurnsStage, scan_of}
-use Rattle.at_machines.specs.Snapping.{left_of}
-use Rattle.at_machines.specs.declared.stage.Stage.{Stage}
-use Rattle.at_machines.specs.declared.stage.Stage.TheVariants.{Borrow, Collect, Ended}
+use Rattle.at_machines.proofs.Prelude.{suc-mul, IsPrefix-refl, publication_at, IsPrefix, publications_of, Publication, Knowledge, loads_of, own_part, IsKept, SeatTerms, LoadsLength, BookTerms, HasLoaded-LoadsLength, HasLoaded-trans, parts-HasLoaded, IsSnapped-IsSnapping, IsSnapping-Again, IsSnapping-start, turns_left-some, IsAnswer-IsVerdictOn, OnCounts-IsAnswer, HasLoaded, IsCollect, collect_of, IsScanOf, ScanTerms, collects_after, starting_scan, IsSnapping, IsSnapshot, OnCounts, IsVerdictOn, answer_of, Collects, Verdict, Lent, Repeated, Undecided, Turn, CollectingTerms, LoadsLengthOf, collecting_after, starting_collecting, starting_loading, HasLoadedSoFar, IsSnapped, IsSnappingSo, LeadsTo, TurnsStage, scan_of, left_of, Stage, Borrow, Collect, Ended}
 
 pub IsSnappingSo-start : (v : Knowledge) → IsKept v → IsSnappingSo v v None 0 (Collect (starting_collecting v))
 IsSnappingSo-start v kept =

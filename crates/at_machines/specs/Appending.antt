@@ -1,16 +1,6 @@
 -- Appends that are made one store a turn.
 use Rattle.std.specs.Prelude.{ℕ, ◌+◌, ◌==◌, slice_index, Option, None, Some, if◌then◌else◌}
-use Rattle.at_ledger.specs.Book.{BookTerms}
-use Rattle.at_history.specs.declared.publication.Publication.{Publication}
-use Rattle.at_board.specs.declared.knowledge.Knowledge.{Knowledge}
-use Rattle.at_board.specs.declared.step.BoardStep.{BoardStep}
-use Rattle.at_board.specs.declared.step.BoardWord.{BoardWord}
-use Rattle.at_board.specs.Knowledge.Parts.{own_part}
-use Rattle.at_board.specs.Steps.StoreRecordWord.{StoresWord}
-use Rattle.at_board.specs.Words.Addresses.{record_width}
-use Rattle.at_board.specs.Words.Packed.{record_words}
-use Rattle.at_log.specs.declared.record.Record.{Record}
-use Rattle.at_log.specs.ClosingTerms.{published_by}
+use Rattle.at_machines.specs.Prelude.{BookTerms, Publication, Knowledge, BoardStep, BoardWord, own_part, StoresWord, record_width, record_words, Record, published_by}
 
 -- an append by what its seat knew at the start and after the last turn, by its record, and by how many stores were made
 pub record AppendingTerms : Type 0 where

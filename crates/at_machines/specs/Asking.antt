@@ -1,18 +1,6 @@
 -- Asking that is made one store a turn.
 use Rattle.std.specs.Prelude.{ℕ, ◌+◌, ◌==◌, List, length, slice_index, Option, None, Some, if◌then◌else◌}
-use Rattle.at_ledger.specs.Account.{slot_in}
-use Rattle.at_ledger.specs.Book.{BookTerms, HasSlot, account_of}
-use Rattle.at_ledger.specs.Call.{TargetPair}
-use Rattle.at_history.specs.declared.request.Request.{Request}
-use Rattle.at_board.specs.Knowledge.Parts.{asking_on, own_part}
-use Rattle.at_board.specs.Steps.Announce.{Announces}
-use Rattle.at_board.specs.Steps.StoreRequestWord.{StoresRequestWord}
-use Rattle.at_board.specs.Words.Packed.{request_words}
-use Rattle.at_board.specs.declared.knowledge.Knowledge.{Knowledge}
-use Rattle.at_board.specs.declared.step.BoardStep.{BoardStep}
-use Rattle.at_board.specs.declared.step.BoardWord.{BoardWord}
-use Rattle.at_board.specs.declared.words.TheConstants.{REQUEST_WORDS}
-use Rattle.at_rows.specs.Asks.{asked_for}
+use Rattle.at_machines.specs.Prelude.{slot_in, BookTerms, HasSlot, account_of, TargetPair, Request, asking_on, own_part, Announces, StoresRequestWord, request_words, Knowledge, BoardStep, BoardWord, REQUEST_WORDS, asked_for}
 
 -- asking by what its seat knew at the start and after the last turn, by the account, the targets and the `since`, and by how many
 -- stores were made

@@ -1,12 +1,6 @@
 -- Totals that catch up with counts, one load a turn.
 use Rattle.std.specs.Prelude.{◌≡◌, ℕ, ◌+◌, ◌-◌, ◌*◌, ◌<◌, ◌==◌, List, slice_index, slice_set, sum, Option, Some, None, if◌then◌else◌}
-use Rattle.at_ledger.specs.Book.{BookTerms}
-use Rattle.at_board.specs.Steps.LoadRecordWord.{MayLoadWord}
-use Rattle.at_board.specs.declared.knowledge.Knowledge.{Knowledge}
-use Rattle.at_board.specs.declared.step.BoardStep.{BoardStep}
-use Rattle.at_board.specs.declared.step.BoardWord.{BoardWord}
-use Rattle.at_board.specs.declared.words.TheConstants.{RECORD_WORDS}
-use Rattle.at_fold.specs.Sums.{TotalSums}
+use Rattle.at_machines.specs.Prelude.{BookTerms, MayLoadWord, Knowledge, BoardStep, BoardWord, RECORD_WORDS, TotalSums}
 use Rattle.at_machines.specs.Loading.{LoadingTerms}
 
 -- totals that catch up, by the counts that they are to reach, by what their seat knows, by what they have counted after the last turn,

@@ -1,11 +1,6 @@
 -- Collects that are made one load a turn.
 use Rattle.std.specs.Prelude.{ℕ, ◌+◌, ◌==◌, Option, None, Some, if◌then◌else◌}
-use Rattle.at_ledger.specs.Book.{BookTerms}
-use Rattle.at_board.specs.declared.knowledge.Knowledge.{Knowledge}
-use Rattle.at_board.specs.Knowledge.Parts.{loads_of, own_part}
-use Rattle.at_board.specs.Steps.LoadLength.{LoadsLength}
-use Rattle.at_board.specs.declared.step.BoardStep.{BoardStep}
-use Rattle.at_board.specs.declared.step.BoardWord.{BoardWord}
+use Rattle.at_machines.specs.Prelude.{BookTerms, Knowledge, loads_of, own_part, LoadsLength, BoardStep, BoardWord}
 
 -- a collect by what its seat knew at the start and after the last turn, and by how many lengths are loaded
 pub record CollectingTerms : Type 0 where

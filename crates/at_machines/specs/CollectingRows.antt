@@ -1,9 +1,6 @@
 -- Rows of an account that are collected one load a turn.
 use Rattle.std.specs.Prelude.{◌≡◌, ℕ, ◌+◌, ◌<◌}
-use Rattle.at_ledger.specs.Account.{slots_of}
-use Rattle.at_ledger.specs.Book.{BookTerms, account_of}
-use Rattle.at_board.specs.declared.knowledge.Knowledge.{Knowledge}
-use Rattle.at_rows.specs.declared.open_request.OpenRequest.{OpenRequest}
+use Rattle.at_machines.specs.Prelude.{slots_of, BookTerms, account_of, Knowledge, OpenRequest}
 use Rattle.at_machines.specs.LoadingRow.{MakesLoadOf, NextRowLoad}
 use Rattle.at_machines.specs.LoadingRow.NextRowLoad.{announced_word, request_word, nothing}
 

@@ -1,22 +1,6 @@
 -- Rounds of shared payments that are decided and published one step a turn.
 use Rattle.std.specs.Prelude.{◌≡◌, ℕ, ◌+◌, ◌-◌, ◌<◌, ◌≤◌, List, Option, None, Some}
-use Rattle.at_base.specs.declared.decision.Decision.{Decision}
-use Rattle.at_ledger.specs.Book.{BookTerms}
-use Rattle.at_history.specs.Fronts.{prefix_of}
-use Rattle.at_history.specs.Rounds.{rounds}
-use Rattle.at_history.specs.declared.publication.Publication.{Publication}
-use Rattle.at_board.specs.Steps.LoadRequestWord.{LoadsRequestWord}
-use Rattle.at_board.specs.Steps.Publish.{Publishes}
-use Rattle.at_board.specs.Steps.StoreRecordWord.{StoresWord}
-use Rattle.at_board.specs.Words.Addresses.{record_width}
-use Rattle.at_board.specs.declared.knowledge.Knowledge.{Knowledge}
-use Rattle.at_board.specs.declared.step.BoardStep.{BoardStep}
-use Rattle.at_board.specs.declared.step.BoardWord.{BoardWord}
-use Rattle.at_board.specs.declared.words.TheConstants.{RECORD_WORDS, REQUEST_WORDS}
-use Rattle.at_fold.specs.Sums.{TotalSums}
-use Rattle.at_rounds.specs.Answers.{DecidesAs}
-use Rattle.at_shared.specs.HelpingTerms.{HelpingTerms}
-use Rattle.at_shared.specs.Settling.{round_steps}
+use Rattle.at_machines.specs.Prelude.{Decision, BookTerms, prefix_of, rounds, Publication, LoadsRequestWord, Publishes, StoresWord, record_width, Knowledge, BoardStep, BoardWord, RECORD_WORDS, REQUEST_WORDS, TotalSums, DecidesAs, HelpingTerms, round_steps}
 use Rattle.at_machines.specs.Appending.{published_after, store_step}
 use Rattle.at_machines.specs.declared.round_stage.RoundStage.{RoundStage}
 use Rattle.at_machines.specs.declared.round_stage.RoundStage.TheVariants.{Proposing, Loading, Publishing, Ended}
@@ -29,14 +13,14 @@ pub data NextOfRound : Type 0 where
   record_word : (decision : Decision) (word : ℕ) → NextOfRound
   nothing : NextOfRound
 
--- a round by what its seat knew at the start and after the last turn, by the totals and the helping at the start, by the front, by
+-- a round by what its seat knew at the start and after the last turn, by the totals and the helping at the start, by the cut, by
 -- what comes next, and by how many turns are left
 pub record DecidingTerms : Type 0 where
   pub start : Knowledge
   pub mark : Knowledge
   pub totals : TotalSums
   pub helping : HelpingTerms
-  pub front : List ℕ
+  pub cut : List ℕ
   pub next : NextOfRound
   pub left : ℕ
 
@@ -55,8 +39,8 @@ left_of_round n (record_word d word) = (RECORD_WORDS + n + 1) - word
 left_of_round n nothing = 0
 
 abbrev pub starting_deciding : Knowledge → TotalSums → HelpingTerms → List ℕ → DecidingTerms
-starting_deciding v t h front =
-    record { start = v; mark = v; totals = t; helping = h; front = front; next = exchange; left = round_steps v.book.processes }
+starting_deciding v t h cut =
+    record { start = v; mark = v; totals = t; helping = h; cut = cut; next = exchange; left = round_steps v.book.processes }
 
 -- the round after one more turn, where this comes next
 abbrev pub deciding_after : DecidingTerms → Knowledge → NextOfRound → DecidingTerms
@@ -65,7 +49,7 @@ deciding_after c v next = record {
   mark = v;
   totals = c.totals;
   helping = c.helping;
-  front = c.front;
+  cut = c.cut;
   next = next;
   left = left_of_round c.start.book.processes next;
 }
@@ -84,9 +68,9 @@ publishes_in b (request_word d word) = 0
 publishes_in b (record_word d word) = published_after (record_width b) word
 publishes_in b nothing = 0
 
--- the round that is decided: the next one of the account at the front
+-- the round that is decided: the next one of the account at the cut
 abbrev pub round_in : DecidingTerms → ℕ
-round_in c = rounds c.helping.account (prefix_of c.front c.start.seen)
+round_in c = rounds c.helping.account (prefix_of c.cut c.start.seen)
 
 -- the next step
 abbrev pub step_in_round : BookTerms → DecidingTerms → NextOfRound → Option BoardStep

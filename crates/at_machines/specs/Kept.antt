@@ -1,12 +1,6 @@
 -- What the types of state machines keep of their fields, which no caller sees.
 use Rattle.std.specs.Prelude.{◌≡◌, ℕ, ◌+◌, ◌<◌, ◌≤◌, List, length, slice_index}
-use Rattle.at_board.specs.Knowledge.Records.{IsRecordWord, SeesRecord}
-use Rattle.at_board.specs.Knowledge.Seats.{IsKept}
-use Rattle.at_board.specs.Steps.Publish.{FitsNext}
-use Rattle.at_board.specs.Words.Addresses.{record_width}
-use Rattle.at_board.specs.Words.Packed.{record_words}
-use Rattle.at_log.specs.Appending.{IsStoring, MayAppend}
-use Rattle.at_snapshot.specs.Collected.{IsCollecting}
+use Rattle.at_machines.specs.Prelude.{IsRecordWord, SeesRecord, IsKept, FitsNext, record_width, record_words, IsStoring, MayAppend, IsCollecting}
 use Rattle.at_machines.specs.Appending.{AppendingTerms, publication_of}
 use Rattle.at_machines.specs.Collecting.{CollectingTerms}
 use Rattle.at_machines.specs.Loading.{LoadingTerms}

@@ -1,10 +1,6 @@
 -- What the type of asking in the making keeps of its fields, which no caller sees.
 use Rattle.std.specs.Prelude.{◌≡◌, ℕ, ◌≤◌}
-use Rattle.at_board.specs.Knowledge.Seats.{IsKept}
-use Rattle.at_board.specs.Words.Packed.{request_words}
-use Rattle.at_board.specs.declared.words.TheConstants.{REQUEST_WORDS}
-use Rattle.at_rows.specs.Asks.{MayAskFor}
-use Rattle.at_rows.specs.Storing.{IsStoringRequest}
+use Rattle.at_machines.specs.Prelude.{IsKept, request_words, REQUEST_WORDS, MayAskFor, IsStoringRequest}
 use Rattle.at_machines.specs.Asking.{AskingTerms, request_asked}
 use Rattle.at_machines.specs.declared.asking.Asking.TheInside.{Inside}
 

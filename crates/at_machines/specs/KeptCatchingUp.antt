@@ -1,10 +1,6 @@
 -- What the type of totals that catch up keeps of its fields, which no caller sees.
 use Rattle.std.specs.Prelude.{◌≡◌, ℕ, ◌<◌, ◌≤◌, List, slice_index, Option, Some, None}
-use Rattle.at_board.specs.declared.knowledge.Knowledge.{Knowledge}
-use Rattle.at_board.specs.declared.words.TheConstants.{RECORD_WORDS}
-use Rattle.at_board.specs.Knowledge.Seats.{IsKept}
-use Rattle.at_fold.specs.CatchingUp.{IsCatchingUp}
-use Rattle.at_fold.specs.Sums.{TotalSums}
+use Rattle.at_machines.specs.Prelude.{Knowledge, RECORD_WORDS, IsKept, IsCatchingUp, TotalSums}
 use Rattle.at_machines.specs.Loading.{LoadingTerms}
 
 -- what is loaded is the first record of process p that isn't counted, and the counts count it; nothing is where no process is left

@@ -1,10 +1,6 @@
 -- What the type of a look in the making keeps of its fields, which no caller sees.
 use Rattle.std.specs.Prelude.{◌≡◌, ℕ, ◌+◌, ◌<◌, ◌≤◌, sum}
-use Rattle.at_board.specs.Knowledge.Seats.{IsKept}
-use Rattle.at_board.specs.declared.knowledge.Knowledge.{Knowledge}
-use Rattle.at_fold.specs.HasCounted.{HasCounted}
-use Rattle.at_fold.specs.Sums.{TotalSums}
-use Rattle.at_snapshot.specs.Snapshots.{snapshot_steps}
+use Rattle.at_machines.specs.Prelude.{IsKept, Knowledge, HasCounted, TotalSums, snapshot_steps}
 use Rattle.at_machines.specs.CatchingUp.{CatchingUpTerms, loads_left}
 use Rattle.at_machines.specs.KeptSnapshots.{IsSnapped}
 use Rattle.at_machines.specs.Looking.{IsWithin}

@@ -1,9 +1,6 @@
 -- What the type of a load of a request in the making keeps of its fields, which no caller sees.
 use Rattle.std.specs.Prelude.{ℕ, ◌≤◌, List}
-use Rattle.at_board.specs.Knowledge.Seats.{IsKept}
-use Rattle.at_board.specs.Steps.LoadRequestWord.{KnowsOf}
-use Rattle.at_board.specs.declared.words.TheConstants.{REQUEST_WORDS}
-use Rattle.at_rows.specs.Loading.{IsLoaded}
+use Rattle.at_machines.specs.Prelude.{IsKept, KnowsOf, REQUEST_WORDS, IsLoaded}
 use Rattle.at_machines.specs.LoadingRequest.{LoadingRequestTerms}
 use Rattle.at_machines.specs.declared.loading_request.LoadingRequest.TheInside.{Inside}
 

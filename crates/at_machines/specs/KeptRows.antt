@@ -1,16 +1,6 @@
 -- What the types of rows in the making keep of their fields, which no caller sees.
 use Rattle.std.specs.Prelude.{◌≡◌, ◌≢◌, ℕ, ◌+◌, ◌<◌, ◌≤◌, List, length}
-use Rattle.at_ledger.specs.Account.{slots_of}
-use Rattle.at_ledger.specs.Book.{account_of}
-use Rattle.at_board.specs.Knowledge.Parts.{SeesRequest}
-use Rattle.at_board.specs.Knowledge.Seats.{IsKept}
-use Rattle.at_board.specs.declared.knowledge.Knowledge.{Knowledge}
-use Rattle.at_board.specs.Steps.LoadAnnounced.{LoadsAnnounced}
-use Rattle.at_board.specs.declared.words.TheConstants.{REQUEST_WORDS}
-use Rattle.at_rows.specs.Asks.{HasAsked}
-use Rattle.at_rows.specs.Collecting.{IsCollectingRows}
-use Rattle.at_rows.specs.OpenRequests.{request_of}
-use Rattle.at_rows.specs.declared.open_request.OpenRequest.{OpenRequest}
+use Rattle.at_machines.specs.Prelude.{slots_of, account_of, SeesRequest, IsKept, Knowledge, LoadsAnnounced, REQUEST_WORDS, HasAsked, IsCollectingRows, request_of, OpenRequest}
 use Rattle.at_machines.specs.LoadingRow.{LoadingRowTerms, next_in_row, row_turns}
 use Rattle.at_machines.specs.LoadingRow.NextRowLoad.{nothing}
 use Rattle.at_machines.specs.declared.row_stage.RowStage.{RowStage}

@@ -1,18 +1,6 @@
 -- What the type of a snapshot in the making keeps of its fields, which no caller sees.
 use Rattle.std.specs.Prelude.{◌≡◌, ◌↔◌, ℕ, ◌+◌, ◌-◌, ◌<◌, ◌⊎◌, List, slice_index, Option, Some, None, IfSome, IsSome}
-use Rattle.at_ledger.specs.Book.{BookTerms}
-use Rattle.at_history.specs.BoardState.{publication_at}
-use Rattle.at_history.specs.Publications.{publications_of}
-use Rattle.at_history.specs.declared.publication.Publication.{Publication}
-use Rattle.at_board.specs.declared.knowledge.Knowledge.{Knowledge}
-use Rattle.at_board.specs.Knowledge.Seats.{IsKept, SeatTerms}
-use Rattle.at_snapshot.specs.declared.collects.Collects.{Collects}
-use Rattle.at_snapshot.specs.declared.collects.Verdict.{Verdict}
-use Rattle.at_snapshot.specs.declared.collects.Verdict.TheVariants.{Lent, Repeated, Undecided}
-use Rattle.at_snapshot.specs.Scans.{ScanTerms, collects_after}
-use Rattle.at_snapshot.specs.Collected.{HasLoaded}
-use Rattle.at_snapshot.specs.Snapshots.{HasCollected, IsSnapshot}
-use Rattle.at_snapshot.specs.Snapping.{IsSnapping}
+use Rattle.at_machines.specs.Prelude.{BookTerms, publication_at, publications_of, Publication, Knowledge, IsKept, SeatTerms, Collects, Verdict, Lent, Repeated, Undecided, ScanTerms, collects_after, HasLoaded, HasCollected, IsSnapshot, IsSnapping}
 use Rattle.at_machines.specs.Collecting.{starting_collecting}
 use Rattle.at_machines.specs.Loading.{starting_loading}
 use Rattle.at_machines.specs.Snapping.{MakesLoad, MayFollow, left_of, next_of}

@@ -1,3 +1,4 @@
+pub mod Prelude
 pub mod Collecting
 pub mod Loading
 pub mod Appending

@@ -1,9 +1,6 @@
 -- Loads of a record that are made one word a turn.
 use Rattle.std.specs.Prelude.{ℕ, ◌+◌, ◌==◌, Option, None, Some, if◌then◌else◌}
-use Rattle.at_board.specs.declared.knowledge.Knowledge.{Knowledge}
-use Rattle.at_board.specs.declared.step.BoardStep.{BoardStep}
-use Rattle.at_board.specs.declared.step.BoardWord.{BoardWord}
-use Rattle.at_board.specs.declared.words.TheConstants.{RECORD_WORDS}
+use Rattle.at_machines.specs.Prelude.{Knowledge, BoardStep, BoardWord, RECORD_WORDS}
 
 -- a load by what its seat knows, by the record's process and its number there, and by how many words are loaded
 pub record LoadingTerms : Type 0 where

@@ -1,11 +1,6 @@
 -- Loads of announced requests that are made one word a turn.
 use Rattle.std.specs.Prelude.{ℕ, ◌+◌, ◌==◌, Option, None, Some, if◌then◌else◌}
-use Rattle.at_ledger.specs.Book.{BookTerms}
-use Rattle.at_board.specs.declared.knowledge.Knowledge.{Knowledge}
-use Rattle.at_board.specs.Steps.LoadRequestWord.{LoadsRequestWord}
-use Rattle.at_board.specs.declared.step.BoardStep.{BoardStep}
-use Rattle.at_board.specs.declared.step.BoardWord.{BoardWord}
-use Rattle.at_board.specs.declared.words.TheConstants.{REQUEST_WORDS}
+use Rattle.at_machines.specs.Prelude.{BookTerms, Knowledge, LoadsRequestWord, BoardStep, BoardWord, REQUEST_WORDS}
 
 -- a load by what its seat knew at the start and after the last turn, by the request's account, slot and number, and by how many
 -- words are loaded

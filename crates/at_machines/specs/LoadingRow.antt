@@ -1,13 +1,6 @@
 -- Rows of owners that are loaded one word a turn.
 use Rattle.std.specs.Prelude.{◌≡◌, ◌≢◌, ℕ, ◌+◌, ◌<◌, ◌⊎◌, Option, None, Some}
-use Rattle.at_ledger.specs.Book.{BookTerms}
-use Rattle.at_board.specs.Steps.LoadAnnounced.{LoadsAnnounced}
-use Rattle.at_board.specs.Steps.LoadRequestWord.{LoadsRequestWord}
-use Rattle.at_board.specs.declared.knowledge.Knowledge.{Knowledge}
-use Rattle.at_board.specs.declared.step.BoardStep.{BoardStep}
-use Rattle.at_board.specs.declared.step.BoardWord.{BoardWord}
-use Rattle.at_board.specs.declared.words.TheConstants.{REQUEST_WORDS}
-use Rattle.at_rows.specs.declared.open_request.OpenRequest.{OpenRequest}
+use Rattle.at_machines.specs.Prelude.{BookTerms, LoadsAnnounced, LoadsRequestWord, Knowledge, BoardStep, BoardWord, REQUEST_WORDS, OpenRequest}
 use Rattle.at_machines.specs.declared.row_stage.RowStage.{RowStage}
 use Rattle.at_machines.specs.declared.row_stage.RowStage.TheVariants.{Announced, Last, Ended}
 

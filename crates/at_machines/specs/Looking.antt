@@ -1,16 +1,6 @@
 -- Looks that are made one load a turn: a snapshot, and then the records that it counts and the totals don't.
 use Rattle.std.specs.Prelude.{◌≡◌, ℕ, ◌+◌, ◌-◌, ◌*◌, ◌<◌, ◌≤◌, List, sum, Option, None, Some}
-use Rattle.at_ledger.specs.Book.{BookTerms}
-use Rattle.at_history.specs.Fronts.{places_max}
-use Rattle.at_history.specs.declared.publication.Publication.{Publication}
-use Rattle.at_board.specs.Counting.{stepped}
-use Rattle.at_board.specs.Knowledge.Seats.{SeatTerms}
-use Rattle.at_board.specs.declared.knowledge.Knowledge.{Knowledge}
-use Rattle.at_board.specs.declared.step.BoardStep.{BoardStep}
-use Rattle.at_board.specs.declared.step.BoardWord.{BoardWord}
-use Rattle.at_board.specs.declared.words.TheConstants.{RECORD_WORDS}
-use Rattle.at_fold.specs.Sums.{TotalSums}
-use Rattle.at_snapshot.specs.Snapshots.{snapshot_steps}
+use Rattle.at_machines.specs.Prelude.{BookTerms, places_max, Publication, stepped, SeatTerms, Knowledge, BoardStep, BoardWord, RECORD_WORDS, TotalSums, snapshot_steps}
 use Rattle.at_machines.specs.CatchingUp.{LoadsNextWord, MayLoadLeft, catch_step, loads_left}
 use Rattle.at_machines.specs.Snapping.{MakesLoad, length_in, step_in}
 use Rattle.at_machines.specs.declared.look_stage.LookStage.{LookStage}

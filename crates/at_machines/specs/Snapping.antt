@@ -1,15 +1,6 @@
 -- Snapshots that are made one load a turn.
 use Rattle.std.specs.Prelude.{◌≡◌, ℕ, ◌+◌, ◌-◌, ◌*◌, ◌<◌, List, Option, None, Some}
-use Rattle.at_ledger.specs.Book.{BookTerms}
-use Rattle.at_history.specs.Publications.{IsPrefix}
-use Rattle.at_history.specs.declared.publication.Publication.{Publication}
-use Rattle.at_board.specs.Counting.{stepped}
-use Rattle.at_board.specs.Steps.LoadRecordWord.{MayLoadWord}
-use Rattle.at_board.specs.Knowledge.Seats.{SeatTerms}
-use Rattle.at_board.specs.declared.knowledge.Knowledge.{Knowledge}
-use Rattle.at_board.specs.declared.step.BoardStep.{BoardStep}
-use Rattle.at_board.specs.declared.step.BoardWord.{BoardWord}
-use Rattle.at_board.specs.declared.words.TheConstants.{RECORD_WORDS}
+use Rattle.at_machines.specs.Prelude.{BookTerms, IsPrefix, Publication, stepped, MayLoadWord, SeatTerms, Knowledge, BoardStep, BoardWord, RECORD_WORDS}
 use Rattle.at_machines.specs.Collecting.{LoadsLengthOf}
 use Rattle.at_machines.specs.declared.stage.Stage.{Stage}
 use Rattle.at_machines.specs.declared.stage.Stage.TheVariants.{Borrow, Collect, Ended}

@@ -1,12 +1,7 @@
 //! An append, a store a turn.
 
 ghost use Rattle.std.specs.Prelude.{◌≡◌, ◌+◌, ◌<◌, ◌≤◌, ◌↔◌, IsTrue};
-ghost use Rattle.at_board.specs.Counting.{raised};
-ghost use Rattle.at_board.specs.Knowledge.Seats.{IsOf};
-ghost use Rattle.at_board.specs.Steps.Publish.{Publishes};
-ghost use Rattle.at_board.specs.Words.Addresses.{record_width};
-ghost use Rattle.at_log.specs.Appending.{MayAppend};
-ghost use Rattle.at_log.specs.LastRecord.{IsLast};
+ghost use Rattle.at_machines.specs.Prelude.{raised, IsOf, Publishes, record_width, MayAppend, IsLast};
 ghost use Rattle.at_machines.specs.Appending.{StoresNextWord, append_step, appending_after, publication_of, starting_appending};
 
 use at_board::{Board, BoardSeat, BoardStep, BoardWord, Entry, RECORD_WORDS, record_word};

@@ -1,18 +1,12 @@
 //! Asking, a store a turn.
 
 ghost use Rattle.std.specs.Prelude.{◌≡◌, ℕ, ◌+◌, ◌<◌, ◌≤◌, ◌↔◌, length, IfSome, IsSome};
-ghost use Rattle.at_board.specs.Counting.{raised};
-ghost use Rattle.at_board.specs.Knowledge.Parts.{asking_on, own_part};
-ghost use Rattle.at_board.specs.Knowledge.Seats.{IsOf};
-ghost use Rattle.at_board.specs.Steps.Announce.{Announces};
-ghost use Rattle.at_board.specs.declared.words.TheConstants.{REQUEST_WORDS};
-ghost use Rattle.at_ledger.specs.Book.{HasSlot};
-ghost use Rattle.at_rows.specs.Asks.{HasAsked, HasLoadedNothing, MayAskFor, asked_for, opened};
+ghost use Rattle.at_machines.specs.Prelude.{raised, asking_on, own_part, IsOf, Announces, REQUEST_WORDS, HasSlot, HasAsked, HasLoadedNothing, MayAskFor, asked_for, opened};
 ghost use Rattle.at_machines.specs.Asking.{AnnouncesAsked, StoresNextRequestWord, ask_step, asking_after, request_asked, starting_to_ask};
 
 use at_board::{Board, BoardSeat, BoardStep, BoardWord, REQUEST_WORDS};
 use at_ledger::Targets;
-use at_rows::{OpenRequest, request_word};
+use at_requests::{OpenRequest, request_word};
 use std::marker::Model;
 use std::snapshot::Snapshot;
 

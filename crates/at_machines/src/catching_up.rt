@@ -1,13 +1,7 @@
 //! Counting what was published since, a load a turn.
 
 ghost use Rattle.std.specs.Prelude.{◌≡◌, ℕ, ◌+◌, ◌-◌, ◌*◌, ◌<◌, ◌≤◌, ◌↔◌, IfSome, IsSome, IsTrue, None, Some, length, slice_index, sum};
-ghost use Rattle.at_base.specs.Counts.{Covers};
-ghost use Rattle.at_board.specs.Counting.{stepped};
-ghost use Rattle.at_board.specs.Knowledge.Seats.{IsOf};
-ghost use Rattle.at_board.specs.declared.words.TheConstants.{RECORD_WORDS};
-ghost use Rattle.at_fold.specs.CatchingUp.{IsCatchingUp};
-ghost use Rattle.at_fold.specs.HasCounted.{HasCounted, HasRecords, StaysCounted};
-ghost use Rattle.at_history.specs.Publications.{count_of};
+ghost use Rattle.at_machines.specs.Prelude.{Covers, stepped, IsOf, RECORD_WORDS, IsCatchingUp, HasCounted, HasRecords, StaysCounted, count_of};
 ghost use Rattle.at_machines.specs.CatchingUp.{LoadsNextWord, MayLoadLeft, catch_step, loads_left};
 ghost use Rattle.at_machines.specs.Loading.{starting_loading};
 

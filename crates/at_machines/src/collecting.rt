@@ -1,12 +1,7 @@
 //! A collect, a load a turn.
 
 ghost use Rattle.std.specs.Prelude.{◌≡◌, ◌+◌, ◌^◌, ◌<◌, ◌↔◌, IfSome, IsSome};
-ghost use Rattle.at_board.specs.Counting.{raised};
-ghost use Rattle.at_board.specs.Knowledge.Overviews.{IsOverviewOf};
-ghost use Rattle.at_board.specs.Knowledge.Seats.{IsOf};
-ghost use Rattle.at_board.specs.Steps.LoadLength.{LoadsLength};
-ghost use Rattle.at_history.specs.Publications.{IsPrefix};
-ghost use Rattle.at_snapshot.specs.Collected.{IsCollect, collect_of};
+ghost use Rattle.at_machines.specs.Prelude.{raised, IsOverviewOf, IsOf, LoadsLength, IsPrefix, IsCollect, collect_of};
 ghost use Rattle.at_machines.specs.Collecting.{LoadsLengthOf, collect_step, collecting_after, starting_collecting};
 
 use at_base::Counts;

@@ -1,20 +1,13 @@
 //! Collecting the rows of an account, a load a turn.
 
 ghost use Rattle.std.specs.Prelude.{◌≡◌, ◌≢◌, ◌+◌, ◌-◌, ◌*◌, ◌≤◌, ◌↔◌, length, IfSome, IsSome};
-ghost use Rattle.at_board.specs.Counting.{raised};
-ghost use Rattle.at_board.specs.Knowledge.Candidates.{HasLoadedRows};
-ghost use Rattle.at_board.specs.Knowledge.Seats.{IsOf};
-ghost use Rattle.at_board.specs.declared.words.TheConstants.{REQUEST_WORDS};
-ghost use Rattle.at_ledger.specs.Account.{slots_of};
-ghost use Rattle.at_ledger.specs.Book.{account_of};
-ghost use Rattle.at_rows.specs.Asks.{HasAsked};
-ghost use Rattle.at_rows.specs.Rows.{AreCandidates, CollectsRows};
+ghost use Rattle.at_machines.specs.Prelude.{raised, HasLoadedRows, IsOf, REQUEST_WORDS, slots_of, account_of, HasAsked, AreCandidates, CollectsRows};
 ghost use Rattle.at_machines.specs.CollectingRows.{MakesNextLoad, rows_after, starting_rows};
 ghost use Rattle.at_machines.specs.LoadingRow.{NextRowLoad, row_step};
 
 use crate::loading_row::LoadingRow;
 use at_board::{Board, BoardSeat, BoardStep};
-use at_rows::{Asked, OpenRequest};
+use at_requests::{Asked, OpenRequest};
 use std::marker::Model;
 use std::mem::replace;
 use std::snapshot::Snapshot;

@@ -1,15 +1,7 @@
 //! One round of a shared payment, a step a turn.
 
 ghost use Rattle.std.specs.Prelude.{◌≡◌, ◌+◌, ◌<◌, ◌↔◌, false, slice_index, slice_set, IfSome, IsSome};
-ghost use Rattle.at_board.specs.Counting.{raised};
-ghost use Rattle.at_board.specs.Knowledge.Parts.{SeesDecision, own_part};
-ghost use Rattle.at_board.specs.Knowledge.Seats.{IsOf};
-ghost use Rattle.at_fold.specs.HasCounted.{CountsFront, HasCounted};
-ghost use Rattle.at_history.specs.Fronts.{prefix_of};
-ghost use Rattle.at_history.specs.Rounds.{is_settled};
-ghost use Rattle.at_log.specs.LastRecord.{IsLast};
-ghost use Rattle.at_shared.specs.HelpTurns.{DecidesNext};
-ghost use Rattle.at_shared.specs.Helpings.{IsHelpingAt};
+ghost use Rattle.at_machines.specs.Prelude.{raised, SeesDecision, own_part, IsOf, CountsCut, HasCounted, prefix_of, is_settled, IsLast, DecidesNext, IsHelpingAt};
 ghost use Rattle.at_machines.specs.Appending.{publication_of};
 ghost use Rattle.at_machines.specs.Deciding.{MakesRoundStep, deciding_after, exchanges_in, round_in, starting_deciding, step_in_round};
 ghost use Rattle.at_machines.specs.LoadingRequest.{starting_request};
@@ -20,15 +12,15 @@ use crate::round_stage::RoundStage;
 use at_base::{Counts, Decision};
 use at_board::{Board, BoardSeat, BoardStep, BoardWord};
 use at_fold::Totals;
-use at_rounds::propose;
-use at_shared::{Helping, record_of_round};
+use at_payments::{Helping, record_of_round};
+use at_requests::propose;
 use std::marker::Model;
 use std::snapshot::Snapshot;
 
 /// A round in the making: the exchange on its cell, the loads of the request that was decided, and the stores of its record.
 #[derive(Drop)]
 pub struct Deciding {
-    front: Counts,
+    cut: Counts,
     account: u32,
     round: u32,
     stage: RoundStage,
@@ -54,43 +46,43 @@ impl Model for Deciding {
       mark = d.mark.value.knows;
       totals = d.totals.value;
       helping = d.helping.value;
-      front = d.front;
+      cut = d.cut;
       next = next_of_round d.stage;
       left = left_of_round d.start.value.knows.book.processes
           (next_of_round d.stage);
     } };
 
     ghost invariant = { λ d. IsDecidingSo d.start.value.knows d.mark.value.knows d.totals.value
-        d.helping.value d.front d.account d.round d.stage };
+        d.helping.value d.cut d.account d.round d.stage };
 }
 
 impl Deciding {
-    /// Starts the next round at the front that the totals have counted, in no step. What it proposes is fixed here.
+    /// Starts the next round at the cut that the totals have counted, in no step. What it proposes is fixed here.
     pub fn start(
         board: &Board,
         seat: &BoardSeat,
         totals: &Totals,
         helping: &Helping,
-        front: Counts,
+        cut: Counts,
     ) -> Deciding
         requires seat { IsOf seat.now board.now }
         requires totals { HasCounted totals.now board.now.book seat.now.knows.seen }
-        requires at_front { CountsFront totals.now board.now.book seat.now.knows.seen }
-        requires front { totals.now.upto ≡ front }
-        requires own { slice_index front seat.now.knows.first
+        requires at_cut { CountsCut totals.now board.now.book seat.now.knows.seen }
+        requires cut { totals.now.upto ≡ cut }
+        requires own { slice_index cut seat.now.knows.first
             ≡ (own_part seat.now.knows).published }
         requires helping { IsHelpingAt board.now.book seat.now.knows
-            (prefix_of front seat.now.knows.seen) helping.now }
+            (prefix_of cut seat.now.knows.seen) helping.now }
         requires unsettled { is_settled helping.now.account helping.now.own.slot
-            helping.now.own.number (prefix_of front seat.now.knows.seen) ≡ false }
-        ensures { result ≡ starting_deciding seat.now.knows totals.now helping.now front }
+            helping.now.own.number (prefix_of cut seat.now.knows.seen) ≡ false }
+        ensures { result ≡ starting_deciding seat.now.knows totals.now helping.now cut }
     {
         seat.known();
         let account = helping.account();
         let round = totals.rounds(account);
-        let proposal = helping.proposal(board, seat, totals, &front);
+        let proposal = helping.proposal(board, seat, totals, &cut);
         Deciding {
-            front,
+            cut,
             account,
             round,
             stage: RoundStage::Proposing(proposal),
@@ -141,9 +133,9 @@ impl Deciding {
         ensures left { self.new.left + 1 ≡ self.old.left }
         ensures ends { IsSome result ↔ (self.new.left ≡ 0) }
         ensures decided { IfSome result (DecidesNext board.now.book self.old.start seat.new.knows
-            self.old.helping self.old.front) }
+            self.old.helping self.old.cut) }
         ensures upto { IfSome result (λ decision. totals.new.upto
-            ≡ slice_set self.old.front seat.new.knows.first (own_part seat.new.knows).published) }
+            ≡ slice_set self.old.cut seat.new.knows.first (own_part seat.new.knows).published) }
         ensures counted { IfSome result (λ decision. HasCounted totals.new board.now.book
             seat.new.knows.seen) }
         ensures waits { 0 < self.new.left → totals.new ≡ totals.old }
@@ -156,7 +148,7 @@ impl Deciding {
         let (a, r) = (self.account, self.round);
         match &mut self.stage {
             RoundStage::Proposing(proposal) => {
-                // Right here: at the front exactly the rounds before this one stand. Others may have decided it before, or do so
+                // Right here: at the cut exactly the rounds before this one stand. Others may have decided it before, or do so
                 // at the same time: one proposal wins, and all are answered that decision.
                 let decision = propose(board, seat, a, r, proposal);
                 self.mark = Snapshot::of(seat);
@@ -169,7 +161,7 @@ impl Deciding {
                 self.mark = Snapshot::of(seat);
                 let targets = loaded?.targets;
                 let decision = *decision;
-                let record = record_of_round(a, r, decision, targets, &self.front);
+                let record = record_of_round(a, r, decision, targets, &self.cut);
                 self.stage = RoundStage::Publishing(decision, Appending::start(seat, record));
                 None
             }

@@ -1,12 +1,7 @@
 //! A load of a record's entry, a word a turn.
 
 ghost use Rattle.std.specs.Prelude.{◌≡◌, ◌+◌, ◌<◌, ◌↔◌, IfSome, IsSome};
-ghost use Rattle.at_board.specs.Counting.{stepped};
-ghost use Rattle.at_board.specs.Knowledge.Records.{SeesRecord};
-ghost use Rattle.at_board.specs.Knowledge.Seats.{IsOf};
-ghost use Rattle.at_board.specs.Steps.LoadRecordWord.{MayLoadWord};
-ghost use Rattle.at_board.specs.declared.words.TheConstants.{RECORD_WORDS};
-ghost use Rattle.at_log.specs.Loading.{IsEntryOf};
+ghost use Rattle.at_machines.specs.Prelude.{stepped, SeesRecord, IsOf, MayLoadWord, RECORD_WORDS, IsEntryOf};
 ghost use Rattle.at_machines.specs.Loading.{entry_step, loading_after, starting_loading};
 
 use at_board::{Board, BoardSeat, BoardStep, BoardWord, Entry, RECORD_WORDS, entry_of};
@@ -26,7 +21,7 @@ pub struct LoadingEntry {
 
 impl Model for LoadingEntry {
     ghost use Rattle.std.specs.Prelude.{◌≡◌, length};
-    ghost use Rattle.at_board.specs.declared.words.TheConstants.{RECORD_WORDS};
+    ghost use Rattle.at_machines.specs.Prelude.{RECORD_WORDS};
     ghost use Rattle.at_machines.specs.Loading.{LoadingTerms};
 
     ghost Value = { LoadingTerms };

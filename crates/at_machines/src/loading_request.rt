@@ -1,15 +1,11 @@
 //! A load of an announced request, a word a turn.
 
 ghost use Rattle.std.specs.Prelude.{◌≡◌, ◌+◌, ◌<◌, ◌↔◌, IfSome, IsSome};
-ghost use Rattle.at_board.specs.Counting.{raised};
-ghost use Rattle.at_board.specs.Knowledge.Seats.{IsOf};
-ghost use Rattle.at_board.specs.Steps.LoadRequestWord.{KnowsOf};
-ghost use Rattle.at_board.specs.declared.words.TheConstants.{REQUEST_WORDS};
-ghost use Rattle.at_rows.specs.Loads.{LoadsRequest};
+ghost use Rattle.at_machines.specs.Prelude.{raised, IsOf, KnowsOf, REQUEST_WORDS, LoadsRequest};
 ghost use Rattle.at_machines.specs.LoadingRequest.{LoadsNextRequestWord, request_after, request_step, starting_request};
 
 use at_board::{Board, BoardSeat, BoardStep, BoardWord, REQUEST_WORDS};
-use at_rows::{OpenRequest, request_from};
+use at_requests::{OpenRequest, request_from};
 use std::marker::Model;
 use std::snapshot::Snapshot;
 
@@ -29,7 +25,7 @@ pub struct LoadingRequest {
 
 impl Model for LoadingRequest {
     ghost use Rattle.std.specs.Prelude.{◌≡◌, length};
-    ghost use Rattle.at_board.specs.declared.words.TheConstants.{REQUEST_WORDS};
+    ghost use Rattle.at_machines.specs.Prelude.{REQUEST_WORDS};
     ghost use Rattle.at_machines.specs.LoadingRequest.{LoadingRequestTerms};
 
     ghost Value = { LoadingRequestTerms };

@@ -1,19 +1,13 @@
 //! A load of an owner's row, a word a turn.
 
 ghost use Rattle.std.specs.Prelude.{◌≡◌, ◌≢◌, ◌+◌, ◌<◌, ◌↔◌, length, IfSome, IsSome};
-ghost use Rattle.at_board.specs.Counting.{raised};
-ghost use Rattle.at_board.specs.Knowledge.Parts.{SeesRequest};
-ghost use Rattle.at_board.specs.Knowledge.Seats.{IsOf};
-ghost use Rattle.at_ledger.specs.Account.{slots_of};
-ghost use Rattle.at_ledger.specs.Book.{account_of};
-ghost use Rattle.at_rows.specs.OpenRequests.{request_of};
-ghost use Rattle.at_rows.specs.Rows.{LoadsRow, row_steps};
+ghost use Rattle.at_machines.specs.Prelude.{raised, SeesRequest, IsOf, slots_of, account_of, request_of, LoadsRow, row_steps};
 ghost use Rattle.at_machines.specs.LoadingRow.{MakesRowLoad, NextRowLoad, row_after, row_step, row_turns, starting_row};
 
 use crate::loading_request::LoadingRequest;
 use crate::row_stage::RowStage;
 use at_board::{Board, BoardSeat, BoardStep, BoardWord};
-use at_rows::OpenRequest;
+use at_requests::OpenRequest;
 use std::marker::Model;
 use std::snapshot::Snapshot;
 

@@ -1,12 +1,7 @@
 //! A load of a record's view, a word a turn.
 
 ghost use Rattle.std.specs.Prelude.{◌≡◌, ◌+◌, ◌<◌, ◌↔◌, IfSome, IsSome};
-ghost use Rattle.at_board.specs.Counting.{stepped};
-ghost use Rattle.at_board.specs.Knowledge.Records.{SeesRecord};
-ghost use Rattle.at_board.specs.Knowledge.Seats.{IsOf};
-ghost use Rattle.at_board.specs.Steps.LoadRecordWord.{MayLoadWord};
-ghost use Rattle.at_board.specs.declared.words.TheConstants.{RECORD_WORDS};
-ghost use Rattle.at_log.specs.Loading.{IsViewOf};
+ghost use Rattle.at_machines.specs.Prelude.{stepped, SeesRecord, IsOf, MayLoadWord, RECORD_WORDS, IsViewOf};
 ghost use Rattle.at_machines.specs.Loading.{loading_after, starting_loading, view_step};
 
 use at_base::Counts;
@@ -27,7 +22,7 @@ pub struct LoadingView {
 
 impl Model for LoadingView {
     ghost use Rattle.std.specs.Prelude.{◌≡◌, length};
-    ghost use Rattle.at_board.specs.declared.words.TheConstants.{RECORD_WORDS};
+    ghost use Rattle.at_machines.specs.Prelude.{RECORD_WORDS};
     ghost use Rattle.at_machines.specs.Loading.{LoadingTerms};
 
     ghost Value = { LoadingTerms };

@@ -1,13 +1,7 @@
 //! What each call does first, a load a turn.
 
 ghost use Rattle.std.specs.Prelude.{◌≡◌, ◌+◌, ◌-◌, ◌<◌, ◌≤◌, ◌↔◌, IfSome, IsSome, length, sum};
-ghost use Rattle.at_board.specs.Counting.{raised};
-ghost use Rattle.at_board.specs.Knowledge.Overviews.{IsOverviewOf};
-ghost use Rattle.at_board.specs.Knowledge.Seats.{IsOf};
-ghost use Rattle.at_fold.specs.HasCounted.{HasCounted, StaysCounted};
-ghost use Rattle.at_single.specs.Looks.{HasLooked};
-ghost use Rattle.at_snapshot.specs.Collected.{HasLoaded};
-ghost use Rattle.at_snapshot.specs.Snapshots.{snapshot_steps};
+ghost use Rattle.at_machines.specs.Prelude.{raised, IsOverviewOf, IsOf, HasCounted, StaysCounted, HasLooked, HasLoaded, snapshot_steps};
 ghost use Rattle.at_machines.specs.Looking.{IsWithin, IsWithinOneMore, MakesLookLoad, first_load, look_turns_left, step_at};
 
 use crate::catching_up::CatchingUp;
@@ -97,7 +91,7 @@ impl Looking {
     }
 
     /// Makes the next load of the look, in one step. With the last one, the totals have counted what the snapshot counts, and it
-    /// answers the front.
+    /// answers the cut.
     pub fn turn(
         &mut self,
         board: &Board,
@@ -129,8 +123,8 @@ impl Looking {
         ensures ends { IsSome result ↔ (look_turns_left self.new.stage ≡ 0) }
         ensures looked { IfSome result (HasLooked board.now.book self.old.start seat.new.knows
             self.old.was totals.new) }
-        ensures within { IfSome result (λ front. IsWithin board.now.book.processes self.old.was
-            (sum front) self.new.turns) }
+        ensures within { IfSome result (λ cut. IsWithin board.now.book.processes self.old.was
+            (sum cut) self.new.turns) }
         ensures board { IsOf seat.new board.now }
         ensures steps { seat.new.steps ≡ raised seat.old.steps 1 }
         ensures exchanges { seat.new.exchanges ≡ seat.old.exchanges }
@@ -142,11 +136,11 @@ impl Looking {
                 let snapped = snapping.turn(board, seat, overview);
                 self.turns += 1;
                 self.mark = Snapshot::of(seat);
-                let front = snapped?;
-                let catching = CatchingUp::start(board, seat, totals, front.copy());
+                let cut = snapped?;
+                let catching = CatchingUp::start(board, seat, totals, cut.copy());
                 let is_ended = catching.is_ended();
                 become_next(&mut self.stage, LookStage::CatchUp(catching));
-                if is_ended { Some(front) } else { None }
+                if is_ended { Some(cut) } else { None }
             }
             LookStage::CatchUp(catching) => {
                 let caught = catching.turn(board, seat, totals);

@@ -1,11 +1,7 @@
 //! A snapshot, a load a turn.
 
 ghost use Rattle.std.specs.Prelude.{◌≡◌, ◌+◌, ◌<◌, ◌↔◌, IfSome, IsSome};
-ghost use Rattle.at_board.specs.Counting.{raised};
-ghost use Rattle.at_board.specs.Knowledge.Overviews.{IsOverviewOf};
-ghost use Rattle.at_board.specs.Knowledge.Seats.{IsOf};
-ghost use Rattle.at_snapshot.specs.Collected.{HasLoaded};
-ghost use Rattle.at_snapshot.specs.Snapshots.{HasCollected, IsSnapshot, snapshot_steps};
+ghost use Rattle.at_machines.specs.Prelude.{raised, IsOverviewOf, IsOf, HasLoaded, HasCollected, IsSnapshot, snapshot_steps};
 ghost use Rattle.at_machines.specs.Snapping.{MakesLoad, MayFollow, length_of, step_in};
 
 use crate::collecting::Collecting;

@@ -1,13 +1,7 @@
 //! Where a snapshot in the making stands.
 
 ghost use Rattle.std.specs.Prelude.{◌≡◌, ℕ, ◌+◌, ◌<◌, ◌≤◌, length, slice_index};
-ghost use Rattle.at_board.specs.Counting.{raised};
-ghost use Rattle.at_board.specs.Knowledge.Overviews.{IsOverviewOf};
-ghost use Rattle.at_board.specs.Knowledge.Seats.{IsOf};
-ghost use Rattle.at_board.specs.declared.knowledge.Knowledge.{Knowledge};
-ghost use Rattle.at_history.specs.Publications.{count_of};
-ghost use Rattle.at_snapshot.specs.Verdicts.{AreAsLong, IsVerdictOn};
-ghost use Rattle.at_snapshot.specs.declared.collects.Verdict.{Verdict};
+ghost use Rattle.at_machines.specs.Prelude.{raised, IsOverviewOf, IsOf, Knowledge, count_of, AreAsLong, IsVerdictOn, Verdict};
 ghost use Rattle.at_machines.specs.KeptSnapshots.{IsSnappingSo, LeadsTo, TurnsStage};
 ghost use Rattle.at_machines.specs.Snapping.{left_of};
 

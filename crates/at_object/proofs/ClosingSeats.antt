@@ -1,28 +1,6 @@
 -- What a closing asks of the crates below, and what it leaves.
 use Rattle.std.proofs.Common.{◌≡◌, ℕ, ◌<◌, ◌≤◌, List, [], Vec, Global, length, get_or, map, sym, ap, subst, ◌∙◌, arith}
-use Rattle.std.proofs.lemmas.List.{get_or-map, length-map}
-use Rattle.std.specs.List.{All}
-use Rattle.std.specs.Vec.{vec_capacity}
-use Rattle.at_history.specs.Histories.{IsHistory}
-use Rattle.at_history.specs.Publications.{IsPrefix, count_of, publications_of}
-use Rattle.at_ledger.specs.Book.{BookTerms}
-use Rattle.at_board.specs.Ends.Closing.{AreAllFree, EndTerms, IsEnd, records_of}
-use Rattle.at_board.specs.Ends.Opening.{starting_seat}
-use Rattle.at_board.specs.Knowledge.Parts.{own_part}
-use Rattle.at_board.specs.Knowledge.Seats.{BoardTerms, SeatTerms}
-use Rattle.at_closing.specs.BetweenCalls.{IsBetweenCalls}
-use Rattle.at_closing.specs.Standing.{AllStand, IsEndWith}
-use Rattle.at_log.proofs.Laws.EndedRecords.{length-records_of}
-use Rattle.at_log.specs.ClosingTerms.{log_published}
-use Rattle.at_log.specs.InTime.{KeepsTime}
-use Rattle.at_log.specs.Told.{Told}
-use Rattle.at_log.specs.declared.record.Record.{Record}
-use Rattle.at_log.specs.declared.receipt.Receipt.{Receipt}
-use Rattle.at_history.specs.Histories.{IsHistory}
-use Rattle.at_history.specs.Sound.{Sound}
-use Rattle.at_object.specs.Closings.{AreAccountedFor, ClosedTerms, HasAllLogs}
-use Rattle.at_object.specs.Parted.{IsAtRest}
-use Rattle.at_object.specs.Passes.{PassTerms, seat_of}
+use Rattle.at_object.proofs.Prelude.{get_or-map, length-map, All, vec_capacity, IsHistory, IsPrefix, count_of, publications_of, BookTerms, AreAllFree, EndTerms, IsEnd, records_of, starting_seat, own_part, BoardTerms, SeatTerms, IsBetweenCalls, AllStand, IsEndWith, length-records_of, log_published, KeepsTime, Told, Record, Receipt, Sound, AreAccountedFor, ClosedTerms, HasAllLogs, IsAtRest, PassTerms, seat_of}
 
 -- each list has the memory of as many records as its pass's process has published
 abbrev pub HasRooms : List PassTerms → List (Vec Record Global) → Type 0

@@ -1,3 +1,4 @@
+pub mod Prelude
 pub mod Laws
 -- closing: what the seats give
 pub mod ClosingSeats

@@ -1,19 +1,7 @@
 -- Own room that nobody can use: what is coherent on the book with the own room that can be used is so on the book.
 use Rattle.std.proofs.Common.{◌≡◌, ℕ, ◌≤◌, ◌==◌, ◌&&◌, ◌||◌, zero, suc, cond, Bool, false, List, [], ◌∷◌, get_or, take, refl, sym, ap, subst, ◌∙◌, arith, inl, inr}
-use Rattle.std.proofs.lemmas.Bool.{cases_Bool, or_parts}
-use Rattle.std.specs.List.{list_any}
-use Rattle.at_ledger.specs.Account.{AccountTerms, is_shared, is_single, no_account}
-use Rattle.at_ledger.specs.Book.{BookTerms, account_of, has_single, with_usable_room}
-use Rattle.at_ledger.specs.Call.{TargetPair}
-use Rattle.at_history.specs.declared.publication.Entry.{Entry}
-use Rattle.at_history.specs.declared.publication.Entry.TheVariants.{Own, Round}
-use Rattle.at_history.specs.declared.publication.Publication.{Publication}
-use Rattle.at_log.specs.ClosingTerms.{ClosingTerms}
-use Rattle.at_log.specs.Coherent.{Coherent, IsCoherentEntry}
-use Rattle.at_log.specs.Placed.{IsAtFront, IsAtRound, IsPlaced, MayPay, has_no_room, read, not_owner, full, short, done, round}
-use Rattle.at_log.specs.Receipts.{asks_in, owns_in, receipt_at}
-use Rattle.at_log.specs.Told.{Told}
-use Rattle.at_log.specs.declared.receipt.Receipt.{Receipt}
+use Rattle.at_object.proofs.Prelude.{cases_Bool, or_parts, list_any, AccountTerms, is_shared, is_single, no_account, BookTerms, account_of, has_single, with_usable_room, TargetPair, Entry, Own, Round, Publication, ClosingTerms, Coherent, IsCoherentEntry, IsAtCut, IsAtRound, IsPlaced, MayPay, has_no_room, asks_in, owns_in, receipt_at, Told, Receipt}
+use Rattle.at_log.specs.Placed.{read, not_owner, full, short, done, round}
 
 -- where no account of the list has one owner, that of no number has
 is_single-none : (ts : List AccountTerms) (a : ℕ) → list_any is_single ts ≡ false → is_single (get_or ts a no_account) ≡ false
@@ -41,9 +29,9 @@ module _ (b : BookTerms) (none : has_single b ≡ false) where
   MayPay-least p earlier source targets r may =
       record { call = may.call; owner = may.owner; room = has_no_room-least source earlier ∙ may.room }
 
-  IsAtFront-least : (list : List Publication) (account amount : ℕ) (r : Receipt) → IsAtFront least list account amount r
-      → IsAtFront b list account amount r
-  IsAtFront-least list account amount r at = record { view = at.view; front = at.front; at = at.at; balance = at.balance }
+  IsAtCut-least : (list : List Publication) (account amount : ℕ) (r : Receipt) → IsAtCut least list account amount r
+      → IsAtCut b list account amount r
+  IsAtCut-least list account amount r at = record { view = at.view; cut = at.cut; at = at.at; balance = at.balance }
 
   IsAtRound-least : (p : ℕ) (list : List Publication) (earlier : List Receipt) (source : ℕ) (targets : List TargetPair) (r : Receipt)
       → IsAtRound least p list earlier source targets r → IsAtRound b p list earlier source targets r
@@ -62,12 +50,12 @@ module _ (b : BookTerms) (none : has_single b ≡ false) where
   -- each receipt is right
   IsPlaced-least : (p : ℕ) (list : List Publication) (earlier : List Receipt) (r : Receipt) → IsPlaced least p list earlier r
       → IsPlaced b p list earlier r
-  IsPlaced-least p list earlier r (read account amount call reply front) =
-      read account amount call reply (IsAtFront-least list account amount r front)
+  IsPlaced-least p list earlier r (read account amount call reply cut) =
+      read account amount call reply (IsAtCut-least list account amount r cut)
   IsPlaced-least p list earlier r (not_owner source targets call owner reply at) = not_owner source targets call owner reply at
   IsPlaced-least p list earlier r (full source targets call owner room reply at) =
       full source targets call owner (has_no_room-least source earlier ∙ room) reply at
-  IsPlaced-least p list earlier r (short source amount targets may single reply front less) = cc (sym (not_single source) ∙ single)
+  IsPlaced-least p list earlier r (short source amount targets may single reply cut less) = cc (sym (not_single source) ∙ single)
   IsPlaced-least p list earlier r (done source targets may single reply own) = cc (sym (not_single source) ∙ single)
   IsPlaced-least p list earlier r (round source targets may shared at) =
       round source targets (MayPay-least p earlier source targets r may) shared (IsAtRound-least p list earlier source targets r at)
@@ -101,7 +89,7 @@ module _ (b : BookTerms) (none : has_single b ≡ false) where
   Coherent-least c some coherent = record {
     logs = coherent.logs;
     receipts = coherent.receipts;
-    fronts = record { sized = coherent.fronts.sized; chain = coherent.fronts.chain; ends = coherent.fronts.ends };
+    cuts = record { sized = coherent.cuts.sized; chain = coherent.cuts.chain; ends = coherent.cuts.ends };
     views = coherent.views;
     entries = λ p i within. IsCoherentEntry-least c p _ _ (coherent.entries p i within);
     own_room = λ p. omega (arith, coherent.own_room p, some);

@@ -1,8 +1,5 @@
 -- A pass may be moved to another thread: each part of it, from the inside out, since one search over all of them meets its limit.
-use denote.Param.Send.{IsSend, sendable, view_send}
-use denote.Param.SendFields.{declared_send, variants_send}
-use Rattle.std.proofs.Crossing.{crosses}
-use Rattle.at_board.proofs.Sharing.{table_seat_send}
+use Rattle.at_object.proofs.Prelude.{IsSend, sendable, view_send, declared_send, variants_send, crosses, table_seat_send}
 use Rattle.at_base.specs.contracts.decision.Decision as decision
 use Rattle.at_board.specs.contracts.seat.BoardSeat as seat
 use Rattle.at_fold.specs.contracts.account_totals.AccountTotals as account

@@ -1,12 +1,9 @@
 -- What calls may take, as numbers: of three processes, account 0 has all as owners and account 1 has one. Whoever changes what bounds a
 -- call changes these too.
 use Rattle.std.specs.Prelude.{ℕ, ◌+◌, ◌*◌, ◌≤◌, [], ◌∷◌}
-use Rattle.at_ledger.specs.Book.{BookTerms}
-use Rattle.at_ledger.specs.declared.call.Call.TheVariants.{Read, Transfer}
-use Rattle.at_log.specs.declared.receipt.Receipt.{Receipt}
+use Rattle.at_object.specs.Prelude.{BookTerms, Read, Transfer, Receipt, decides_made}
 use Rattle.at_object.specs.Calls.{StaysWithin}
 use Rattle.at_object.specs.Passes.{PassTerms, counted_anew}
-use Rattle.at_shared.specs.Helpings.{decides_made}
 
 abbrev pub three_processes : BookTerms
 three_processes = record {

@@ -1,6 +1,6 @@
 -- Counts of calls.
 use Rattle.std.specs.Prelude.{ℕ}
-use Rattle.atomic_table.specs.Seated.{TableId}
+use Rattle.at_object.specs.Prelude.{TableId}
 use Rattle.at_object.specs.Passes.{one_more_call}
 
 -- how many calls a process has made on the ledger of a board

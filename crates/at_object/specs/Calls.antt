@@ -1,26 +1,9 @@
 -- What a call of the object leaves of its pass, and what it may take.
 use Rattle.std.specs.Prelude.{◌≡◌, ◌≢◌, ℕ, ◌+◌, ◌*◌, ◌≤◌, ◌++◌, Bool, true, false, List, [], ◌∷◌, length}
-use Rattle.at_ledger.specs.Account.{is_shared, is_single, slots_of}
-use Rattle.at_ledger.specs.Book.{BookTerms, account_of}
-use Rattle.at_ledger.specs.Call.{TargetPair, first_account}
-use Rattle.at_ledger.specs.declared.call.Call.{Call}
-use Rattle.at_ledger.specs.declared.call.Reply.TheVariants.{Balance}
-use Rattle.at_history.specs.Balances.{balance_after}
-use Rattle.at_history.specs.Fronts.{prefix_of}
-use Rattle.at_history.specs.Histories.{IsHistory}
-use Rattle.at_history.specs.Publications.{IsPrefix}
-use Rattle.at_board.specs.Counting.{raised}
-use Rattle.at_board.specs.declared.words.TheConstants.{RECORD_WORDS}
-use Rattle.at_log.specs.Placed.{IsPlaced}
-use Rattle.at_log.specs.declared.receipt.At.{At}
-use Rattle.at_log.specs.declared.receipt.Receipt.{Receipt}
+use Rattle.at_object.specs.Prelude.{is_shared, is_single, slots_of, BookTerms, account_of, TargetPair, first_account, Call, Balance, balance_after, prefix_of, IsHistory, IsPrefix, raised, RECORD_WORDS, IsPlaced, At, Receipt, decides_made, decides_on, StandsAfter, cut_behind, IsSnapshot, snapshot_steps}
 use Rattle.at_object.specs.Paid.{HasLoadedFresh, PaysAlone, PaysInRound}
 use Rattle.at_object.specs.Passes.{PassTerms, Stands, asked_by, counted_anew, one_more_call, others_counted, sent_by}
 use Rattle.at_object.specs.Payments.{IsDecidedByBalance, IsRefused, payment_steps, reply_of}
-use Rattle.at_shared.specs.Helpings.{decides_made, decides_on}
-use Rattle.at_shared.specs.Settling.{StandsAfter}
-use Rattle.at_single.specs.Standing.{front_behind}
-use Rattle.at_snapshot.specs.Snapshots.{IsSnapshot, snapshot_steps}
 
 -- what a payment leaves of its pass
 pub record PaymentMade (book : BookTerms) (before after : PassTerms) (source : ℕ) (targets : List TargetPair) (call : Call) (receipt : Receipt) : Type 0 where
@@ -42,9 +25,9 @@ pub record PaymentMade (book : BookTerms) (before after : PassTerms) (source : �
 -- what a read leaves of its pass
 pub record ReadMade (book : BookTerms) (before after : PassTerms) (account : ℕ) (receipt : Receipt) : Type 0 where
   pub call_is : receipt.call ≡ Call.Read account
-  pub at_front : receipt.at ≡ At.Front (front_behind after.knows receipt.at)
-  pub reply : receipt.reply ≡ Balance (balance_after book (prefix_of (front_behind after.knows receipt.at) after.knows.seen) account)
-  pub snapshot : IsSnapshot book before.knows after.knows (front_behind after.knows receipt.at)
+  pub at_cut : receipt.at ≡ At.Cut (cut_behind after.knows receipt.at)
+  pub reply : receipt.reply ≡ Balance (balance_after book (prefix_of (cut_behind after.knows receipt.at) after.knows.seen) account)
+  pub snapshot : IsSnapshot book before.knows after.knows (cut_behind after.knows receipt.at)
   pub placed : (earlier : List Receipt) → Stands before earlier → IsPlaced book before.knows.first after.knows.seen earlier receipt
   pub stands : (earlier : List Receipt) → Stands before earlier → Stands after (earlier ++ receipt ∷ [])
   pub after_seen : StandsAfter (length before.knows.seen) after.knows receipt

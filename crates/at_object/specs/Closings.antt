@@ -1,15 +1,6 @@
 -- The closing of a ledger.
 use Rattle.std.specs.Prelude.{◌≡◌, ℕ, ◌<◌, List, [], length, slice_index_or, All, None}
-use Rattle.atomic_table.specs.Seated.{TableId}
-use Rattle.at_history.specs.BoardState.{BoardState}
-use Rattle.at_history.specs.Histories.{IsHistory}
-use Rattle.at_history.specs.Publications.{IsPrefix, count_of, publications_of}
-use Rattle.at_history.specs.Sound.{Sound}
-use Rattle.at_ledger.specs.Book.{BookTerms}
-use Rattle.at_board.specs.Knowledge.Seats.{BoardTerms}
-use Rattle.at_log.specs.ClosingTerms.{ClosingTerms, log_published}
-use Rattle.at_log.specs.InTime.{KeepsTime}
-use Rattle.at_log.specs.declared.receipt.Receipt.{Receipt}
+use Rattle.at_object.specs.Prelude.{TableId, BoardState, IsHistory, IsPrefix, count_of, publications_of, Sound, BookTerms, BoardTerms, ClosingTerms, log_published, KeepsTime, Receipt}
 use Rattle.at_object.specs.Passes.{IsPassOf, PassTerms, Stands}
 
 -- the pass is the ledger's for the process, these receipts stand with it, and they are as many as the calls that were made with it
@@ -32,7 +23,7 @@ pub record ClosedTerms : Type 0 where
   pub book : BookTerms
   pub closing : ClosingTerms
 
--- the logs are the publications of the board's last state, which is sound and in which no cell is held, cut by process. All that each
+-- the logs are the publications of the board's last state, which is sound and in which no cell is held, divided by process. All that each
 -- pass had seen is a prefix of that one list, which has no more of its process, and the journal's order keeps its time
 pub record HasAllLogs (passes : List PassTerms) (closed : ClosedTerms) : Type 0 where
   pub state : BoardState

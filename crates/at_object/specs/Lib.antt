@@ -1,3 +1,4 @@
+pub mod Prelude
 pub mod Passes
 pub mod CallCounts
 pub mod Payments

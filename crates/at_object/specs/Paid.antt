@@ -1,31 +1,16 @@
 -- What the payments of the crates below leave, whatever the call was: a transfer, or a pay-out to the same targets.
 use Rattle.std.specs.Prelude.{◌≡◌, ℕ, ◌+◌, ◌<◌, ◌≤◌, List, length, None}
-use Rattle.at_ledger.specs.Book.{BookTerms}
-use Rattle.at_ledger.specs.Call.{TargetPair}
-use Rattle.at_ledger.specs.declared.call.Call.{Call}
-use Rattle.at_ledger.specs.declared.call.Reply.TheVariants.{Done, Short}
-use Rattle.at_history.specs.Fronts.{prefix_of}
-use Rattle.at_history.specs.Publications.{IsPrefix}
-use Rattle.at_history.specs.Rounds.{owns_of}
-use Rattle.at_board.specs.Knowledge.Fresh.{fresh_loads}
-use Rattle.at_board.specs.Knowledge.Parts.{asking_on, loads_of, own_part}
-use Rattle.at_board.specs.declared.knowledge.Knowledge.{Knowledge}
-use Rattle.at_log.specs.Placed.{IsPlaced}
-use Rattle.at_log.specs.Receipts.{asks_in, owns_in}
-use Rattle.at_log.specs.declared.receipt.Receipt.{Receipt}
+use Rattle.at_object.specs.Prelude.{BookTerms, TargetPair, Call, Done, Short, prefix_of, IsPrefix, owns_of, fresh_loads, asking_on, loads_of, own_part, Knowledge, IsPlaced, asks_in, owns_in, Receipt, AsksOnce, StandsAfter, StandsAfterSnapshot, StandsInRound, StandsAfterCut, StandsAtCut, StandsAtOwn, cut_behind, payment_reply, IsSnapshot}
 use Rattle.at_object.specs.Passes.{PassTerms}
-use Rattle.at_shared.specs.Settling.{AsksOnce, StandsAfter, StandsAfterSnapshot, StandsInRound}
-use Rattle.at_single.specs.Standing.{StandsAfterFront, StandsAtFront, StandsAtOwn, front_behind, payment_reply}
-use Rattle.at_snapshot.specs.Snapshots.{IsSnapshot}
 
--- a payment from a single account was decided at the front of its snapshot
+-- a payment from a single account was decided at the cut of its snapshot
 pub record PaysAlone (book : BookTerms) (before after : Knowledge) (source : ℕ) (targets : List TargetPair) (call : Call) (receipt : Receipt) : Type 0 where
   pub call_is : receipt.call ≡ call
-  pub reply : receipt.reply ≡ payment_reply book (prefix_of (front_behind after receipt.at) after.seen) source targets
+  pub reply : receipt.reply ≡ payment_reply book (prefix_of (cut_behind after receipt.at) after.seen) source targets
   pub placed : (earlier : List Receipt) → owns_in earlier ≡ owns_of before.first before.seen → IsPlaced book before.first after.seen earlier receipt
-  pub after_front : StandsAfterFront after receipt
-  pub snapshot : IsSnapshot book before after (front_behind after receipt.at)
-  pub short : receipt.reply ≡ Short → StandsAtFront book before after receipt.at
+  pub after_cut : StandsAfterCut after receipt
+  pub snapshot : IsSnapshot book before after (cut_behind after receipt.at)
+  pub short : receipt.reply ≡ Short → StandsAtCut book before after receipt.at
   pub done : receipt.reply ≡ Done → StandsAtOwn book before after source targets receipt.at
 
 -- a payment from a shared account was decided in a round

@@ -1,8 +1,6 @@
 -- Passes taken apart, into their seats and what is kept beside these.
 use Rattle.std.specs.Prelude.{◌≡◌, ℕ, ◌≤◌, [], Vec}
-use Rattle.std.specs.Vec.{vec_capacity, vec_len}
-use Rattle.at_board.specs.Knowledge.Seats.{IsKept, SeatTerms}
-use Rattle.at_closing.specs.BetweenCalls.{IsBetweenCalls}
+use Rattle.at_object.specs.Prelude.{vec_capacity, vec_len, IsKept, SeatTerms, IsBetweenCalls}
 use Rattle.at_object.specs.CallCounts.{CallCountTerms}
 use Rattle.at_object.specs.Passes.{IsPass, PassTerms}
 use Rattle.at_object.specs.declared.parts.Rest.{Rest}

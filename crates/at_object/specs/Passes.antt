@@ -1,16 +1,6 @@
 -- Passes as callers see them, and what the type of a pass keeps.
 use Rattle.std.specs.Prelude.{◌≡◌, ℕ, ◌+◌, ◌-◌, ◌^◌, ◌<◌, List, [], min, slice_index, slice_index_or, sum, length}
-use Rattle.atomic_table.specs.Seated.{TableId}
-use Rattle.at_ledger.specs.Book.{HasSlot}
-use Rattle.at_history.specs.Rounds.{owns_of}
-use Rattle.at_board.specs.Knowledge.Parts.{asking_on, own_part}
-use Rattle.at_board.specs.Knowledge.Seats.{BoardTerms, IsOf, SeatTerms}
-use Rattle.at_board.specs.declared.knowledge.Knowledge.{Knowledge}
-use Rattle.at_closing.specs.BetweenCalls.{IsBetweenCalls}
-use Rattle.at_fold.specs.HasCounted.{HasCounted}
-use Rattle.at_fold.specs.Sums.{TotalSums}
-use Rattle.at_log.specs.Told.{Told}
-use Rattle.at_log.specs.declared.receipt.Receipt.{Receipt}
+use Rattle.at_object.specs.Prelude.{TableId, HasSlot, owns_of, asking_on, own_part, BoardTerms, IsOf, SeatTerms, Knowledge, IsBetweenCalls, HasCounted, TotalSums, Told, Receipt}
 
 -- a pass by the board of its ledger, what its seat knows, how many steps that has made, how many of them exchanges, how many records
 -- of each process its totals have counted, and how many calls were made with it

@@ -1,28 +1,12 @@
 -- What a payment answers, and the bounds of the calls.
 use Rattle.std.specs.Prelude.{◌≡◌, ℕ, ◌+◌, ◌*◌, ◌⊎◌, ◌&&◌, ◌||◌, ◌==◌, Bool, List, take, Option, Some, None, if◌then◌else◌, refl}
-use Rattle.at_ledger.specs.Account.{is_shared, is_single, slots_of}
-use Rattle.at_ledger.specs.Book.{BookTerms, account_of, is_owner}
-use Rattle.at_ledger.specs.Call.{TargetPair, first_account}
-use Rattle.at_ledger.specs.declared.call.Call.{Call}
-use Rattle.at_ledger.specs.declared.call.Reply.{Reply}
-use Rattle.at_ledger.specs.declared.call.Reply.TheVariants.{Done, Short, NotOwner, Full, Balance}
-use Rattle.at_history.specs.Fronts.{place}
-use Rattle.at_history.specs.declared.publication.Publication.{Publication}
-use Rattle.at_board.specs.declared.words.TheConstants.{RECORD_WORDS}
-use Rattle.at_log.specs.Receipts.{is_success}
-use Rattle.at_log.specs.Told.{own_position, round_position}
-use Rattle.at_log.specs.declared.receipt.At.{At}
-use Rattle.at_log.specs.declared.receipt.At.TheVariants.{Front, Own, Round, Previous}
-use Rattle.at_log.specs.declared.receipt.Receipt.{Receipt}
+use Rattle.at_object.specs.Prelude.{is_shared, is_single, slots_of, BookTerms, account_of, is_owner, TargetPair, first_account, Call, Reply, Done, Short, NotOwner, Full, Balance, place, Publication, RECORD_WORDS, is_success, own_position, round_position, At, Cut, Own, Round, Previous, Receipt, asking_steps, round_steps, payment_reply, snapshot_steps}
 use Rattle.at_object.specs.Passes.{PassTerms, asked_by, sent_by}
-use Rattle.at_shared.specs.Settling.{asking_steps, round_steps}
-use Rattle.at_single.specs.Standing.{payment_reply}
-use Rattle.at_snapshot.specs.Snapshots.{snapshot_steps}
 
--- where a receipt stands in a list of publications: at its front, at its own record, at the first record of its round where it
+-- where a receipt stands in a list of publications: at its cut, at its own record, at the first record of its round where it
 -- moved, and else at the round's decision
 abbrev pub place_at : ℕ → List Publication → Call → Bool → At → ℕ
-place_at process list call moved (Front view) = place view
+place_at process list call moved (Cut view) = place view
 place_at process list call moved (Own number) = own_position process number list
 place_at process list call moved (Round round at) = if moved then round_position (first_account call) round list else at
 place_at process list call moved Previous = 0

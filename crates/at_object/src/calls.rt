@@ -1,8 +1,7 @@
 //! Any call.
 
 ghost use Rattle.std.specs.Prelude.{◌≡◌, length};
-ghost use Rattle.at_history.specs.Moves.{AreRuns};
-ghost use Rattle.at_ledger.specs.Call.{IsCallOn};
+ghost use Rattle.at_object.specs.Prelude.{AreRuns, IsCallOn};
 ghost use Rattle.at_object.specs.Calls.{CallMade, StaysWithin};
 ghost use Rattle.at_object.specs.Passes.{IsPassOf, one_more_call};
 

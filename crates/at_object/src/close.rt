@@ -1,22 +1,18 @@
 //! Closing a ledger, when no thread shares it any more.
 
 ghost use Rattle.std.specs.Prelude.{◌≡◌, ℕ, ◌<◌, ◌≤◌, IfErr, IfOk, [], length, map, slice_index_or, All};
-ghost use Rattle.std.specs.Vec.{vec_capacity};
-ghost use Rattle.at_board.specs.Knowledge.Parts.{own_part};
-ghost use Rattle.at_log.specs.Coherent.{Coherent};
+ghost use Rattle.at_object.specs.Prelude.{vec_capacity, own_part, Coherent};
 ghost use Rattle.at_object.specs.Closings.{AreAccountedFor, HasAllLogs};
 ghost use Rattle.at_object.specs.Parted.{HasMemoryFor, IsAtRest};
 ghost use Rattle.at_object.specs.Passes.{seat_of};
 
-use crate::NoMemory;
 use crate::closed::Closed;
 use crate::ledger::Ledger;
 use crate::pass::Pass;
 use at_board::BoardSeat;
-use at_closing::closing_of;
 use at_ledger::Book;
-use at_log::{Receipt, Record};
-use std::alloc::Global;
+use at_log::{Receipt, Record, closing_of};
+use std::alloc::{AllocError, Global};
 use std::snapshot::Snapshot;
 
 /// There was no memory to close the ledger with. The ledger, its passes and the receipts come back as they were.
@@ -73,7 +69,7 @@ struct Memory {
 }
 
 /// All memory of a closing. The board is closed without any.
-fn memory_for(alloc: Global, book: &Book, passes: &[Pass]) -> Result<Memory, NoMemory>
+fn memory_for(alloc: Global, book: &Book, passes: &[Pass]) -> Result<Memory, AllocError>
     ensures book { IfOk result (λ m. m.book ≡ book.now) }
     ensures count { IfOk result (λ m. length m.rooms.items ≡ length passes.now) }
     ensures empty { IfOk result (λ m. (p : ℕ) (d : _) → p < length passes.now
@@ -91,7 +87,7 @@ fn memory_for(alloc: Global, book: &Book, passes: &[Pass]) -> Result<Memory, NoM
 }
 
 /// An empty list for each process, with the memory of as many records as it has published.
-fn rooms_for(alloc: Global, passes: &[Pass]) -> Result<Vec<Vec<Record>>, NoMemory>
+fn rooms_for(alloc: Global, passes: &[Pass]) -> Result<Vec<Vec<Record>>, AllocError>
     ensures count { IfOk result (λ v. length v.items ≡ length passes.now) }
     ensures empty { IfOk result (λ v. (p : ℕ) (d : _) → p < length passes.now
         → (slice_index_or v.items p d).items ≡ []) }

@@ -1,8 +1,7 @@
 //! Closed ledgers.
 
 ghost use Rattle.std.specs.Prelude.{◌≡◌};
-ghost use Rattle.at_ledger.specs.Book.{with_usable_room};
-ghost use Rattle.at_log.specs.Coherent.{Coherent};
+ghost use Rattle.at_object.specs.Prelude.{with_usable_room, Coherent};
 
 use crate::ledger::Ledger;
 use at_ledger::Book;
@@ -21,7 +20,7 @@ pub struct Closed {
 }
 
 impl Model for Closed {
-    ghost use Rattle.at_log.specs.Coherent.{Coherent};
+    ghost use Rattle.at_object.specs.Prelude.{Coherent};
     ghost use Rattle.at_object.specs.Closings.{ClosedTerms};
 
     ghost Value = { ClosedTerms };

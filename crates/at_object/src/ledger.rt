@@ -1,17 +1,15 @@
 //! The ledger that threads share.
 
 ghost use Rattle.std.specs.Prelude.{◌≡◌, IfOk};
-ghost use Rattle.atomic_table.specs.Seated.{TableId};
-ghost use Rattle.at_board.specs.Ends.Opening.{AreNew};
+ghost use Rattle.at_object.specs.Prelude.{TableId, AreNew};
 ghost use Rattle.at_object.specs.Passes.{AreNewPasses};
 
-use crate::NoMemory;
 use crate::parts::{CallCount, Rest};
 use crate::pass::Pass;
 use at_board::{Board, BoardSeat};
 use at_fold::Totals;
 use at_ledger::Book;
-use std::alloc::Global;
+use std::alloc::{AllocError, Global};
 use std::marker::Model;
 
 /// The asset transfer object of a book. Threads share it by `&Ledger`, and each makes calls with passes of its own.
@@ -21,7 +19,7 @@ pub struct Ledger {
 }
 
 impl Model for Ledger {
-    ghost use Rattle.at_board.specs.Knowledge.Seats.{BoardTerms};
+    ghost use Rattle.at_object.specs.Prelude.{BoardTerms};
 
     ghost Value = { BoardTerms };
 
@@ -30,7 +28,7 @@ impl Model for Ledger {
 
 impl Ledger {
     /// A ledger for the book, and one pass for each process, in order. Takes the memory of all later calls but `close`.
-    pub fn new(alloc: Global, book: &Book) -> Result<(Ledger, Vec<Pass>), NoMemory>
+    pub fn new(alloc: Global, book: &Book) -> Result<(Ledger, Vec<Pass>), AllocError>
         ensures book { IfOk result (λ r. r.0.book ≡ book.now) }
         ensures passes { IfOk result (λ r. AreNewPasses r.0 r.1.items) }
     {
@@ -55,7 +53,7 @@ impl Ledger {
 }
 
 /// A pass for each seat of a new board. Takes the memory of its totals.
-fn passes_for(alloc: Global, book: &Book, seats: Vec<BoardSeat>) -> Result<Vec<Pass>, NoMemory>
+fn passes_for(alloc: Global, book: &Book, seats: Vec<BoardSeat>) -> Result<Vec<Pass>, AllocError>
     requires { (id : TableId) × AreNew book.now id seats.items }
     ensures { IfOk result (λ passes. (id : TableId) → AreNew book.now id seats.items
         → AreNewPasses (record { id = id; book = book.now }) passes.items) }

@@ -28,4 +28,3 @@ pub use crate::ledger::Ledger;
 pub use crate::notes::{Note, learn_overview};
 pub use crate::parts::{CallCount, Rest, sent_after};
 pub use crate::pass::Pass;
-pub use at_base::NoMemory;

@@ -1,15 +1,9 @@
 //! Notes and overviews: what one pass has seen, handed to another, and what the passes of one caller have seen.
 
 ghost use Rattle.std.specs.Prelude.{◌≡◌, ℕ, ◌+◌, List};
-ghost use Rattle.at_board.specs.Counting.{raised};
-ghost use Rattle.at_board.specs.Knowledge.Overviews.{IsOverviewOf, LearnsOverview};
-ghost use Rattle.at_board.specs.Knowledge.Seats.{IsOf};
-ghost use Rattle.at_history.specs.Moves.{AreRuns};
-ghost use Rattle.at_history.specs.Publications.{IsPrefix, longer};
-ghost use Rattle.at_log.specs.declared.receipt.Receipt.{Receipt};
+ghost use Rattle.at_object.specs.Prelude.{raised, IsOverviewOf, LearnsOverview, IsOf, AreRuns, IsPrefix, longer, Receipt, decides_on};
 ghost use Rattle.at_object.specs.Parted.{IsOfOnePass, pass_of};
 ghost use Rattle.at_object.specs.Passes.{IsPassOf, Stands, asked_by, sent_by};
-ghost use Rattle.at_shared.specs.Helpings.{decides_on};
 
 use crate::ledger::Ledger;
 use crate::parts::Rest;
@@ -24,7 +18,7 @@ pub struct Note {
 }
 
 impl Model for Note {
-    ghost use Rattle.at_board.specs.Knowledge.Seats.{SeatTerms};
+    ghost use Rattle.at_object.specs.Prelude.{SeatTerms};
 
     ghost Value = { SeatTerms };
 

@@ -1,8 +1,7 @@
 //! Passes taken apart, for whoever makes their calls step by step, and what both ways to make a call do with the parts.
 
 ghost use Rattle.std.specs.Prelude.{◌≡◌, ◌<◌, length};
-ghost use Rattle.at_board.specs.Knowledge.Seats.{IsOf};
-ghost use Rattle.at_log.specs.declared.receipt.At.{At};
+ghost use Rattle.at_object.specs.Prelude.{IsOf, At};
 ghost use Rattle.at_object.specs.CallCounts.{with_one_call};
 ghost use Rattle.at_object.specs.Parted.{IsCountOf, IsOfOnePass, pass_of};
 ghost use Rattle.at_object.specs.Payments.{refusal_of, sent_after};

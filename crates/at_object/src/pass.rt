@@ -1,8 +1,7 @@
 //! Passes: the right of one process to make calls.
 
 ghost use Rattle.std.specs.Prelude.{◌≡◌, ◌<◌, ◌^◌, ℕ, length};
-ghost use Rattle.at_history.specs.Rounds.{named};
-ghost use Rattle.at_ledger.specs.Book.{HasSlot};
+ghost use Rattle.at_object.specs.Prelude.{named, HasSlot};
 ghost use Rattle.at_object.specs.Passes.{asked_by, others_counted, sent_by};
 
 use crate::parts::Rest;

@@ -1,26 +1,17 @@
 //! What a transfer and a pay-out do alike.
 
 ghost use Rattle.std.specs.Prelude.{◌≡◌, ◌≢◌, ℕ, ◌+◌, ◌*◌, ◌<◌, ◌≤◌, length, true, false};
-ghost use Rattle.at_board.specs.Counting.{raised};
-ghost use Rattle.at_board.specs.declared.words.TheConstants.{RECORD_WORDS};
-ghost use Rattle.at_history.specs.Moves.{AreRuns};
-ghost use Rattle.at_ledger.specs.Account.{is_shared, is_single, slots_of};
-ghost use Rattle.at_ledger.specs.Book.{account_of, is_owner};
-ghost use Rattle.at_ledger.specs.Call.{AreTargetsOn};
+ghost use Rattle.at_object.specs.Prelude.{raised, RECORD_WORDS, AreRuns, is_shared, is_single, slots_of, account_of, is_owner, AreTargetsOn, decides_made, decides_on, OnReceipts, IsOnlyOwner};
 ghost use Rattle.at_object.specs.Calls.{PaymentMade};
 ghost use Rattle.at_object.specs.Passes.{IsPassOf, counted_anew, one_more_call};
 ghost use Rattle.at_object.specs.Payments.{has_used_up, payment_steps, shared_steps, single_steps};
-ghost use Rattle.at_shared.specs.Helpings.{decides_made, decides_on};
-ghost use Rattle.at_shared.specs.Settling.{OnReceipts};
-ghost use Rattle.at_single.specs.Standing.{IsOnlyOwner};
 
 use crate::ledger::Ledger;
 use crate::parts::sent_after;
 use crate::pass::Pass;
 use at_ledger::{Reply, Targets};
 use at_log::At;
-use at_shared::pay_shared;
-use at_single::pay_single;
+use at_payments::{pay_shared, pay_single};
 
 impl Ledger {
     /// Makes a payment, whichever call it is of: the reply, and where the call stands.

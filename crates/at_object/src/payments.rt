@@ -1,9 +1,7 @@
 //! Payments.
 
 ghost use Rattle.std.specs.Prelude.{◌≡◌, ◌<◌, [], ◌∷◌, length};
-ghost use Rattle.at_history.specs.Moves.{AreRuns};
-ghost use Rattle.at_ledger.specs.Call.{AreTargetsOn};
-ghost use Rattle.at_ledger.specs.declared.call.Call.{Call};
+ghost use Rattle.at_object.specs.Prelude.{AreRuns, AreTargetsOn, Call};
 ghost use Rattle.at_object.specs.Calls.{PaymentMade, StaysWithin};
 ghost use Rattle.at_object.specs.Passes.{IsPassOf, one_more_call};
 

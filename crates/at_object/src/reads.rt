@@ -1,18 +1,17 @@
 //! Reads.
 
 ghost use Rattle.std.specs.Prelude.{◌≡◌, ◌<◌, length};
-ghost use Rattle.at_history.specs.Moves.{AreRuns};
-ghost use Rattle.at_ledger.specs.declared.call.Call.{Call};
+ghost use Rattle.at_object.specs.Prelude.{AreRuns, Call};
 ghost use Rattle.at_object.specs.Calls.{ReadMade, StaysWithin};
 ghost use Rattle.at_object.specs.Passes.{IsPassOf, one_more_call};
 
 use crate::ledger::Ledger;
 use crate::pass::Pass;
 use at_log::Receipt;
-use at_single::read_account;
+use at_payments::read_account;
 
 impl Ledger {
-    /// The balance of an account, at the front of a snapshot that the call takes. Takes no memory.
+    /// The balance of an account, at the cut of a snapshot that the call takes. Takes no memory.
     pub fn read(&self, pass: &mut Pass, account: u32) -> Receipt
         requires pass { IsPassOf pass.old self.now }
         requires account { account < length self.now.book.accounts }

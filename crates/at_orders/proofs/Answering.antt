@@ -1,27 +1,7 @@
 -- The answers to covered files.
 use Rattle.std.proofs.Common.{◌≡◌, ℕ, ◌+◌, ◌<◌, ◌≤◌, List, [], ◌∷◌, ◌++◌, length, get_or, All, Some, refl, sym, ap, subst, ◌∙◌, arith}
 use Rattle.std.specs.Prelude.{Vec, slice_get}
-use Rattle.std.specs.Global.{Global}
-use Rattle.std.proofs.lemmas.List.{get_or-map, get_or_append_left, length-append}
-use Rattle.std.proofs.lemmas.Option.{slice_get-get_or, slice_get_within}
-use Rattle.std.proofs.Math.Seq.{get_or-append_seam}
-use Rattle.at_ledger.specs.Book.{BookTerms, total_of}
-use Rattle.at_ledger.specs.Call.{first_account}
-use Rattle.at_ledger.specs.State.{LedgerState, step}
-use Rattle.at_ledger.specs.declared.call.Call.{Call}
-use Rattle.at_ledger.specs.declared.call.Call.TheVariants.{Transfer, Read, Pay}
-use Rattle.at_ledger.specs.declared.call.Reply.{Reply}
-use Rattle.at_ledger.specs.declared.call.Reply.TheVariants.{Balance}
-use Rattle.at_ledger.specs.Files.{IsPlayable, contents_of}
-use Rattle.at_ledger.proofs.FileLists.{get_or-contents_of, length-contents_of}
-use Rattle.at_ledger.proofs.Made.{call_known-at}
-use Rattle.at_orders.specs.Alone.{AreAlone, AreFilesAnswers, AreFirstAnswers, AreRangesOn, IsRangeTo, alone_at, alone_balance, falls_of, range_in, ranges_of, rises_of}
-use Rattle.at_orders.specs.Covered.{OpeningsCover}
-use Rattle.at_orders.specs.Orders.{AreAnswers, Comes}
-use Rattle.at_orders.specs.Replies.{AreJust, no_replies, read_replies, replies_with}
-use Rattle.at_orders.specs.declared.alone.Alone.{Alone}
-use Rattle.at_orders.specs.declared.replies.Range.{Range}
-use Rattle.at_orders.specs.declared.replies.Replies.{Replies}
+use Rattle.at_orders.proofs.Prelude.{Global, get_or-map, get_or_append_left, length-append, slice_get-get_or, slice_get_within, get_or-append_seam, BookTerms, total_of, first_account, LedgerState, step, Call, Transfer, Read, Pay, Reply, Balance, IsPlayable, contents_of, get_or-contents_of, length-contents_of, call_known-at, AreAlone, AreFilesAnswers, AreFirstAnswers, AreRangesOn, IsRangeTo, alone_at, alone_balance, falls_of, range_in, ranges_of, rises_of, OpeningsCover, AreAnswers, Comes, AreJust, no_replies, read_replies, replies_with, Alone, Range, Replies}
 use Rattle.at_orders.proofs.Covering.{AreCovered, alone-enough, file-along}
 use Rattle.at_orders.proofs.Moved.{at_or_off}
 use Rattle.at_orders.proofs.Ranging.{AreRanges, falls-within, payment-just, read-just, rises-within}

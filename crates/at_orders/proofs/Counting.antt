@@ -1,16 +1,7 @@
 -- The payments that stand before each call of a file, counted call by call.
 use Rattle.std.proofs.Common.{◌≡◌, ℕ, ◌+◌, ◌<◌, ◌≤◌, ◌==◌, ◌&&◌, ◌⊎◌, inl, inr, true, false, not, cond, List, [], ◌∷◌, ◌++◌, length, get_or, set, take, Some, refl, sym, ap, subst, ◌∙◌, arith}
 use Rattle.std.specs.Prelude.{is_some, slice_get}
-use Rattle.std.proofs.lemmas.Bool.{cases_eq, eq-eqb, ne_eqb}
-use Rattle.std.proofs.lemmas.List.{get_or-set_other, get_or-set_same, get_or_append_left, get_or_default, length-append, length-take, length-take-le, take_more}
-use Rattle.std.proofs.lemmas.List.Filters.{length-filter_both, length-filter_more}
-use Rattle.std.proofs.lemmas.Option.{get_or_from_slice_get}
-use Rattle.std.proofs.Math.Nat.{eq-or-lt_of_le}
-use Rattle.std.proofs.Math.Seq.{get_or-append_seam}
-use Rattle.at_ledger.specs.Call.{first_account, payout_of}
-use Rattle.at_ledger.specs.declared.call.Call.{Call}
-use Rattle.at_orders.specs.Stages.{is_payment_from, payments_from}
-use Rattle.at_orders.specs.Walk.{AreAllCountedBefore, AreCountedBefore}
+use Rattle.at_orders.proofs.Prelude.{cases_eq, eq-eqb, ne_eqb, get_or-set_other, get_or-set_same, get_or_append_left, get_or_default, length-append, length-take, length-take-le, take_more, length-filter_both, length-filter_more, get_or_from_slice_get, eq-or-lt_of_le, get_or-append_seam, first_account, payout_of, Call, is_payment_from, payments_from, AreAllCountedBefore, AreCountedBefore}
 
 -- no more than the calls
 pub payments_from-few : (account : ℕ) (file : List Call) (i : ℕ) → payments_from account (take i file) ≤ i

@@ -1,17 +1,6 @@
 -- Each choice of how many calls each process has made is a stage of some order.
 use Rattle.std.proofs.Common.{◌≡◌, ℕ, zero, suc, ◌+◌, ◌-◌, ◌<◌, ◌⊎◌, ⊎_elim, List, [], ◌∷◌, length, get_or, set, sum, refl, sym, ap, subst, ◌∙◌, arith}
-use Rattle.std.proofs.lemmas.List.{ext_get_or, get_or-replicate, length-replicate, length-set}
-use Rattle.std.proofs.lemmas.List.Sums.{get_or-le-sum_by, sum_by-cons}
-use Rattle.std.proofs.lemmas.Option.{slice_get-get_or}
-use Rattle.at_ledger.specs.Book.{BookTerms}
-use Rattle.at_ledger.specs.State.{LedgerState, opening_state, step}
-use Rattle.at_ledger.specs.declared.call.Call.{Call}
-use Rattle.at_ledger.specs.declared.call.Call.TheVariants.{Read}
-use Rattle.at_ledger.specs.declared.call.Line.{Line}
-use Rattle.at_ledger.specs.NextCalls.{AreWithinFiles, IsNextOfProcess, with_made}
-use Rattle.at_ledger.proofs.Continuing.{none_made}
-use Rattle.at_ledger.proofs.Made.{get_or-with_made, get_or-with_made_other, sum-with_made}
-use Rattle.at_orders.specs.Stages.{IsStage}
+use Rattle.at_orders.proofs.Prelude.{ext_get_or, get_or-replicate, length-replicate, length-set, get_or-le-sum_by, sum_by-cons, slice_get-get_or, BookTerms, LedgerState, opening_state, step, Call, Read, Line, AreWithinFiles, IsNextOfProcess, with_made, none_made, get_or-with_made, get_or-with_made_other, sum-with_made, IsStage}
 use Rattle.at_orders.proofs.Moved.{at_or_off, set-at, set-off}
 use Rattle.at_orders.proofs.Reaching.{leads-start, reached-stage, stage-next}
 

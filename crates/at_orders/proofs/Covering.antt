@@ -1,25 +1,7 @@
 -- The orders of covered files: at each stage the balances cover what is left, and each process is where its own file brings it.
 use Rattle.std.proofs.Common.{◌≡◌, ℕ, zero, suc, ◌+◌, ◌*◌, ◌<◌, ◌≤◌, List, [], ◌∷◌, length, drop, get_or, map, sum, take, All, Some, refl, sym, ap, subst, ◌∙◌, arith, add-one}
 use Rattle.std.specs.Prelude.{slice_get}
-use Rattle.std.proofs.lemmas.List.{get_or-map, get_or-replicate, length-map, length-replicate}
-use Rattle.std.proofs.lemmas.List.Sums.{sum-map, sum_by-drop_more}
-use Rattle.std.proofs.lemmas.Option.{get_or_from_slice_get, slice_get-get_or, slice_get_within}
-use Rattle.at_ledger.specs.Account.{AccountTerms, no_account}
-use Rattle.at_ledger.specs.Book.{BookTerms, account_of, total_of}
-use Rattle.at_ledger.specs.Call.{IsCallOn}
-use Rattle.at_ledger.specs.State.{LedgerState, opening_state, step}
-use Rattle.at_ledger.specs.Run.{Run, run_from}
-use Rattle.at_ledger.specs.declared.call.Call.{Call}
-use Rattle.at_ledger.specs.declared.call.Call.TheVariants.{Read}
-use Rattle.at_ledger.specs.declared.call.Line.{Line}
-use Rattle.at_ledger.proofs.Run.{last-take_more, run_from-nil}
-use Rattle.at_ledger.specs.Files.{IsPlayable}
-use Rattle.at_ledger.specs.NextCalls.{AreWithinFiles, IsNextOfProcess, with_made}
-use Rattle.at_ledger.proofs.Continuing.{AreWithinFiles-none, none_made}
-use Rattle.at_ledger.proofs.Made.{AreWithinFiles-next, call_known, get_or-with_made, get_or-with_made_other}
-use Rattle.at_orders.specs.Alone.{alone_at, alone_balance}
-use Rattle.at_orders.specs.Covered.{OpeningsCover, asked_by_call, asked_in_file, sum_below}
-use Rattle.at_orders.specs.Stages.{IsStage, StageTerms}
+use Rattle.at_orders.proofs.Prelude.{get_or-map, get_or-replicate, length-map, length-replicate, sum-map, sum_by-drop_more, get_or_from_slice_get, slice_get-get_or, slice_get_within, AccountTerms, no_account, BookTerms, account_of, total_of, IsCallOn, LedgerState, opening_state, step, Run, run_from, Call, Read, Line, last-take_more, run_from-nil, IsPlayable, AreWithinFiles, IsNextOfProcess, with_made, AreWithinFiles-none, none_made, AreWithinFiles-next, call_known, get_or-with_made, get_or-with_made_other, alone_at, alone_balance, OpeningsCover, asked_by_call, asked_in_file, sum_below, IsStage, StageTerms}
 use Rattle.at_orders.proofs.Moved.{at_or_off}
 use Rattle.at_orders.proofs.Reaching.{Leads, leads-cons, leads-nil, stage-reached}
 use Rattle.at_orders.proofs.Stepping.{AreAlike, AreSame, IsEnough, IsFit, Keeps, step-keeps, step-same}

@@ -1,12 +1,6 @@
 -- Amounts that are moved, of all balances and of those that are kept.
 use Rattle.std.proofs.Common.{◌≡◌, ℕ, ◌+◌, ◌-◌, ◌<◌, ◌≤◌, None, Some, All, List, length, get_or, set, drop, sum, refl, sym, ap, subst, ◌∙◌, arith}
-use Rattle.std.proofs.lemmas.List.Sums.{get_or-le-sum_by, sum_by-set}
-use Rattle.at_ledger.specs.Call.{AreTargetsOn, TargetPair, amount_of}
-use Rattle.at_ledger.specs.State.{LedgerState, balance_of, credited, moved}
-use Rattle.at_ledger.proofs.Credited.{amount_of-drop_more, credited-drop_all, credited-drop_more, sum-set_more}
-use Rattle.at_orders.specs.Stages.{GroundTerms, ledger_at, requests_at}
-use Rattle.at_orders.specs.Walk.{AreKept, ArePlaces, HasNumbers, IsGround, IsStanding}
-use Rattle.at_orders.specs.declared.stage.Stage.{Stage}
+use Rattle.at_orders.proofs.Prelude.{get_or-le-sum_by, sum_by-set, AreTargetsOn, TargetPair, amount_of, LedgerState, balance_of, credited, moved, amount_of-drop_more, credited-drop_all, credited-drop_more, sum-set_more, GroundTerms, ledger_at, requests_at, AreKept, ArePlaces, HasNumbers, IsGround, IsStanding, Stage}
 use Rattle.at_orders.proofs.Keeping.{kept-known, kept-other, kept-set}
 use Rattle.at_orders.proofs.Moved.{moved_in, sum-moved}
 

@@ -1,10 +1,6 @@
 -- Replies that are listed, one more at a time.
 use Rattle.std.proofs.Common.{◌≡◌, ℕ, ◌≤◌, ◌⊎◌, ⊎_elim, min, max, true≢false, Option, Some, None, refl, sym, subst, arith}
-use Rattle.at_ledger.specs.declared.call.Reply.{Reply}
-use Rattle.at_ledger.specs.declared.call.Reply.TheVariants.{Done, Short, NotOwner, Full, Balance}
-use Rattle.at_orders.specs.Replies.{AreJust, IsListed, balances_with, no_replies, replies_with}
-use Rattle.at_orders.specs.declared.replies.Range.{Range}
-use Rattle.at_orders.specs.declared.replies.Replies.{Replies}
+use Rattle.at_orders.proofs.Prelude.{Reply, Done, Short, NotOwner, Full, Balance, AreJust, IsListed, balances_with, no_replies, replies_with, Range, Replies}
 
 -- the same replies can be
 pub just-same : (H K : Reply → Type 0) (r : Replies) → ((y : Reply) → H y → K y) → ((y : Reply) → K y → H y) → AreJust H r → AreJust K r

@@ -1,11 +1,6 @@
 -- The balances of all accounts, and those that are kept.
 use Rattle.std.proofs.Common.{◌≡◌, ℕ, ◌<◌, ◌⊎◌, inl, inr, None, Some, List, length, get_or, map, set, sym, ap, ◌∙◌, arith}
-use Rattle.std.proofs.lemmas.Bool.{cases_eq}
-use Rattle.std.proofs.lemmas.List.{ext_get_or, get_or-map, get_or-set_other, get_or-set_same, length-map, length-set}
-use Rattle.at_ledger.specs.Account.{AccountTerms, no_account}
-use Rattle.at_ledger.specs.Book.{account_of}
-use Rattle.at_orders.specs.Stages.{GroundTerms}
-use Rattle.at_orders.specs.Walk.{AreKept, ArePlaces}
+use Rattle.at_orders.proofs.Prelude.{cases_eq, ext_get_or, get_or-map, get_or-set_other, get_or-set_same, length-map, length-set, AccountTerms, no_account, account_of, GroundTerms, AreKept, ArePlaces}
 use Rattle.at_orders.proofs.Placing.{place-known}
 
 -- an account that has a place is one of the balances

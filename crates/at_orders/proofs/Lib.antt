@@ -1,3 +1,4 @@
+pub mod Prelude
 pub mod Placing
 pub mod Keeping
 pub mod Counting

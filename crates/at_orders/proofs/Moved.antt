@@ -1,14 +1,6 @@
 -- What each account has before and after amounts are moved.
 use Rattle.std.proofs.Common.{◌≡◌, ℕ, suc, ◌+◌, ◌-◌, ◌<◌, ◌≤◌, ◌==◌, ◌⊎◌, ⊎_elim, inl, inr, List, [], ◌∷◌, length, get_or, set, sum, refl, sym, ap, ◌∙◌, arith}
-use Rattle.std.proofs.lemmas.Bool.{cases_Bool}
-use Rattle.std.proofs.lemmas.Bool.Decides.{Decides-eqb}
-use Rattle.std.proofs.lemmas.Grind.{get_or-set_at}
-use Rattle.std.proofs.lemmas.List.{get_or-set_other, length-set}
-use Rattle.std.proofs.lemmas.List.Sums.{sum_by-cons, sum_by-set}
-use Rattle.at_ledger.specs.Call.{AreTargetsOn, TargetPair, amount_of}
-use Rattle.at_ledger.specs.State.{credited}
-use Rattle.at_ledger.proofs.Credited.{sum-set_more}
-use Rattle.at_orders.specs.Alone.{IsTarget}
+use Rattle.at_orders.proofs.Prelude.{cases_Bool, Decides-eqb, get_or-set_at, get_or-set_other, length-set, sum_by-cons, sum_by-set, AreTargetsOn, TargetPair, amount_of, credited, sum-set_more, IsTarget}
 
 -- two numbers are the same or aren't
 pub at_or_off : {A : Type 0} (i a : ℕ) → (i ≡ a → A) → ((i ≡ a → ⊥) → A) → A

@@ -1,16 +1,7 @@
 -- The places of the accounts that calls name first, one account more at a time.
 use Rattle.std.proofs.Common.{◌≡◌, ℕ, ◌+◌, ◌<◌, ◌≤◌, ◌⊎◌, inl, inr, Option, None, Some, List, [], ◌∷◌, ◌++◌, length, get_or, replicate, set, take, true, true≢false, All, sym, ap, subst, ◌∙◌, arith}
 use Rattle.std.specs.Prelude.{is_some}
-use Rattle.std.proofs.lemmas.Bool.{cases_eq, cases_lt}
-use Rattle.std.proofs.lemmas.List.{get_or-replicate, get_or-set_other, get_or-set_same, get_or_append_left, get_or_default, length-append, length-replicate, length-set, take_more}
-use Rattle.std.proofs.lemmas.List.Elements.{All-push, All-weaker}
-use Rattle.std.proofs.Math.ListN.{get_or-eq_default}
-use Rattle.std.proofs.Math.Nat.{eq-or-lt_of_le}
-use Rattle.std.proofs.Math.Seq.{get_or-append_seam}
-use Rattle.at_ledger.specs.Call.{IsCallOn, TargetPair, first_account}
-use Rattle.at_ledger.specs.declared.call.Call.{Call}
-use Rattle.at_ledger.specs.declared.call.Call.TheVariants.{Transfer, Read, Pay}
-use Rattle.at_orders.specs.Walk.{ArePlaces, HasFirstPlace, HasPlace, KeepsPlaces}
+use Rattle.at_orders.proofs.Prelude.{cases_eq, cases_lt, get_or-replicate, get_or-set_other, get_or-set_same, get_or_append_left, get_or_default, length-append, length-replicate, length-set, take_more, All-push, All-weaker, get_or-eq_default, eq-or-lt_of_le, get_or-append_seam, IsCallOn, TargetPair, first_account, Call, Transfer, Read, Pay, ArePlaces, HasFirstPlace, HasPlace, KeepsPlaces}
 
 -- the account that a call names first is there
 pub first-known : (accounts : ℕ) (call : Call) (account : ℕ) → account ≡ first_account call → IsCallOn accounts call → account < accounts

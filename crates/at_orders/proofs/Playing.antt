@@ -1,20 +1,7 @@
 -- A file by itself, call by call.
 use Rattle.std.proofs.Common.{◌≡◌, ℕ, ◌+◌, ◌<◌, ◌≤◌, ◌⊎◌, ⊎_elim, inl, inr, min, max, List, [], ◌∷◌, ◌++◌, length, get_or, map, Some, None, sym, ap, subst, ◌∙◌, arith}
 use Rattle.std.specs.Prelude.{slice_get}
-use Rattle.std.proofs.lemmas.Grind.{get_or-set_at}
-use Rattle.std.proofs.lemmas.List.{get_or-map, get_or-set_other, get_or_append_left, length-append, length-map}
-use Rattle.std.proofs.Math.Seq.{get_or-append_seam}
-use Rattle.at_ledger.specs.Account.{AccountTerms, no_account}
-use Rattle.at_ledger.specs.Book.{BookTerms}
-use Rattle.at_ledger.specs.Call.{IsCallOn, TargetPair, payout_of}
-use Rattle.at_ledger.specs.State.{LedgerState, step}
-use Rattle.at_ledger.specs.declared.call.Call.{Call}
-use Rattle.at_ledger.specs.declared.call.Call.TheVariants.{Transfer, Read, Pay}
-use Rattle.at_ledger.specs.declared.call.Reply.{Reply}
-use Rattle.at_orders.specs.Alone.{AreAlone, IsAlone, IsAloneTo, IsRangeTo, IsTarget, IsWidened, Names, alone_at, alone_balance, range_in}
-use Rattle.at_orders.specs.Replies.{range_at, range_with}
-use Rattle.at_orders.specs.declared.alone.Alone.{Alone}
-use Rattle.at_orders.specs.declared.replies.Range.{Range}
+use Rattle.at_orders.proofs.Prelude.{get_or-set_at, get_or-map, get_or-set_other, get_or_append_left, length-append, length-map, get_or-append_seam, AccountTerms, no_account, BookTerms, IsCallOn, TargetPair, payout_of, LedgerState, step, Call, Transfer, Read, Pay, Reply, AreAlone, IsAlone, IsAloneTo, IsRangeTo, IsTarget, IsWidened, Names, alone_at, alone_balance, range_in, range_at, range_with, Alone, Range}
 use Rattle.at_orders.proofs.Covering.{IsAloneAt, alone-enough, alone-next, alone-none, opening-at, opening_of}
 use Rattle.at_orders.proofs.Moved.{at_or_off}
 use Rattle.at_orders.proofs.Stepping.{step-touch}

@@ -1,25 +1,7 @@
 -- The replies of covered files: a payment has one, and a read the balances between two that come.
 use Rattle.std.proofs.Common.{◌≡◌, ℕ, zero, suc, ◌+◌, ◌-◌, ◌<◌, ◌≤◌, inr, true≢false, List, [], ◌∷◌, ◌++◌, length, get_or, Some, refl, sym, ap, subst, ◌∙◌, arith}
 use Rattle.std.specs.Prelude.{slice_get}
-use Rattle.std.proofs.lemmas.List.{get_or_append_left, length-append}
-use Rattle.std.proofs.lemmas.List.Sums.{get_or-le-sum_by}
-use Rattle.std.proofs.lemmas.Option.{slice_get_within}
-use Rattle.std.proofs.Math.Seq.{get_or-append_seam}
-use Rattle.at_ledger.specs.Book.{BookTerms, total_of}
-use Rattle.at_ledger.specs.State.{LedgerState, step}
-use Rattle.at_ledger.specs.declared.call.Call.{Call}
-use Rattle.at_ledger.specs.declared.call.Call.TheVariants.{Transfer, Read, Pay}
-use Rattle.at_ledger.specs.declared.call.Line.{Line}
-use Rattle.at_ledger.specs.declared.call.Reply.{Reply}
-use Rattle.at_ledger.specs.declared.call.Reply.TheVariants.{Balance}
-use Rattle.at_ledger.specs.NextCalls.{AreWithinFiles, IsNextOfProcess}
-use Rattle.at_ledger.proofs.Made.{call_known-at}
-use Rattle.at_orders.specs.Alone.{IsRangeTo, alone_at, alone_balance, at_else, falls_of, rises_of}
-use Rattle.at_orders.specs.Covered.{sum_below}
-use Rattle.at_orders.specs.Orders.{Comes}
-use Rattle.at_orders.specs.Replies.{AreJust, IsListed, no_replies, read_replies, replies_with}
-use Rattle.at_orders.specs.Stages.{IsStage, StageTerms}
-use Rattle.at_orders.specs.declared.replies.Range.{Range}
+use Rattle.at_orders.proofs.Prelude.{get_or_append_left, length-append, get_or-le-sum_by, slice_get_within, get_or-append_seam, BookTerms, total_of, LedgerState, step, Call, Transfer, Read, Pay, Line, Reply, Balance, AreWithinFiles, IsNextOfProcess, call_known-at, IsRangeTo, alone_at, alone_balance, at_else, falls_of, rises_of, sum_below, Comes, AreJust, IsListed, no_replies, read_replies, replies_with, IsStage, StageTerms, Range}
 use Rattle.at_orders.proofs.Counts.{counts}
 use Rattle.at_orders.proofs.Covering.{AreCovered, IsAlong, alone-enough, alone-none, along-enough, along-stage, brought, file-along, opening-at, opening_of}
 use Rattle.at_orders.proofs.Hearing.{just-none, just-with}

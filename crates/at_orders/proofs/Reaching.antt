@@ -1,19 +1,6 @@
 -- Lines that lead to a stage: the stages of orders are those that lines lead to, and their next replies are those that come.
 use Rattle.std.proofs.Common.{◌≡◌, ℕ, zero, suc, ◌+◌, ◌<◌, ◌==◌, Bool, true, false, List, [], ◌∷◌, ◌++◌, length, get_or, Contains, refl, sym, ap, subst, ◌∙◌, arith}
-use Rattle.std.proofs.lemmas.Bool.Decides.{Decides-eqb}
-use Rattle.std.proofs.lemmas.List.{ext_get_or, get_or-replicate, length-replicate, length-set}
-use Rattle.std.proofs.lemmas.List.Elements.{Contains-append_right, Contains-get_or}
-use Rattle.at_ledger.specs.Book.{BookTerms}
-use Rattle.at_ledger.specs.State.{LedgerState, opening_state, step}
-use Rattle.at_ledger.specs.Run.{Run, asked_in, lines_of, run_from}
-use Rattle.at_ledger.specs.declared.call.Call.{Call}
-use Rattle.at_ledger.specs.declared.call.Line.{Line}
-use Rattle.at_ledger.proofs.Run.{run_from-cons, run_from-nil}
-use Rattle.at_ledger.specs.NextCalls.{AreWithinFiles, IsNextOfProcess, with_made}
-use Rattle.at_ledger.proofs.Continuing.{AreWithinFiles-none, Continues, Completes, completes, continues-cons, continues-from_cons, continues-whole, none_made, whole-continues}
-use Rattle.at_ledger.proofs.Made.{AreWithinFiles-next, get_or-with_made, get_or-with_made_other}
-use Rattle.at_orders.specs.Orders.{Comes, IsOrder}
-use Rattle.at_orders.specs.Stages.{IsStage, StageTerms, stage_after}
+use Rattle.at_orders.proofs.Prelude.{Decides-eqb, ext_get_or, get_or-replicate, length-replicate, length-set, Contains-append_right, Contains-get_or, BookTerms, LedgerState, opening_state, step, Run, asked_in, lines_of, run_from, Call, Line, run_from-cons, run_from-nil, AreWithinFiles, IsNextOfProcess, with_made, AreWithinFiles-none, Continues, Completes, completes, continues-cons, continues-from_cons, continues-whole, none_made, whole-continues, AreWithinFiles-next, get_or-with_made, get_or-with_made_other, Comes, IsOrder, IsStage, StageTerms, stage_after}
 
 -- each line is the next one at its state, and then there is this stage
 unfoldable pub Leads : List (List Call) → LedgerState → List ℕ → List Line → StageTerms → Type 0

@@ -1,30 +1,7 @@
 -- The requests that the counts of calls tell, and what the next call of a process leaves of a stage.
 use Rattle.std.proofs.Common.{◌≡◌, ℕ, ◌+◌, ◌*◌, ◌/◌, ◌%◌, ◌<◌, ◌≤◌, ◌==◌, ◌&&◌, ◌||◌, ◌⊎◌, inl, inr, Bool, true, false, true≢false, not, cond, leb, ltb, min, List, [], ◌∷◌, length, get_or, set, map, replicate, take, Some, None, refl, sym, ap, subst, ◌∙◌, arith}
 use Rattle.std.specs.Prelude.{is_some}
-use Rattle.std.specs.List.{position, range_with_len}
-use Rattle.std.proofs.lemmas.Bool.{cases_Bool, cases_eq, cases_lt, eq-eqb, le-leb, leb-true, ne_eqb}
-use Rattle.std.proofs.lemmas.Bool.Decides.{Decides-eqb}
-use Rattle.std.proofs.lemmas.List.{ext_get_or, get_or-replicate, get_or-set_other, get_or-set_same, length-map, length-replicate, length-set}
-use Rattle.std.proofs.lemmas.List.Sums.{sum-map}
-use Rattle.std.proofs.lemmas.List.Filters.{length-filter_more}
-use Rattle.std.proofs.lemmas.List.FromFn.{get_or-map-range_with_len, length-map-range_with_len}
-use Rattle.std.proofs.lemmas.Nat.{div-add-mod', div-mul-add, mod-mul-add, mul-add-lt}
-use Rattle.std.proofs.lemmas.Option.{get_or_from_slice_get, slice_get_within}
-use Rattle.std.proofs.Math.ListN.{get_or-eq_default}
-use Rattle.std.proofs.Math.Nat.{min-le_right, mul_comm}
-use Rattle.at_ledger.specs.Account.{AccountTerms, is_shared, slots_of}
-use Rattle.at_ledger.specs.Book.{account_of, is_owner}
-use Rattle.at_ledger.specs.Call.{TargetPair, amount_of, first_account, payout_of}
-use Rattle.at_ledger.specs.State.{LedgerState, Step, after_done, after_short, asked_of, asked_position, balance_of, is_full, moved, pay, sent_of, step, with_asked, with_sent}
-use Rattle.at_ledger.specs.declared.call.Call.{Call}
-use Rattle.at_ledger.specs.declared.call.Reply.{Reply}
-use Rattle.at_ledger.specs.declared.call.Reply.TheVariants.{Balance, Done, Full, NotOwner, Short}
-use Rattle.at_ledger.specs.declared.call.Call.TheVariants.{Transfer, Read, Pay}
-use Rattle.at_ledger.specs.NextCalls.{with_made}
-use Rattle.at_ledger.proofs.Made.{get_or-with_made, get_or-with_made_other}
-use Rattle.at_orders.specs.Stages.{GroundTerms, StageTerms, after_success, calls_made, first_stage, is_payment_from, ledger_at, payments_from, requests_at, requests_of, stage_after}
-use Rattle.at_orders.specs.Walk.{AreKept, ArePlaces, HasNumbers, IsMadeTo, IsNextCall, IsNextPayment, IsStanding, StandsFor}
-use Rattle.at_orders.specs.declared.stage.Stage.{Stage}
+use Rattle.at_orders.proofs.Prelude.{position, range_with_len, cases_Bool, cases_eq, cases_lt, eq-eqb, le-leb, leb-true, ne_eqb, Decides-eqb, ext_get_or, get_or-replicate, get_or-set_other, get_or-set_same, length-map, length-replicate, length-set, sum-map, length-filter_more, get_or-map-range_with_len, length-map-range_with_len, div-add-mod', div-mul-add, mod-mul-add, mul-add-lt, get_or_from_slice_get, slice_get_within, get_or-eq_default, min-le_right, mul_comm, AccountTerms, is_shared, slots_of, account_of, is_owner, TargetPair, amount_of, first_account, payout_of, LedgerState, Step, after_done, after_short, asked_of, asked_position, balance_of, is_full, moved, pay, sent_of, step, with_asked, with_sent, Call, Reply, Balance, Done, Full, NotOwner, Short, Transfer, Read, Pay, with_made, get_or-with_made, get_or-with_made_other, GroundTerms, StageTerms, after_success, calls_made, first_stage, is_payment_from, ledger_at, payments_from, requests_at, requests_of, stage_after, AreKept, ArePlaces, HasNumbers, IsMadeTo, IsNextCall, IsNextPayment, IsStanding, StandsFor, Stage}
 use Rattle.at_orders.proofs.Keeping.{kept-openings}
 use Rattle.at_orders.proofs.Placing.{same_payout}
 

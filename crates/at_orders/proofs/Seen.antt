@@ -1,25 +1,7 @@
 -- One more stage is seen.
 use Rattle.std.proofs.Common.{◌≡◌, ℕ, ◌+◌, ◌<◌, Bool, true, false, ◌≤◌, ◌||◌, ◌&&◌, ◌⊎◌, ⊎_elim, inl, inr, Some, get_or, List, [], ◌∷◌, ◌++◌, length, replicate, sum, All, Contains, true≢false, refl, sym, ap, subst, ◌∙◌, arith, if◌then◌else◌}
 use Rattle.std.specs.Prelude.{nat_eq, slice_get}
-use Rattle.std.specs.List.{list_any}
-use Rattle.std.specs.Cmp.Lexicographic.{pointwise, same_text}
-use Rattle.std.proofs.lemmas.Bool.{and_from, and_parts}
-use Rattle.std.proofs.lemmas.Cmp.{nat_list_eq_equiv}
-use Rattle.std.proofs.lemmas.List.{length-append}
-use Rattle.std.proofs.lemmas.List.Folds.{sum_by-replicate}
-use Rattle.std.proofs.lemmas.List.Elements.{All-contains, All-nil, Contains-append_right, Contains-get_or, Contains-push, Contains-push_cases}
-use Rattle.std.proofs.lemmas.Option.{get_or_from_slice_get, slice_get-get_or, slice_get_within}
-use Rattle.indexmap.specs.IndexSet.{insert_key}
-use Rattle.at_ledger.specs.State.{LedgerState, opening_state, step}
-use Rattle.at_ledger.specs.Call.{IsCallOn}
-use Rattle.at_ledger.specs.declared.call.Call.{Call}
-use Rattle.at_ledger.specs.declared.call.Line.{Line}
-use Rattle.at_ledger.specs.NextCalls.{AreWithinFiles, IsNextOfProcess, with_made}
-use Rattle.at_ledger.proofs.Made.{AreWithinFiles-next, sum-with_made}
-use Rattle.at_ledger.proofs.Continuing.{AreWithinFiles-none, none_made}
-use Rattle.at_orders.specs.Stages.{GroundTerms, IsStage, StageTerms, first_stage, stage_after}
-use Rattle.at_orders.specs.Walk.{AreLevel, ArePlaces, Grows, HasAllNext, HasFirstPlace, HasStage, IsGround, IsNextCall, IsSeen, IsStanding, IsWalkedTo, StandsFor}
-use Rattle.at_orders.specs.declared.stage.Stage.{Stage}
+use Rattle.at_orders.proofs.Prelude.{list_any, pointwise, same_text, and_from, and_parts, nat_list_eq_equiv, length-append, sum_by-replicate, All-contains, All-nil, Contains-append_right, Contains-get_or, Contains-push, Contains-push_cases, get_or_from_slice_get, slice_get-get_or, slice_get_within, insert_key, LedgerState, opening_state, step, IsCallOn, Call, Line, AreWithinFiles, IsNextOfProcess, with_made, AreWithinFiles-next, sum-with_made, AreWithinFiles-none, none_made, GroundTerms, IsStage, StageTerms, first_stage, stage_after, AreLevel, ArePlaces, Grows, HasAllNext, HasFirstPlace, HasStage, IsGround, IsNextCall, IsSeen, IsStanding, IsWalkedTo, StandsFor, Stage}
 use Rattle.at_orders.proofs.Keeping.{kept-same}
 use Rattle.at_orders.proofs.Reaching.{leads-start, reached-stage, stage-next}
 use Rattle.at_orders.proofs.Requests.{numbers-moved}

@@ -1,21 +1,7 @@
 -- What one step of the ledger changes where its payment isn't short.
 use Rattle.std.proofs.Common.{◌≡◌, ℕ, ◌+◌, ◌*◌, ◌<◌, ◌≤◌, ◌⊎◌, ⊎_elim, inl, Bool, true, false, List, [], ◌∷◌, length, get_or, set, sum, refl, sym, ap, subst, ◌∙◌, arith, eq-eqb}
 use Rattle.std.specs.Prelude.{nat_lt}
-use Rattle.std.proofs.lemmas.Bool.{cases_Bool}
-use Rattle.std.proofs.lemmas.Bool.Decides.{Decides-ltb}
-use Rattle.std.proofs.lemmas.List.{length-set}
-use Rattle.std.proofs.lemmas.List.Elements.{All-cons, All-nil}
-use Rattle.std.proofs.Math.Nat.{mul-le-mul_right}
-use Rattle.at_ledger.specs.Account.{is_shared}
-use Rattle.at_ledger.specs.Book.{BookTerms, account_of, is_owner}
-use Rattle.at_ledger.specs.Call.{AreTargetsOn, IsCallOn, TargetPair, amount_of}
-use Rattle.at_ledger.specs.State.{LedgerState, Step, asked_position, is_full, pay, step}
-use Rattle.at_ledger.specs.declared.call.Call.{Call}
-use Rattle.at_ledger.specs.declared.call.Call.TheVariants.{Transfer, Read, Pay}
-use Rattle.at_ledger.specs.declared.call.Reply.{Reply}
-use Rattle.at_ledger.specs.declared.call.Reply.TheVariants.{Done, NotOwner, Full, Balance}
-use Rattle.at_orders.specs.Covered.{asked_by_call, asked_by_pay}
-use Rattle.at_orders.specs.Alone.{IsTarget, Names}
+use Rattle.at_orders.proofs.Prelude.{cases_Bool, Decides-ltb, length-set, All-cons, All-nil, mul-le-mul_right, is_shared, BookTerms, account_of, is_owner, AreTargetsOn, IsCallOn, TargetPair, amount_of, LedgerState, Step, asked_position, is_full, pay, step, Call, Transfer, Read, Pay, Reply, Done, NotOwner, Full, Balance, asked_by_call, asked_by_pay, IsTarget, Names}
 use Rattle.at_orders.proofs.Moved.{at_or_off, length-moved, moved-at, moved-cross, moved-off, moved-touch, moved_in, set-at, set-off, sum-moved}
 
 -- a ledger of the book with these numbers

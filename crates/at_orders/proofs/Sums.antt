@@ -1,9 +1,6 @@
 -- Sums over the first processes.
 use Rattle.std.proofs.Common.{◌≡◌, ℕ, zero, suc, ◌+◌, ◌<◌, ◌≤◌, ◌==◌, ⊎_elim, refl, sym, ap, add-one, eq-eqb, arith}
-use Rattle.std.proofs.lemmas.Bool.{cases_Bool}
-use Rattle.std.proofs.lemmas.Bool.Decides.{Decides-eqb}
-use Rattle.at_orders.specs.Alone.{at_else}
-use Rattle.at_orders.specs.Covered.{sum_below}
+use Rattle.at_orders.proofs.Prelude.{cases_Bool, Decides-eqb, at_else, sum_below}
 use Rattle.at_orders.proofs.Moved.{at_or_off}
 
 pub sum-zero : (f : ℕ → ℕ) → sum_below 0 f ≡ 0

@@ -1,25 +1,7 @@
 -- Stages that are seen, and the replies that are heard at them.
 use Rattle.std.proofs.Common.{◌≡◌, ℕ, zero, suc, ◌+◌, ◌<◌, ◌≤◌, ◌==◌, Bool, true, false, ◌-◌, ◌⊎◌, ⊎_elim, inl, inr, List, [], ◌∷◌, ◌++◌, length, get_or, set, replicate, sum, All, true≢false, Contains, Some, refl, sym, ap, subst, ◌∙◌, arith}
 use Rattle.std.specs.Prelude.{slice_get}
-use Rattle.std.proofs.lemmas.Bool.{cases_lt}
-use Rattle.std.proofs.lemmas.Bool.Decides.{Decides-eqb}
-use Rattle.std.specs.List.{IsDistinct}
-use Rattle.std.proofs.lemmas.Map.Keys.{apart_from_distinct}
-use Rattle.std.proofs.lemmas.List.{get_or-append-add, get_or_append_left, get_or-set_other, get_or-set_same, length-append, length-set, append_assoc, append-nil}
-use Rattle.std.proofs.Math.Seq.{get_or-append_seam}
-use Rattle.std.proofs.lemmas.List.Elements.{All-append, All-contains, All-push, All-weaker, Contains-append_left, Contains-append_right, Contains-push, Contains-push_cases}
-use Rattle.at_ledger.specs.State.{LedgerState, opening_state, step}
-use Rattle.at_ledger.specs.declared.call.Call.{Call}
-use Rattle.at_ledger.specs.declared.call.Line.{Line}
-use Rattle.at_ledger.specs.declared.call.Reply.{Reply}
-use Rattle.at_ledger.specs.NextCalls.{IsNextOfProcess, with_made}
-use Rattle.at_ledger.proofs.Continuing.{none_made}
-use Rattle.at_orders.specs.Orders.{AreAnswers, Comes}
-use Rattle.at_orders.specs.Replies.{AreJust, no_replies, replies_with}
-use Rattle.at_orders.specs.Stages.{GroundTerms, HasMoreStages, IsStage, StageTerms, first_stage, stage_after}
-use Rattle.at_orders.specs.Walk.{AreAllHeard, AreAllStages, AreApart, AreHeard, AreHeardInPart, Grows, HasAllNext, HasMoreNext, HasNext, HasNumbers, HasStage, IsHeard, IsNextLevel, IsSeen, IsWalkedTo, StandsFor}
-use Rattle.at_orders.specs.declared.replies.Replies.{Replies}
-use Rattle.at_orders.specs.declared.stage.Stage.{Stage}
+use Rattle.at_orders.proofs.Prelude.{cases_lt, Decides-eqb, IsDistinct, apart_from_distinct, get_or-append-add, get_or_append_left, get_or-set_other, get_or-set_same, length-append, length-set, append_assoc, append-nil, get_or-append_seam, All-append, All-contains, All-push, All-weaker, Contains-append_left, Contains-append_right, Contains-push, Contains-push_cases, LedgerState, opening_state, step, Call, Line, Reply, IsNextOfProcess, with_made, none_made, AreAnswers, Comes, AreJust, no_replies, replies_with, GroundTerms, HasMoreStages, IsStage, StageTerms, first_stage, stage_after, AreAllHeard, AreAllStages, AreApart, AreHeard, AreHeardInPart, Grows, HasAllNext, HasMoreNext, HasNext, HasNumbers, HasStage, IsHeard, IsNextLevel, IsSeen, IsWalkedTo, StandsFor, Replies, Stage}
 use Rattle.at_orders.proofs.Reaching.{Leads, comes-next, leads-cons, leads-nil, order-next, stage-ext, stage-reached}
 use Rattle.at_orders.proofs.Hearing.{More, just-none, just-same, just-with}
 

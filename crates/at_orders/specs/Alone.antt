@@ -1,12 +1,6 @@
 -- A file by itself: the ledger after its first calls, where no other process makes any.
 use Rattle.std.specs.Prelude.{◌≡◌, ℕ, ◌-◌, ◌<◌, ◌≤◌, ◌==◌, ◌⊎◌, List, [], ◌∷◌, length, map, take, Some, slice_get, slice_index, slice_index_or, slice_set, if◌then◌else◌}
-use Rattle.at_ledger.specs.Book.{BookTerms, account_of}
-use Rattle.at_ledger.specs.State.{LedgerState, opening_state, step}
-use Rattle.at_ledger.specs.Run.{run_from}
-use Rattle.at_ledger.specs.Call.{TargetPair}
-use Rattle.at_ledger.specs.declared.call.Call.{Call}
-use Rattle.at_ledger.specs.declared.call.Call.TheVariants.{Transfer, Read, Pay}
-use Rattle.at_ledger.specs.declared.call.Reply.{Reply}
+use Rattle.at_orders.specs.Prelude.{BookTerms, account_of, LedgerState, opening_state, step, run_from, TargetPair, Call, Transfer, Read, Pay, Reply}
 use Rattle.at_orders.specs.Covered.{sum_below}
 use Rattle.at_orders.specs.Orders.{Comes}
 use Rattle.at_orders.specs.Replies.{AreJust, range_at, range_with}

@@ -1,9 +1,6 @@
 -- Files in which no payment can be short of balance, however their calls are ordered.
 use Rattle.std.specs.Prelude.{◌≡◌, ℕ, zero, suc, ◌+◌, ◌<◌, ◌≤◌, ◌==◌, ◌&&◌, List, [], ◌∷◌, length, slice_index, slice_index_or, sum_by, if◌then◌else◌}
-use Rattle.at_ledger.specs.Book.{BookTerms, account_of, is_owner}
-use Rattle.at_ledger.specs.Call.{TargetPair, amount_of}
-use Rattle.at_ledger.specs.declared.call.Call.{Call}
-use Rattle.at_ledger.specs.declared.call.Call.TheVariants.{Transfer, Read, Pay}
+use Rattle.at_orders.specs.Prelude.{BookTerms, account_of, is_owner, TargetPair, amount_of, Call, Transfer, Read, Pay}
 
 -- f 0 + f 1 + .., so many of them
 unfoldable pub sum_below : ℕ → (ℕ → ℕ) → ℕ

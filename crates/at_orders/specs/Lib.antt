@@ -1,3 +1,4 @@
+pub mod Prelude
 pub mod Replies
 pub mod Orders
 pub mod Stages

@@ -1,10 +1,6 @@
 -- The orders of the files' calls, and which replies of a call come in them.
 use Rattle.std.specs.Prelude.{◌≡◌, ℕ, ◌+◌, ◌<◌, List, [], length, slice_index_or, Contains}
-use Rattle.at_ledger.specs.Book.{BookTerms}
-use Rattle.at_ledger.specs.Run.{Legal, Whole}
-use Rattle.at_ledger.specs.declared.call.Call.{Call}
-use Rattle.at_ledger.specs.declared.call.Line.{Line}
-use Rattle.at_ledger.specs.declared.call.Reply.{Reply}
+use Rattle.at_orders.specs.Prelude.{BookTerms, Legal, Whole, Call, Line, Reply}
 use Rattle.at_orders.specs.Replies.{AreJust}
 use Rattle.at_orders.specs.declared.replies.Replies.{Replies}
 

@@ -1,7 +1,6 @@
 -- The replies of a call, one more at a time.
 use Rattle.std.specs.Prelude.{◌≡◌, ℕ, ◌≤◌, IsTrue, true, false, min, max, Option, Some, None}
-use Rattle.at_ledger.specs.declared.call.Reply.{Reply}
-use Rattle.at_ledger.specs.declared.call.Reply.TheVariants.{Done, Short, NotOwner, Full, Balance}
+use Rattle.at_orders.specs.Prelude.{Reply, Done, Short, NotOwner, Full, Balance}
 use Rattle.at_orders.specs.declared.replies.Range.{Range}
 use Rattle.at_orders.specs.declared.replies.Replies.{Replies}
 

@@ -1,14 +1,6 @@
 -- The stages that orders go through: how many calls each process has made, and the ledger then.
 use Rattle.std.specs.Prelude.{◌≡◌, ℕ, ◌*◌, ◌/◌, ◌%◌, ◌<◌, ◌≢◌, ◌==◌, ◌&&◌, Bool, List, [], ◌++◌, length, filter, map, min, replicate, slice_index, slice_index_or, take, All, Option, is_some, if◌then◌else◌}
-use Rattle.std.specs.List.{range_with_len}
-use Rattle.at_ledger.specs.Account.{is_shared}
-use Rattle.at_ledger.specs.Call.{TargetPair, first_account, payout_of}
-use Rattle.at_ledger.specs.Book.{BookTerms, account_of, is_owner}
-use Rattle.at_ledger.specs.State.{LedgerState, moved, opening_state, step, with_sent}
-use Rattle.at_ledger.specs.Run.{last_state, lines_of}
-use Rattle.at_ledger.specs.declared.call.Call.{Call}
-use Rattle.at_ledger.specs.declared.call.Line.{Line}
-use Rattle.at_ledger.specs.NextCalls.{with_made}
+use Rattle.at_orders.specs.Prelude.{range_with_len, is_shared, TargetPair, first_account, payout_of, BookTerms, account_of, is_owner, LedgerState, moved, opening_state, step, with_sent, last_state, lines_of, Call, Line, with_made}
 use Rattle.at_orders.specs.Orders.{IsOrder}
 use Rattle.at_orders.specs.declared.stage.Stage.{Stage}
 

@@ -1,12 +1,6 @@
 -- What the walk knows of the stages that it has seen.
 use Rattle.std.specs.Prelude.{◌≡◌, ℕ, ◌+◌, ◌<◌, ◌≤◌, List, [], ◌++◌, length, slice_get, slice_index, slice_index_or, sum, take, All, Contains, Option, None, Some}
-use Rattle.at_ledger.specs.Book.{IsBook, total_of}
-use Rattle.at_ledger.specs.Call.{TargetPair, first_account, payout_of}
-use Rattle.at_ledger.specs.State.{LedgerState, step}
-use Rattle.at_ledger.specs.Files.{IsPlayable}
-use Rattle.at_ledger.specs.declared.call.Call.{Call}
-use Rattle.at_ledger.specs.declared.call.Reply.{Reply}
-use Rattle.at_ledger.specs.NextCalls.{AreWithinFiles, with_made}
+use Rattle.at_orders.specs.Prelude.{IsBook, total_of, TargetPair, first_account, payout_of, LedgerState, step, IsPlayable, Call, Reply, AreWithinFiles, with_made}
 use Rattle.at_orders.specs.Stages.{GroundTerms, IsStage, StageTerms, first_stage, ledger_at, payments_from, requests_at, stage_after}
 use Rattle.at_orders.specs.Replies.{AreJust}
 use Rattle.at_orders.specs.declared.replies.Replies.{Replies}

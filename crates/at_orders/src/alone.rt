@@ -1,17 +1,14 @@
 //! What a file does alone.
 
 ghost use Rattle.std.specs.Prelude.{◌≡◌, ℕ, ◌<◌, ◌≤◌, ◌⊎◌, All, IfOk, length, map};
-ghost use Rattle.at_ledger.specs.Files.{IsPlayable, contents_of};
-ghost use Rattle.at_ledger.specs.Book.{account_of};
-ghost use Rattle.at_ledger.specs.Call.{AreTargetsOn, IsCallOn};
-ghost use Rattle.at_ledger.specs.State.{balance_of};
+ghost use Rattle.at_orders.specs.Prelude.{IsPlayable, contents_of, account_of, AreTargetsOn, IsCallOn, balance_of};
 ghost use Rattle.at_orders.specs.Alone.{AreAlone, IsAlone, IsTarget, IsWidened, Names, range_in};
 ghost use Rattle.at_orders.specs.Covered.{OpeningsCover, asked_in_file};
 ghost use Rattle.at_orders.specs.Replies.{range_at, range_with};
 
 use crate::replies::Range;
-use at_ledger::{Book, Call, NoMemory, Reply, State, Targets};
-use std::alloc::Global;
+use at_ledger::{Book, Call, Reply, State, Targets};
+use std::alloc::{AllocError, Global};
 
 /// What a file does alone: the replies to its calls, and from where to where it brings the balance of each account.
 #[derive(Drop)]
@@ -21,7 +18,7 @@ pub(crate) struct Alone {
 }
 
 /// The range of each account before the first call.
-fn openings(alloc: Global, book: &Book) -> Result<Vec<Range>, NoMemory>
+fn openings(alloc: Global, book: &Book) -> Result<Vec<Range>, AllocError>
     ensures { IfOk result
         (λ ranges. ranges.items ≡ map (λ t. range_at t.opening) book.now.accounts) }
 {
@@ -82,7 +79,7 @@ fn widen_named(book: &Book, ranges: &mut [Range], state: &State, call: &Call)
 }
 
 /// What the file of the process does alone.
-fn play(alloc: Global, book: &Book, process: u32, file: &[Call]) -> Result<Alone, NoMemory>
+fn play(alloc: Global, book: &Book, process: u32, file: &[Call]) -> Result<Alone, AllocError>
     requires process_in { process < book.now.processes }
     requires calls { All (IsCallOn (length book.now.accounts)) file.now }
     requires covered { (account : ℕ) → account < length book.now.accounts
@@ -104,7 +101,7 @@ pub(crate) fn play_each(
     alloc: Global,
     book: &Book,
     files: &[Vec<Call>],
-) -> Result<Vec<Alone>, NoMemory>
+) -> Result<Vec<Alone>, AllocError>
     requires processes { length files.now ≡ book.now.processes }
     requires files { All (IsPlayable (length book.now.accounts)) (contents_of files.now) }
     requires covered { OpeningsCover book.now (contents_of files.now) }

@@ -1,7 +1,7 @@
 //! The replies of each call of each file.
 
 ghost use Rattle.std.specs.Prelude.{◌≡◌, All, Err, IfOk, length};
-ghost use Rattle.at_ledger.specs.Files.{IsPlayable, contents_of};
+ghost use Rattle.at_orders.specs.Prelude.{IsPlayable, contents_of};
 ghost use Rattle.at_orders.specs.Covered.{OpeningsCover};
 ghost use Rattle.at_orders.specs.Orders.{AreAnswers};
 ghost use Rattle.at_orders.specs.Stages.{HasMoreStages};

@@ -1,15 +1,14 @@
 //! Whether the openings cover all that the files ask.
 
 ghost use Rattle.std.specs.Prelude.{◌≡◌, ◌<◌, List, [], ◌∷◌, All, IfOk, length, map, true, false};
-ghost use Rattle.at_ledger.specs.Files.{IsPlayable, contents_of};
-ghost use Rattle.at_ledger.specs.Call.{IsCallOn};
+ghost use Rattle.at_orders.specs.Prelude.{IsPlayable, contents_of, IsCallOn};
 ghost use Rattle.at_orders.specs.Covered.{AreShort, AreTaken, OpeningsCover};
 
-use at_ledger::{Book, Call, NoMemory};
-use std::alloc::Global;
+use at_ledger::{Book, Call};
+use std::alloc::{AllocError, Global};
 
 /// What each account opens with.
-fn openings(alloc: Global, book: &Book) -> Result<Vec<u64>, NoMemory>
+fn openings(alloc: Global, book: &Book) -> Result<Vec<u64>, AllocError>
     ensures { IfOk result (λ left. left.items ≡ map (λ t. t.opening) book.now.accounts) }
 {
     let mut left = Vec::new(alloc);
@@ -60,7 +59,11 @@ fn take_all(book: &Book, process: u32, file: &[Call], left: &mut [u64]) -> bool
 }
 
 /// Whether each account opens with all that the files ask of it. Takes time in proportion to the calls and the accounts.
-pub(crate) fn is_covered(alloc: Global, book: &Book, files: &[Vec<Call>]) -> Result<bool, NoMemory>
+pub(crate) fn is_covered(
+    alloc: Global,
+    book: &Book,
+    files: &[Vec<Call>],
+) -> Result<bool, AllocError>
     requires processes { length files.now ≡ book.now.processes }
     requires files { All (IsPlayable (length book.now.accounts)) (contents_of files.now) }
     ensures covered { IfOk result

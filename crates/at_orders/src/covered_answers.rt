@@ -2,7 +2,7 @@
 //! tells lies between two sums, each of which some order reaches.
 
 ghost use Rattle.std.specs.Prelude.{◌≡◌, ◌+◌, ◌<◌, ◌≤◌, ◌^◌, All, IfOk, [], length, slice_index_or};
-ghost use Rattle.at_ledger.specs.Files.{IsPlayable, contents_of};
+ghost use Rattle.at_orders.specs.Prelude.{IsPlayable, contents_of};
 ghost use Rattle.at_orders.specs.Alone.{AreAlone, AreFirstAnswers, AreRangesOn, falls_of, ranges_of, rises_of};
 ghost use Rattle.at_orders.specs.Covered.{OpeningsCover};
 ghost use Rattle.at_orders.specs.Orders.{AreAnswers, Comes};
@@ -10,8 +10,8 @@ ghost use Rattle.at_orders.specs.Replies.{AreJust};
 
 use crate::alone::{Alone, play_each};
 use crate::replies::{Range, Replies};
-use at_ledger::{Book, Call, NoMemory, Reply};
-use std::alloc::Global;
+use at_ledger::{Book, Call, Reply};
+use std::alloc::{AllocError, Global};
 
 /// From where to where the file of a process alone brings the account.
 fn range_alone(book: &Book, alones: &[Alone], process: u32, account: u32) -> Range
@@ -98,7 +98,7 @@ fn replies_of(
     files: &[Vec<Call>],
     alones: &[Alone],
     process: u32,
-) -> Result<Vec<Replies>, NoMemory>
+) -> Result<Vec<Replies>, AllocError>
     requires processes { length files.now ≡ book.now.processes }
     requires files { All (IsPlayable (length book.now.accounts)) (contents_of files.now) }
     requires covered { OpeningsCover book.now (contents_of files.now) }
@@ -120,7 +120,7 @@ pub(crate) fn covered_answers(
     alloc: Global,
     book: &Book,
     files: &[Vec<Call>],
-) -> Result<Vec<Vec<Replies>>, NoMemory>
+) -> Result<Vec<Vec<Replies>>, AllocError>
     requires processes { length files.now ≡ book.now.processes }
     requires files { All (IsPlayable (length book.now.accounts)) (contents_of files.now) }
     requires covered { OpeningsCover book.now (contents_of files.now) }

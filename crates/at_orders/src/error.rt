@@ -1,6 +1,6 @@
 //! Why there is no answer.
 
-use at_ledger::NoMemory;
+use std::alloc::AllocError;
 use thiserror::Error;
 
 /// Why no answer came of the files.
@@ -13,13 +13,13 @@ pub enum OrdersError {
     NoMemory,
 }
 
-impl From<NoMemory> for OrdersError {
+impl From<AllocError> for OrdersError {
     ghost use Rattle.std.specs.Prelude.{◌≡◌};
     ghost use Rattle.at_orders.specs.declared.error.OrdersError.TheVariants as errors;
 
     ghost from_gives = { λ _ e. e ≡ errors.NoMemory };
 
-    fn from(_e: NoMemory) -> OrdersError {
+    fn from(_e: AllocError) -> OrdersError {
         OrdersError::NoMemory
     }
 }

@@ -1,16 +1,13 @@
 //! What the stages of a walk stand on.
 
 ghost use Rattle.std.specs.Prelude.{◌≡◌, ◌^◌, ◌<◌, ◌≤◌, [], All, IfOk, None, Some, length, slice_get, slice_index_or, take};
-ghost use Rattle.at_ledger.specs.Files.{IsPlayable, contents_of};
-ghost use Rattle.at_ledger.specs.Limits.{most_calls};
-ghost use Rattle.at_ledger.specs.Call.{IsCallOn, first_account};
-ghost use Rattle.at_ledger.specs.declared.call.Call.{Call};
+ghost use Rattle.at_orders.specs.Prelude.{IsPlayable, contents_of, most_calls, IsCallOn, first_account, Call};
 ghost use Rattle.at_orders.specs.Stages.{payments_from};
 ghost use Rattle.at_orders.specs.Walk.{AreAllCountedBefore, AreCountedBefore, HasPlace, IsGround};
 
 use crate::places::Places;
-use at_ledger::{Book, Call, NoMemory};
-use std::alloc::Global;
+use at_ledger::{Book, Call};
+use std::alloc::{AllocError, Global};
 use std::marker::Model;
 
 /// The book and the files of a walk, for each call how many payments from the account that it names first stand before it in
@@ -34,7 +31,7 @@ impl<'a> Drop for Ground<'a> {
 }
 
 impl<'a> Model for Ground<'a> {
-    ghost use Rattle.at_ledger.specs.Files.{contents_of};
+    ghost use Rattle.at_orders.specs.Prelude.{contents_of};
     ghost use Rattle.at_orders.specs.Stages.{GroundTerms};
     ghost use Rattle.at_orders.specs.Walk.{AreAllCountedBefore, IsGround};
 
@@ -61,7 +58,7 @@ impl<'a> Ground<'a> {
         alloc: Global,
         book: &'a Book,
         files: &'a [Vec<Call>],
-    ) -> Result<Ground<'a>, NoMemory>
+    ) -> Result<Ground<'a>, AllocError>
         requires processes { length files.now ≡ book.now.processes }
         requires files { All (IsPlayable (length book.now.accounts)) (contents_of files.now) }
         ensures book { IfOk result (λ g. g.book ≡ book.now) }
@@ -134,7 +131,7 @@ impl<'a> Ground<'a> {
 }
 
 /// For each call how many payments from the account that it names first stand before it.
-fn count_before(alloc: Global, accounts: u32, file: &[Call]) -> Result<Vec<u32>, NoMemory>
+fn count_before(alloc: Global, accounts: u32, file: &[Call]) -> Result<Vec<u32>, AllocError>
     requires small { accounts ≤ 2 ^ 16 }
     requires playable { IsPlayable accounts file.now }
     ensures { IfOk result (λ before. AreCountedBefore file.now before.items) }
@@ -156,7 +153,7 @@ fn count_all_before(
     alloc: Global,
     accounts: u32,
     files: &[Vec<Call>],
-) -> Result<Vec<Vec<u32>>, NoMemory>
+) -> Result<Vec<Vec<u32>>, AllocError>
     requires small { accounts ≤ 2 ^ 16 }
     requires playable { All (IsPlayable accounts) (contents_of files.now) }
     ensures { IfOk result

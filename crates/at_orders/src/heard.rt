@@ -1,18 +1,17 @@
 //! What is heard of the replies of each call at the stages that it is made at.
 
 ghost use Rattle.std.specs.Prelude.{◌≡◌, ◌<◌, ◌++◌, List, All, IfOk, [], length, slice_index_or};
-ghost use Rattle.at_ledger.specs.Files.{contents_of};
+ghost use Rattle.at_orders.specs.Prelude.{contents_of};
 ghost use Rattle.at_orders.specs.declared.stage.Stage.{Stage};
 ghost use Rattle.at_orders.specs.Walk.{AreAllHeard, AreHeard, IsSeen};
 
 use crate::ground::Ground;
 use crate::replies::Replies;
 use crate::stage::Stage;
-use at_ledger::NoMemory;
-use std::alloc::Global;
+use std::alloc::{AllocError, Global};
 
 /// No reply to any call of any file.
-pub(crate) fn silent(alloc: Global, ground: &Ground) -> Result<Vec<Vec<Replies>>, NoMemory>
+pub(crate) fn silent(alloc: Global, ground: &Ground) -> Result<Vec<Vec<Replies>>, AllocError>
     ensures { IfOk result (λ answers. AreAllHeard ground.now [] (contents_of answers.items)
         (length ground.now.files)) }
 {

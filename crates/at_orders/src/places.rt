@@ -1,12 +1,11 @@
 //! Where the balances of the accounts that calls name first are kept.
 
 ghost use Rattle.std.specs.Prelude.{◌<◌, All, IfOk, OnOk, length};
-ghost use Rattle.at_ledger.specs.Files.{contents_of};
-ghost use Rattle.at_ledger.specs.Call.{IsCallOn};
+ghost use Rattle.at_orders.specs.Prelude.{contents_of, IsCallOn};
 ghost use Rattle.at_orders.specs.Walk.{ArePlaces, HasFirstPlace, HasPlace, KeepsPlaces};
 
-use at_ledger::{Call, NoMemory};
-use std::alloc::Global;
+use at_ledger::Call;
+use std::alloc::{AllocError, Global};
 
 /// The accounts that calls name first, each once, and the place of each account among them, if it is there.
 #[derive(Drop)]
@@ -17,7 +16,11 @@ pub(crate) struct Places {
 
 impl Places {
     /// The places of all accounts that calls of the files name first.
-    pub(crate) fn new(alloc: Global, accounts: u32, files: &[Vec<Call>]) -> Result<Places, NoMemory>
+    pub(crate) fn new(
+        alloc: Global,
+        accounts: u32,
+        files: &[Vec<Call>],
+    ) -> Result<Places, AllocError>
         requires { All (All (IsCallOn accounts)) (contents_of files.now) }
         ensures places { IfOk result (λ p. ArePlaces accounts p.named.items p.of.items) }
         ensures named { IfOk result
@@ -34,7 +37,7 @@ impl Places {
     }
 
     /// Gives a place to each account that a call names first.
-    fn add_file(&mut self, file: &[Call]) -> Result<(), NoMemory>
+    fn add_file(&mut self, file: &[Call]) -> Result<(), AllocError>
         requires places { ArePlaces (length self.old.of.items) self.old.named.items
             self.old.of.items }
         requires calls { All (IsCallOn (length self.old.of.items)) file.now }
@@ -50,7 +53,7 @@ impl Places {
     }
 
     /// Gives a place to the account, if it has none.
-    fn add(&mut self, account: u32) -> Result<(), NoMemory>
+    fn add(&mut self, account: u32) -> Result<(), AllocError>
         requires places { ArePlaces (length self.old.of.items) self.old.named.items
             self.old.of.items }
         requires account { account < length self.old.of.items }

@@ -1,16 +1,13 @@
 //! A stage of an order.
 
 ghost use Rattle.std.specs.Prelude.{◌≡◌, ℕ, ◌+◌, ◌-◌, ◌^◌, ◌<◌, ◌≤◌, List, length, sum, true, slice_index, slice_set, IfOk};
-ghost use Rattle.at_ledger.specs.Book.{is_owner};
-ghost use Rattle.at_ledger.specs.Call.{AreTargetsOn, IsCallOn, TargetPair, amount_of, first_account};
-ghost use Rattle.at_ledger.specs.State.{LedgerState, balance_of, credited, is_full, moved, pay, step, with_sent};
-ghost use Rattle.at_ledger.specs.declared.call.Reply.TheVariants.{Done};
+ghost use Rattle.at_orders.specs.Prelude.{is_owner, AreTargetsOn, IsCallOn, TargetPair, amount_of, first_account, LedgerState, balance_of, credited, is_full, moved, pay, step, with_sent, Done};
 ghost use Rattle.at_orders.specs.Stages.{StageTerms, after_success, first_stage, stage_after};
 ghost use Rattle.at_orders.specs.Walk.{AreKept, HasNumbers, HasPlace, IsMadeTo, IsNextCall, IsNextPayment, IsStanding, StandsFor};
 
 use crate::ground::Ground;
-use at_ledger::{Call, NoMemory, Reply, Targets};
-use std::alloc::Global;
+use at_ledger::{Call, Reply, Targets};
+use std::alloc::{AllocError, Global};
 use std::hash::{Hash, Hasher};
 
 /// How many calls each process has made, and the balances of the accounts that calls name first and the used own room then.
@@ -29,7 +26,7 @@ const HASHED_MAX: usize = 256;
 impl Hash for Stage {
     ghost use Rattle.std.specs.Prelude.{◌++◌, take};
     ghost use Rattle.std.specs.Hash as fed;
-    ghost use Rattle.std.specs.Cmp.Rules.{hashing};
+    ghost use Rattle.at_orders.specs.Prelude.{hashing};
     ghost use Rattle.std.proofs.Common.{rules};
 
     ghost hash_input = { λ x. fed.slice fed.u32 x.made.items ++ fed.slice fed.u64 (take 256 x.balances.items) };
@@ -46,7 +43,7 @@ impl Hash for Stage {
 
 impl Stage {
     /// Before the first call.
-    pub(crate) fn first(alloc: Global, ground: &Ground) -> Result<Stage, NoMemory>
+    pub(crate) fn first(alloc: Global, ground: &Ground) -> Result<Stage, AllocError>
         ensures stage { IfOk result (λ s. StandsFor ground.now s (first_stage ground.now.book)) }
         ensures standing { IfOk result (λ s. IsStanding ground.now s) }
     {
@@ -106,7 +103,7 @@ impl Stage {
         ground: &Ground,
         process: u32,
         call: &Call,
-    ) -> Result<Stage, NoMemory>
+    ) -> Result<Stage, AllocError>
         requires standing { IsStanding ground.now self.now }
         requires process_in { process < ground.now.book.processes }
         requires call_in { IsCallOn (length ground.now.book.accounts) call.now }
@@ -123,7 +120,7 @@ impl Stage {
         Ok(stage)
     }
 
-    fn copy(&self, alloc: Global) -> Result<Stage, NoMemory>
+    fn copy(&self, alloc: Global) -> Result<Stage, AllocError>
         ensures { IfOk result (λ s. (s.made.items ≡ self.now.made.items)
             × (s.balances.items ≡ self.now.balances.items)
             × (s.sent.items ≡ self.now.sent.items)) }

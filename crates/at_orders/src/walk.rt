@@ -1,7 +1,7 @@
 //! The walk over all stages, level by level: a level has the stages at which so many calls were made in all.
 
 ghost use Rattle.std.specs.Prelude.{◌≡◌, ◌<◌, ◌≤◌, ◌+◌, ◌⊎◌, ℕ, [], All, Contains, Err, IfOk, OnOk, length, sum};
-ghost use Rattle.at_ledger.specs.Files.{IsPlayable, contents_of};
+ghost use Rattle.at_orders.specs.Prelude.{IsPlayable, contents_of};
 ghost use Rattle.at_orders.specs.declared.stage.Stage.{Stage};
 ghost use Rattle.at_orders.specs.Orders.{AreAnswers};
 ghost use Rattle.at_orders.specs.Stages.{GroundTerms, HasMoreStages, StageTerms};
@@ -12,7 +12,7 @@ use crate::ground::Ground;
 use crate::heard::{hear_all, silent};
 use crate::replies::Replies;
 use crate::stage::Stage;
-use at_ledger::{Book, Call, NoMemory};
+use at_ledger::{Book, Call};
 use indexmap::IndexSet;
 use std::alloc::{AllocError, Global};
 use std::mem::replace;
@@ -21,7 +21,7 @@ use std::mem::replace;
 pub const STAGES_MAX: usize = 1_048_576;
 
 /// Sees this stage too.
-fn add(seen: &mut IndexSet<Stage>, stage: Stage) -> Result<(), NoMemory>
+fn add(seen: &mut IndexSet<Stage>, stage: Stage) -> Result<(), AllocError>
     ensures grows { Grows seen.old.keys seen.new.keys }
     ensures len { length seen.new.keys ≤ length seen.old.keys + 1 }
     ensures only { (s : Stage) → Contains seen.new.keys s
@@ -42,7 +42,7 @@ fn turn(
     stage: &Stage,
     process: u32,
     next: &mut IndexSet<Stage>,
-) -> Result<(), NoMemory>
+) -> Result<(), AllocError>
     requires process_in { process < ground.now.book.processes }
     requires stage { IsSeen ground.now stage.now }
     requires level { AreLevel ground.now (sum stage.now.made.items + 1)
@@ -66,7 +66,7 @@ fn look(
     ground: &Ground,
     stage: &Stage,
     next: &mut IndexSet<Stage>,
-) -> Result<(), NoMemory>
+) -> Result<(), AllocError>
     requires stage { IsSeen ground.now stage.now }
     requires level { AreLevel ground.now (sum stage.now.made.items + 1)
         next.old.keys }
@@ -110,7 +110,7 @@ fn next_level(
 }
 
 /// The first stage alone.
-fn begin(alloc: Global, ground: &Ground) -> Result<IndexSet<Stage>, NoMemory>
+fn begin(alloc: Global, ground: &Ground) -> Result<IndexSet<Stage>, AllocError>
     ensures walked { IfOk result
         (λ seen. IsWalkedTo ground.now [] seen.keys 0) }
     ensures one { IfOk result (λ seen. length seen.keys ≤ 1) }

@@ -1,9 +1,6 @@
 -- A call of the files.
 use Rattle.std.proofs.Common.{◌≡◌, ℕ, ◌<◌, ◌≤◌, All, List, [], None, Some, get_or, length, slice_get, subst, sym, refl}
-use Rattle.std.proofs.lemmas.Option.{slice_get_past, slice_get_read}
-use Rattle.at_ledger.specs.Call.{IsCallOn}
-use Rattle.at_ledger.specs.Files.{IsPlayable}
-use Rattle.at_ledger.specs.declared.call.Call.{Call}
+use Rattle.at_pages.proofs.Prelude.{slice_get_past, slice_get_read, IsCallOn, IsPlayable, Call}
 
 -- it names accounts that are there
 pub call-known : (accounts : ℕ) (files : List (List Call)) (p i : ℕ) (file : List Call) (x : Call) → All (IsPlayable accounts) files → p < length files

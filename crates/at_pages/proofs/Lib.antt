@@ -1,3 +1,4 @@
+pub mod Prelude
 -- what a function gives of each element, one after another
 pub mod TextLaws
 -- the calls of a process, turn by turn

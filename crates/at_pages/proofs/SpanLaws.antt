@@ -1,19 +1,7 @@
 -- The calls of a process, turn by turn.
 use Rattle.std.proofs.Common.{◌≡◌, ◌≢◌, ℕ, zero, suc, ◌+◌, ◌<◌, ◌≤◌, ◌==◌, ◌&&◌, ◌∙◌, All, Bool, true, false, cond, List, [], ◌∷◌, ◌++◌, Option, Some, count_by, filter, flat_map, length, map, take, slice_get, refl, sym, ap, subst, arith, append-nil, inl, inr, add-one}
 use Rattle.std.specs.Prelude.{is_some, unwrap_or}
-use Rattle.std.specs.List.{range_with_len}
-use Rattle.std.proofs.lemmas.Bool.{cases_eq, eq-eqb, ne_eqb}
-use Rattle.std.proofs.lemmas.List.{map-append, take-take}
-use Rattle.std.proofs.lemmas.List.Elements.{All-append, All-map, All-nil}
-use Rattle.std.proofs.lemmas.List.Sums.{sum_by-take-le, sum_by_push}
-use Rattle.at_stepper.specs.InTurns.{is_turn_of, turn_at}
-use Rattle.at_stepper.specs.Schedules.{answered_by}
-use Rattle.at_stepper.specs.declared.replaying.TurnMade.{TurnMade}
-use Rattle.at_traces.proofs.CountLaws.{answered_by-more, other-added}
-use Rattle.at_pages.specs.Making.{after_turn, ended, ended_by, not_begun, with_turn}
-use Rattle.at_pages.specs.Spans.{all_spans, answers, counts_record, makes_exchange, makes_step, span_at, spans_of, turns_before}
-use Rattle.at_pages.specs.declared.spans.Making.{Making}
-use Rattle.at_pages.specs.declared.spans.Span.{Span}
+use Rattle.at_pages.proofs.Prelude.{range_with_len, cases_eq, eq-eqb, ne_eqb, map-append, take-take, All-append, All-map, All-nil, sum_by-take-le, sum_by_push, is_turn_of, turn_at, answered_by, TurnMade, answered_by-more, other-added, after_turn, ended, ended_by, not_begun, with_turn, all_spans, answers, counts_record, makes_exchange, makes_step, span_at, spans_of, turns_before, Making, Span}
 use Rattle.at_pages.proofs.TextLaws.{filter-range_more, flat_map-range_more}
 
 -- what is known before a turn of the call that is in the making then

@@ -1,10 +1,6 @@
 -- What a function gives of each element of a list, one after another.
 use Rattle.std.proofs.Common.{◌≡◌, ℕ, ◌+◌, ◌<◌, ◌∙◌, Bool, true, false, cond, List, [], ◌∷◌, ◌++◌, filter, flat_map, length, take, get_or, ap, append_assoc, append-nil, arith, refl, sym}
-use Rattle.std.specs.List.{range_with_len}
-use Rattle.std.proofs.lemmas.Grind.{flat_map-append}
-use Rattle.std.proofs.lemmas.List.{map-id, take_more}
-use Rattle.std.proofs.lemmas.List.Elements.{filter-append}
-use Rattle.std.proofs.lemmas.List.FromFn.{map-range_with_len_more}
+use Rattle.at_pages.proofs.Prelude.{range_with_len, flat_map-append, map-id, take_more, filter-append, map-range_with_len_more}
 
 pub flat_map-push : {X Y : Type 0} (f : X → List Y) (xs : List X) (x : X) → flat_map f (xs ++ x ∷ []) ≡ flat_map f xs ++ f x
 flat_map-push {Y} f xs x = flat_map-append f xs (x ∷ []) ∙ ap (λ (text : List Y). flat_map f xs ++ text) (append-nil (f x))

@@ -1,15 +1,6 @@
 -- The turns of a process, and which of them decide.
 use Rattle.std.proofs.Common.{◌≡◌, ℕ, ◌+◌, ◌<◌, ◌≤◌, ◌∙◌, All, Bool, true, false, cond, List, [], ◌∷◌, None, ap, arith, get_or, length, map, slice_get, sym}
-use Rattle.std.specs.List.{range_with_len}
-use Rattle.std.proofs.lemmas.List.{get_or_default, get_or_past, length-map}
-use Rattle.std.proofs.lemmas.List.Elements.{All-nil, All-push}
-use Rattle.std.proofs.lemmas.List.FromFn.{get_or-map-range_with_len, length-range_with_len}
-use Rattle.std.proofs.lemmas.Option.{slice_get_past}
-use Rattle.at_ledger.specs.Account.{AccountTerms, no_account}
-use Rattle.at_ledger.specs.Book.{BookTerms, account_of}
-use Rattle.at_stepper.specs.declared.replaying.TurnMade.{TurnMade}
-use Rattle.at_pages.specs.Arrows.{asker_loaded, decided_for, decides_at, unless_own}
-use Rattle.at_pages.specs.Turns.{own_step, own_turn, own_turns}
+use Rattle.at_pages.proofs.Prelude.{range_with_len, get_or_default, get_or_past, length-map, All-nil, All-push, get_or-map-range_with_len, length-range_with_len, slice_get_past, AccountTerms, no_account, BookTerms, account_of, TurnMade, asker_loaded, decided_for, decides_at, unless_own, own_step, own_turn, own_turns}
 
 -- an account that isn't there has no owner
 pub owner-none : (b : BookTerms) (a slot : ℕ) → length b.accounts ≤ a → slice_get (account_of b a).owners slot ≡ None

@@ -1,14 +1,6 @@
 -- The arrows of decisions: from the exchange that decides to the lane of the owner whose request it decides.
 use Rattle.std.specs.Prelude.{ℕ, ◌+◌, ◌==◌, ◌&&◌, Bool, false, not, List, [], ◌++◌, Option, None, Some, codes, decimal, flat_map, length, slice_get, take, if◌then◌else◌}
-use Rattle.std.specs.List.{list_any, range_with_len}
-use Rattle.at_board.specs.declared.step.BoardStep.{BoardStep}
-use Rattle.at_board.specs.declared.step.BoardStep.TheVariants.{Exchange, Load, Store}
-use Rattle.at_board.specs.declared.step.BoardWord.{BoardWord}
-use Rattle.at_board.specs.declared.step.BoardWord.TheVariants.{Announced, Cell, Length, Record, Request}
-use Rattle.at_files.specs.Names.{NameList, process_name}
-use Rattle.at_ledger.specs.Book.{BookTerms, account_of}
-use Rattle.at_stepper.specs.InTurns.{turn_at}
-use Rattle.at_stepper.specs.declared.replaying.TurnMade.{TurnMade}
+use Rattle.at_pages.specs.Prelude.{list_any, range_with_len, BoardStep, Exchange, Load, Store, BoardWord, Announced, Cell, Length, Record, Request, NameList, process_name, BookTerms, account_of, turn_at, TurnMade}
 use Rattle.at_pages.specs.Places.{facing_edge, lane_place, caption_line, caption_place, place_text, time_place}
 use Rattle.at_pages.specs.Turns.{own_step, own_turn, own_turns}
 use Rattle.at_pages.specs.declared.decisions.CellNumbers.{CellNumbers}

@@ -1,12 +1,6 @@
 -- The lanes, and in them the bars of the calls with their words and replies.
 use Rattle.std.specs.Prelude.{ℕ, ◌+◌, ◌-◌, ◌*◌, ◌==◌, ◌&&◌, Bool, List, [], ◌++◌, Option, None, Some, codes, decimal, flat_map, length, nat_le, nat_lt, slice_get, slice_index_or, if◌then◌else◌}
-use Rattle.std.specs.List.{range_with_len}
-use Rattle.at_files.specs.Names.{NameList, account_name, process_name}
-use Rattle.at_ledger.specs.Call.{amount_of}
-use Rattle.at_ledger.specs.declared.call.Call.{Call}
-use Rattle.at_ledger.specs.declared.call.Call.TheVariants.{Pay, Read, Transfer}
-use Rattle.at_report.specs.Lines.{Word}
-use Rattle.at_traces.specs.TraceText.{reply_field}
+use Rattle.at_pages.specs.Prelude.{range_with_len, NameList, account_name, process_name, amount_of, Call, Pay, Read, Transfer, Word, reply_field}
 use Rattle.at_pages.specs.Places.{bar_left, bar_right, bar_top, bar_width, lane_place, lane_width, name_line, place_text, reply_line, words_line}
 use Rattle.at_pages.specs.declared.spans.Span.{Span}
 

@@ -1,14 +1,6 @@
 -- The curves of publications: from a publication to the first turn of each other process in which its record is loaded.
 use Rattle.std.specs.Prelude.{ℕ, ◌+◌, ◌==◌, ◌&&◌, Bool, false, List, [], ◌++◌, Option, None, Some, codes, decimal, filter, flat_map, length, nat_le, slice_get, take, if◌then◌else◌}
-use Rattle.std.specs.List.{list_any, range_with_len}
-use Rattle.at_board.specs.declared.step.BoardStep.{BoardStep}
-use Rattle.at_board.specs.declared.step.BoardStep.TheVariants.{Exchange, Load, Store}
-use Rattle.at_board.specs.declared.step.BoardWord.{BoardWord}
-use Rattle.at_board.specs.declared.step.BoardWord.TheVariants.{Announced, Cell, Length, Record, Request}
-use Rattle.at_board.specs.declared.words.TheConstants.{RECORD_WORDS}
-use Rattle.at_ledger.specs.Book.{BookTerms}
-use Rattle.at_stepper.specs.InTurns.{turn_at}
-use Rattle.at_stepper.specs.declared.replaying.TurnMade.{TurnMade}
+use Rattle.at_pages.specs.Prelude.{list_any, range_with_len, BoardStep, Exchange, Load, Store, BoardWord, Announced, Cell, Length, Record, Request, RECORD_WORDS, BookTerms, turn_at, TurnMade}
 use Rattle.at_pages.specs.Places.{borrow_line, facing_edge, lane_place, middle_of, caption_place, place_text, time_place}
 use Rattle.at_pages.specs.declared.loads.LoadNumbers.{LoadNumbers}
 

@@ -1,8 +1,6 @@
 -- What is known of the cells while the turns are gone through.
 use Rattle.std.specs.Prelude.{◌≡◌, List}
-use Rattle.std.specs.List.{list_any}
-use Rattle.std.specs.HashSet.{HashSet}
-use Rattle.at_stepper.specs.declared.replaying.TurnMade.{TurnMade}
+use Rattle.at_pages.specs.Prelude.{list_any, HashSet, TurnMade}
 use Rattle.at_pages.specs.Arrows.{is_same_cell, was_exchanged}
 use Rattle.at_pages.specs.declared.decisions.CellNumbers.{CellNumbers}
 

@@ -1,8 +1,6 @@
 -- What is known of the records while the turns are gone through.
 use Rattle.std.specs.Prelude.{◌≡◌, ℕ, List}
-use Rattle.std.specs.HashSet.{HashSet}
-use Rattle.std.specs.List.{list_any}
-use Rattle.at_stepper.specs.declared.replaying.TurnMade.{TurnMade}
+use Rattle.at_pages.specs.Prelude.{HashSet, list_any, TurnMade}
 use Rattle.at_pages.specs.Curves.{is_same_load, was_loaded}
 use Rattle.at_pages.specs.declared.loads.LoadNumbers.{LoadNumbers}
 

@@ -1,7 +1,6 @@
 -- What is known of a process's call while it is in the making.
 use Rattle.std.specs.Prelude.{ℕ, ◌+◌, ◌≤◌, ◌==◌, ◌&&◌, Bool, List, [], ◌∷◌, Option, None, Some, is_some, unwrap_or, if◌then◌else◌}
-use Rattle.at_ledger.specs.declared.call.Reply.{Reply}
-use Rattle.at_stepper.specs.declared.replaying.TurnMade.{TurnMade}
+use Rattle.at_pages.specs.Prelude.{Reply, TurnMade}
 use Rattle.at_pages.specs.Spans.{begins_record, is_exchange}
 use Rattle.at_pages.specs.declared.spans.Making.{Making}
 use Rattle.at_pages.specs.declared.spans.Span.{Span}

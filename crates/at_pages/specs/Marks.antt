@@ -1,12 +1,6 @@
 -- The marks of the turns.
 use Rattle.std.specs.Prelude.{ℕ, ◌+◌, List, ◌++◌, codes, decimal, flat_map, length, if◌then◌else◌}
-use Rattle.std.specs.List.{range_with_len}
-use Rattle.at_files.specs.Names.{NameList}
-use Rattle.at_ledger.specs.Book.{BookTerms}
-use Rattle.at_report.specs.Lines.{Word}
-use Rattle.at_stepper.specs.InTurns.{turn_at}
-use Rattle.at_stepper.specs.declared.replaying.TurnMade.{TurnMade}
-use Rattle.at_traces.specs.TraceText.{step_address, step_word}
+use Rattle.at_pages.specs.Prelude.{range_with_len, NameList, BookTerms, Word, turn_at, TurnMade, step_address, step_word}
 use Rattle.at_pages.specs.Places.{lane_place, place_text, time_place}
 
 -- the shape of a turn's mark: a publication has its own, and any other turn that of its step

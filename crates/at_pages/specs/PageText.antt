@@ -1,11 +1,6 @@
 -- The page of a run.
 use Rattle.std.specs.Prelude.{ℕ, List, ◌++◌, codes, decimal, length}
-use Rattle.at_files.specs.Names.{NameList}
-use Rattle.at_kinds.specs.Sentence.{sentence_text}
-use Rattle.at_ledger.specs.Book.{BookTerms}
-use Rattle.at_ledger.specs.declared.call.Call.{Call}
-use Rattle.at_stepper.specs.declared.replaying.Replayed.{Replayed}
-use Rattle.at_stepper.specs.declared.replaying.TurnMade.{TurnMade}
+use Rattle.at_pages.specs.Prelude.{NameList, sentence_text, BookTerms, Call, Replayed, TurnMade}
 use Rattle.at_pages.specs.Arrows.{arrows_text}
 use Rattle.at_pages.specs.Bars.{bars_text, lanes_text}
 use Rattle.at_pages.specs.Curves.{curves_text}

@@ -1,13 +1,6 @@
 -- The turns that each call took.
 use Rattle.std.specs.Prelude.{ℕ, ◌==◌, ◌&&◌, Bool, false, true, List, [], ◌∷◌, ◌++◌, Option, None, Some, count_by, filter, flat_map, is_some, length, map, slice_get, take, unwrap_or, if◌then◌else◌}
-use Rattle.std.specs.List.{range_with_len}
-use Rattle.at_board.specs.declared.step.BoardStep.{BoardStep}
-use Rattle.at_board.specs.declared.step.BoardStep.TheVariants.{Exchange, Load, Store}
-use Rattle.at_board.specs.declared.step.BoardWord.{BoardWord}
-use Rattle.at_board.specs.declared.step.BoardWord.TheVariants.{Announced, Cell, Length, Record, Request}
-use Rattle.at_stepper.specs.InTurns.{is_turn_of, turn_at}
-use Rattle.at_stepper.specs.Schedules.{answered_by}
-use Rattle.at_stepper.specs.declared.replaying.TurnMade.{TurnMade}
+use Rattle.at_pages.specs.Prelude.{range_with_len, BoardStep, Exchange, Load, Store, BoardWord, Announced, Cell, Length, Record, Request, is_turn_of, turn_at, answered_by, TurnMade}
 use Rattle.at_pages.specs.declared.spans.Span.{Span}
 
 -- whether a turn makes a step, and whether that is an exchange

@@ -1,14 +1,6 @@
 -- The table of the calls, and the journal.
 use Rattle.std.specs.Prelude.{ℕ, ◌+◌, List, [], ◌∷◌, ◌++◌, Option, None, Some, codes, decimal, flat_map}
-use Rattle.at_costs.specs.Bounds.{most_exchanges, most_steps}
-use Rattle.at_files.specs.Names.{NameList, process_name}
-use Rattle.at_kinds.specs.CallFields.{call_fields}
-use Rattle.at_ledger.specs.Book.{BookTerms}
-use Rattle.at_ledger.specs.declared.call.Call.{Call}
-use Rattle.at_ledger.specs.declared.call.Line.{Line}
-use Rattle.at_ledger.specs.declared.call.Reply.{Reply}
-use Rattle.at_report.specs.Lines.{Words, journal_words, line_text}
-use Rattle.at_traces.specs.TraceText.{reply_field}
+use Rattle.at_pages.specs.Prelude.{most_exchanges, most_steps, NameList, process_name, call_fields, BookTerms, Call, Line, Reply, Words, journal_words, line_text, reply_field}
 use Rattle.at_pages.specs.Bars.{spanned_call}
 use Rattle.at_pages.specs.declared.spans.Span.{Span}
 

@@ -1,9 +1,6 @@
 -- The turns of a process.
 use Rattle.std.specs.Prelude.{ℕ, ◌==◌, List, Option, filter, length, slice_index_or}
-use Rattle.std.specs.List.{range_with_len}
-use Rattle.at_board.specs.declared.step.BoardStep.{BoardStep}
-use Rattle.at_stepper.specs.InTurns.{turn_at}
-use Rattle.at_stepper.specs.declared.replaying.TurnMade.{TurnMade}
+use Rattle.at_pages.specs.Prelude.{range_with_len, BoardStep, turn_at, TurnMade}
 
 -- the numbers of its turns, in order
 abbrev pub own_turns : List TurnMade → ℕ → List ℕ

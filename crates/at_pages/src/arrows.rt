@@ -1,12 +1,10 @@
 //! The arrows of decisions.
 
 ghost use Rattle.std.specs.Prelude.{◌≡◌, ℕ, ◌<◌, ◌++◌, All, IfSome, OnOk, length, map};
-ghost use Rattle.std.specs.List.{range_with_len};
-ghost use Rattle.at_files.specs.Names.{AreNamesOf};
+ghost use Rattle.at_pages.specs.Prelude.{range_with_len, AreNamesOf};
 ghost use Rattle.at_pages.specs.Arrows.{arrow_stroke, arrow_caption, arrow_path, arrow_text, arrow_words, arrows_from, arrows_text, decided_for, decides_at};
 ghost use Rattle.at_pages.specs.Turns.{own_turn, own_turns};
 
-use crate::NoMemory;
 use crate::decisions::{all_decisions, other_asker};
 use crate::parts::{
     caption_line, caption_place, facing_edge, lane_place, push_place, push_size, time_place,
@@ -15,10 +13,10 @@ use crate::turns::{own_step, own_turns};
 use at_files::Names;
 use at_ledger::Book;
 use at_stepper::TurnMade;
-use std::alloc::Global;
+use std::alloc::{AllocError, Global};
 
 /// Adds the way of an arrow from a turn of one process to another's lane.
-fn push_path(out: &mut Vec<u8>, turn: usize, process: u32, owner: u32) -> Result<(), NoMemory>
+fn push_path(out: &mut Vec<u8>, turn: usize, process: u32, owner: u32) -> Result<(), AllocError>
     ensures { OnOk result (out.new.items ≡ out.old.items ++ arrow_path turn process owner) }
 {
     out.extend_from_slice(b"M")?;
@@ -30,7 +28,7 @@ fn push_path(out: &mut Vec<u8>, turn: usize, process: u32, owner: u32) -> Result
 }
 
 /// Adds the words of an arrow.
-fn push_arrow_words(out: &mut Vec<u8>, names: &Names, owner: u32) -> Result<(), NoMemory>
+fn push_arrow_words(out: &mut Vec<u8>, names: &Names, owner: u32) -> Result<(), AllocError>
     requires { owner < length names.now.processes }
     ensures { OnOk result (out.new.items ≡ out.old.items ++ arrow_words names.now owner) }
 {
@@ -46,7 +44,7 @@ fn push_arrow_stroke(
     turn: usize,
     process: u32,
     owner: u32,
-) -> Result<(), NoMemory>
+) -> Result<(), AllocError>
     requires { owner < length names.now.processes }
     ensures { OnOk result (out.new.items
         ≡ out.old.items ++ arrow_stroke names.now turn process owner) }
@@ -71,7 +69,7 @@ fn push_caption(
     turn: usize,
     process: u32,
     owner: u32,
-) -> Result<(), NoMemory>
+) -> Result<(), AllocError>
     requires { owner < length names.now.processes }
     ensures { OnOk result (out.new.items
         ≡ out.old.items ++ arrow_caption names.now turn process owner) }
@@ -94,7 +92,7 @@ fn push_arrow(
     turn: usize,
     process: u32,
     owner: Option<u32>,
-) -> Result<(), NoMemory>
+) -> Result<(), AllocError>
     requires { IfSome owner (λ owner. owner < length names.now.processes) }
     ensures { OnOk result (out.new.items
         ≡ out.old.items ++ arrow_text names.now turn process owner) }
@@ -140,7 +138,7 @@ fn push_arrows_from(
     turns: &[TurnMade],
     decided: &[bool],
     process: u32,
-) -> Result<(), NoMemory>
+) -> Result<(), AllocError>
     requires names { AreNamesOf book.now names.now }
     requires decided { decided.now ≡ map (decides_at turns.now) (range_with_len 0 (length turns.now)) }
     ensures { OnOk result
@@ -162,7 +160,7 @@ pub(crate) fn push_arrows(
     book: &Book,
     names: &Names,
     turns: &[TurnMade],
-) -> Result<(), NoMemory>
+) -> Result<(), AllocError>
     requires { AreNamesOf book.now names.now }
     ensures { OnOk result
         (out.new.items ≡ out.old.items ++ arrows_text book.now names.now turns.now) }

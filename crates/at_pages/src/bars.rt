@@ -1,12 +1,9 @@
 //! The lanes, and in them the bars of the calls with their words and replies.
 
 ghost use Rattle.std.specs.Prelude.{◌≡◌, ◌<◌, ◌++◌, All, IfOk, OnOk, length};
-ghost use Rattle.at_ledger.specs.Call.{IsCallOn};
-ghost use Rattle.at_ledger.specs.Files.{IsPlayable, contents_of};
-ghost use Rattle.at_traces.specs.TraceText.{reply_field};
+ghost use Rattle.at_pages.specs.Prelude.{IsCallOn, IsPlayable, contents_of, reply_field};
 ghost use Rattle.at_pages.specs.Bars.{answer_text, bar_text, bars_text, begins_next, spanned_call, fits, label_if, label_text, lane_text, lanes_text, range_text, rect_begin, rect_text, span_title, words_text};
 
-use crate::NoMemory;
 use crate::files::file_of;
 use crate::parts::{
     bar_left, bar_right, bar_top, bar_width, lane_place, lane_width, name_line, push_place,
@@ -15,10 +12,10 @@ use crate::parts::{
 use crate::spans::Span;
 use at_files::Names;
 use at_ledger::{Call, Reply};
-use std::alloc::Global;
+use std::alloc::{AllocError, Global};
 
 /// Adds a lane of so many turns, with its process's name.
-fn push_lane(out: &mut Vec<u8>, names: &Names, turns: usize, process: u32) -> Result<(), NoMemory>
+fn push_lane(out: &mut Vec<u8>, names: &Names, turns: usize, process: u32) -> Result<(), AllocError>
     requires { process < length names.now.processes }
     ensures { OnOk result (out.new.items ≡ out.old.items ++ lane_text names.now turns process) }
 {
@@ -40,7 +37,7 @@ pub(crate) fn push_lanes(
     names: &Names,
     turns: usize,
     processes: u32,
-) -> Result<(), NoMemory>
+) -> Result<(), AllocError>
     requires { processes ≡ length names.now.processes }
     ensures { OnOk result (out.new.items ≡ out.old.items ++ lanes_text names.now turns processes) }
 {
@@ -51,7 +48,7 @@ pub(crate) fn push_lanes(
 }
 
 /// Adds a call in few words.
-fn push_label(out: &mut Vec<u8>, names: &Names, call: &Call) -> Result<(), NoMemory>
+fn push_label(out: &mut Vec<u8>, names: &Names, call: &Call) -> Result<(), AllocError>
     requires { IsCallOn (length names.now.accounts) call.now }
     ensures { OnOk result (out.new.items ≡ out.old.items ++ label_text names.now call.now) }
 {
@@ -81,7 +78,7 @@ fn push_label_of(
     names: &Names,
     files: &[Vec<Call>],
     span: &Span,
-) -> Result<(), NoMemory>
+) -> Result<(), AllocError>
     requires process { span.now.process < length files.now }
     requires files { All (IsPlayable (length names.now.accounts)) (contents_of files.now) }
     ensures { OnOk result (out.new.items
@@ -97,7 +94,7 @@ fn push_label_of(
 }
 
 /// Adds the word of a reply.
-pub(crate) fn push_reply(out: &mut Vec<u8>, reply: Option<Reply>) -> Result<(), NoMemory>
+pub(crate) fn push_reply(out: &mut Vec<u8>, reply: Option<Reply>) -> Result<(), AllocError>
     ensures { OnOk result (out.new.items ≡ out.old.items ++ reply_field reply) }
 {
     match reply {
@@ -111,7 +108,7 @@ pub(crate) fn push_reply(out: &mut Vec<u8>, reply: Option<Reply>) -> Result<(), 
 }
 
 /// Adds which call it is, of whom, what it asks, what it is answered, and its first and last turn.
-fn push_title(out: &mut Vec<u8>, names: &Names, label: &[u8], span: &Span) -> Result<(), NoMemory>
+fn push_title(out: &mut Vec<u8>, names: &Names, label: &[u8], span: &Span) -> Result<(), AllocError>
     requires { span.now.process < length names.now.processes }
     ensures { OnOk result (out.new.items ≡ out.old.items ++ span_title names.now label.now span.now) }
 {
@@ -127,7 +124,7 @@ fn push_title(out: &mut Vec<u8>, names: &Names, label: &[u8], span: &Span) -> Re
 }
 
 /// Adds the first turn and the last.
-fn push_range(out: &mut Vec<u8>, first: usize, last: usize) -> Result<(), NoMemory>
+fn push_range(out: &mut Vec<u8>, first: usize, last: usize) -> Result<(), AllocError>
     ensures { OnOk result (out.new.items ≡ out.old.items ++ range_text first last) }
 {
     out.extend_from_slice(b", turns ")?;
@@ -137,7 +134,7 @@ fn push_range(out: &mut Vec<u8>, first: usize, last: usize) -> Result<(), NoMemo
 }
 
 /// Adds the begin of a bar: its place and its width.
-fn push_rect_begin(out: &mut Vec<u8>, span: &Span) -> Result<(), NoMemory>
+fn push_rect_begin(out: &mut Vec<u8>, span: &Span) -> Result<(), AllocError>
     ensures { OnOk result (out.new.items ≡ out.old.items ++ rect_begin span.now) }
 {
     out.extend_from_slice(b"<rect class='bar'")?;
@@ -149,7 +146,7 @@ fn push_rect_begin(out: &mut Vec<u8>, span: &Span) -> Result<(), NoMemory>
 }
 
 /// Adds the bar itself.
-fn push_rect(out: &mut Vec<u8>, names: &Names, label: &[u8], span: &Span) -> Result<(), NoMemory>
+fn push_rect(out: &mut Vec<u8>, names: &Names, label: &[u8], span: &Span) -> Result<(), AllocError>
     requires { span.now.process < length names.now.processes }
     ensures { OnOk result (out.new.items ≡ out.old.items ++ rect_text names.now label.now span.now) }
 {
@@ -169,7 +166,7 @@ fn fits(text: &[u8], room: u128) -> bool
 }
 
 /// Adds the call's words, where they end before the lane's next bar begins.
-fn push_words(out: &mut Vec<u8>, label: &[u8], after: usize, span: &Span) -> Result<(), NoMemory>
+fn push_words(out: &mut Vec<u8>, label: &[u8], after: usize, span: &Span) -> Result<(), AllocError>
     ensures { OnOk result (out.new.items ≡ out.old.items ++ words_text label.now after span.now) }
 {
     if !fits(label, 6 * after.saturating_sub(span.first) as u128) {
@@ -186,7 +183,7 @@ fn push_words(out: &mut Vec<u8>, label: &[u8], after: usize, span: &Span) -> Res
 }
 
 /// Adds its reply, where that is no longer than the bar.
-fn push_answer(out: &mut Vec<u8>, reply: &[u8], span: &Span) -> Result<(), NoMemory>
+fn push_answer(out: &mut Vec<u8>, reply: &[u8], span: &Span) -> Result<(), AllocError>
     ensures { OnOk result (out.new.items ≡ out.old.items ++ answer_text reply.now span.now) }
 {
     if !fits(reply, bar_width(span.first, span.last)) {
@@ -210,7 +207,7 @@ fn push_bar(
     files: &[Vec<Call>],
     after: usize,
     span: &Span,
-) -> Result<(), NoMemory>
+) -> Result<(), AllocError>
     requires names { span.now.process < length names.now.processes }
     requires process { span.now.process < length files.now }
     requires files { All (IsPlayable (length names.now.accounts)) (contents_of files.now) }
@@ -247,7 +244,7 @@ pub(crate) fn push_bars(
     files: &[Vec<Call>],
     turns: usize,
     spans: &[Span],
-) -> Result<(), NoMemory>
+) -> Result<(), AllocError>
     requires names { length names.now.processes ≡ length files.now }
     requires process { All (λ s. s.process < length files.now) spans.now }
     requires files { All (IsPlayable (length names.now.accounts)) (contents_of files.now) }

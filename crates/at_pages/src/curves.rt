@@ -3,7 +3,6 @@
 ghost use Rattle.std.specs.Prelude.{◌≡◌, ◌++◌, OnOk, codes, decimal};
 ghost use Rattle.at_pages.specs.Curves.{borrow_caption, borrow_text, curve_stroke, curve_path, curve_text, curves_from, curves_text, publishing_turn};
 
-use crate::NoMemory;
 use crate::loads::{LoadNumbers, first_load, loads_view, publishing_turns};
 use crate::parts::{
     borrow_line, caption_place, facing_edge, lane_place, middle_of, push_place, push_size,
@@ -11,11 +10,11 @@ use crate::parts::{
 };
 use at_ledger::Book;
 use at_stepper::TurnMade;
-use std::alloc::Global;
+use std::alloc::{AllocError, Global};
 use std::collections::HashSet;
 
 /// Adds a point of a curve.
-fn push_point(out: &mut Vec<u8>, x: u128, y: u128) -> Result<(), NoMemory>
+fn push_point(out: &mut Vec<u8>, x: u128, y: u128) -> Result<(), AllocError>
     ensures { OnOk result (out.new.items ≡ out.old.items ++ (decimal x ++ codes " " ++ decimal y)) }
 {
     push_size(out, x)?;
@@ -31,7 +30,7 @@ fn push_path(
     from: u32,
     turn: usize,
     process: u32,
-) -> Result<(), NoMemory>
+) -> Result<(), AllocError>
     ensures { OnOk result
         (out.new.items ≡ out.old.items ++ curve_path published from turn process) }
 {
@@ -54,7 +53,7 @@ fn push_curve_stroke(
     from: u32,
     turn: usize,
     process: u32,
-) -> Result<(), NoMemory>
+) -> Result<(), AllocError>
     ensures { OnOk result
         (out.new.items ≡ out.old.items ++ curve_stroke published from turn process) }
 {
@@ -72,7 +71,12 @@ fn push_curve_stroke(
 }
 
 /// Adds the word beside it.
-fn push_borrow_text(out: &mut Vec<u8>, from: u32, turn: usize, process: u32) -> Result<(), NoMemory>
+fn push_borrow_text(
+    out: &mut Vec<u8>,
+    from: u32,
+    turn: usize,
+    process: u32,
+) -> Result<(), AllocError>
     ensures { OnOk result (out.new.items ≡ out.old.items ++ borrow_text from turn process) }
 {
     out.extend_from_slice(b"<text class='caption'")?;
@@ -91,7 +95,7 @@ fn push_borrow_caption(
     from: u32,
     turn: usize,
     process: u32,
-) -> Result<(), NoMemory>
+) -> Result<(), AllocError>
     ensures { OnOk result
         (out.new.items ≡ out.old.items ++ borrow_caption borrows from turn process) }
 {
@@ -117,7 +121,7 @@ fn push_curve(
     turn: usize,
     made: &TurnMade,
     published: Option<usize>,
-) -> Result<(), NoMemory>
+) -> Result<(), AllocError>
     ensures { OnOk result
         (out.new.items ≡ out.old.items ++ curve_text from turn made.now published) }
 {
@@ -135,7 +139,7 @@ fn push_curves_from(
     out: &mut Vec<u8>,
     turns: &[TurnMade],
     from: u32,
-) -> Result<(), NoMemory>
+) -> Result<(), AllocError>
     ensures { OnOk result (out.new.items ≡ out.old.items ++ curves_from turns.now from) }
 {
     let published = publishing_turns(alloc, turns, from)?;
@@ -154,7 +158,7 @@ pub(crate) fn push_curves(
     out: &mut Vec<u8>,
     book: &Book,
     turns: &[TurnMade],
-) -> Result<(), NoMemory>
+) -> Result<(), AllocError>
     ensures { OnOk result (out.new.items ≡ out.old.items ++ curves_text book.now turns.now) }
 {
     for process in 0..book.processes() {

@@ -1,13 +1,10 @@
 //! Which turns decide a round, and for whom.
 
 ghost use Rattle.std.specs.Prelude.{◌≡◌, ◌<◌, ◌++◌, ◌∷◌, [], List, IfOk, IfSome, OnOk, length, map, slice_get};
-ghost use Rattle.std.specs.List.{range_with_len};
-ghost use Rattle.at_ledger.specs.Book.{account_of};
-ghost use Rattle.at_stepper.specs.declared.replaying.TurnMade.{TurnMade};
+ghost use Rattle.at_pages.specs.Prelude.{range_with_len, account_of, TurnMade};
 ghost use Rattle.at_pages.specs.Arrows.{asker_loaded, cell_exchanged, decides_at, is_first_exchange, unless_own};
 ghost use Rattle.at_pages.specs.Deciding.{AreExchanged};
 
-use crate::NoMemory;
 use at_board::{BoardStep, BoardWord};
 use at_ledger::Book;
 use at_stepper::TurnMade;
@@ -35,7 +32,7 @@ fn cell_exchanged(step: &Option<BoardStep>) -> Option<CellNumbers>
 }
 
 /// Whether the turn decides, after the turns whose cells these are. Its own is added.
-fn decides(cells: &mut HashSet<CellNumbers>, made: &TurnMade) -> Result<bool, NoMemory>
+fn decides(cells: &mut HashSet<CellNumbers>, made: &TurnMade) -> Result<bool, AllocError>
     ensures decides { IfOk result (λ decides. (turns : List TurnMade) → AreExchanged cells.old turns
         → decides ≡ is_first_exchange turns (cell_exchanged made.now.step)) }
     ensures cells { OnOk result ((turns : List TurnMade) → AreExchanged cells.old turns
@@ -51,7 +48,7 @@ fn decides(cells: &mut HashSet<CellNumbers>, made: &TurnMade) -> Result<bool, No
 }
 
 /// Of each turn, whether it decides a round.
-pub(crate) fn all_decisions(alloc: Global, turns: &[TurnMade]) -> Result<Vec<bool>, NoMemory>
+pub(crate) fn all_decisions(alloc: Global, turns: &[TurnMade]) -> Result<Vec<bool>, AllocError>
     ensures { IfOk result (λ decided. decided.items
         ≡ map (decides_at turns.now) (range_with_len 0 (length turns.now))) }
 {

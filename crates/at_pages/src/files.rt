@@ -1,7 +1,7 @@
 //! The files' calls.
 
 ghost use Rattle.std.specs.Prelude.{◌≡◌, ◌<◌, [], length, slice_index_or};
-ghost use Rattle.at_ledger.specs.Files.{contents_of};
+ghost use Rattle.at_pages.specs.Prelude.{contents_of};
 
 use at_ledger::Call;
 

@@ -19,4 +19,3 @@ mod tables;
 mod turns;
 
 pub use crate::page::page_text;
-pub use at_base::NoMemory;

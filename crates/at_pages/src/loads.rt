@@ -1,11 +1,10 @@
 //! Which turns are the first to load a record.
 
 ghost use Rattle.std.specs.Prelude.{◌≡◌, ◌==◌, ◌&&◌, ◌++◌, ◌∷◌, [], List, IfOk, OnOk, if◌then◌else◌};
-ghost use Rattle.at_stepper.specs.declared.replaying.TurnMade.{TurnMade};
+ghost use Rattle.at_pages.specs.Prelude.{TurnMade};
 ghost use Rattle.at_pages.specs.Curves.{load_from, load_of_step, loads_view, publishing_turns, unless_loaded};
 ghost use Rattle.at_pages.specs.Loading.{AreLoads};
 
-use crate::NoMemory;
 use at_board::{BoardStep, BoardWord, RECORD_WORDS};
 use at_stepper::TurnMade;
 use std::alloc::{AllocError, Global};
@@ -56,7 +55,7 @@ pub(crate) fn first_load(
     loads: &mut HashSet<LoadNumbers>,
     from: u32,
     made: &TurnMade,
-) -> Result<Option<LoadNumbers>, NoMemory>
+) -> Result<Option<LoadNumbers>, AllocError>
     ensures first { IfOk result (λ first. (turns : List TurnMade) → AreLoads from loads.old turns
         → first ≡ unless_loaded from turns (load_from from made.now)) }
     ensures loads { OnOk result ((turns : List TurnMade) → AreLoads from loads.old turns
@@ -88,7 +87,7 @@ fn push_if_publishing(
     made: &TurnMade,
     process: u32,
     turn: usize,
-) -> Result<(), NoMemory>
+) -> Result<(), AllocError>
     ensures { OnOk result (published.new.items ≡ published.old.items
         ++ (if (made.now.process == process) && made.now.published then turn ∷ [] else [])) }
 {
@@ -103,7 +102,7 @@ pub(crate) fn publishing_turns(
     alloc: Global,
     turns: &[TurnMade],
     process: u32,
-) -> Result<Vec<usize>, NoMemory>
+) -> Result<Vec<usize>, AllocError>
     ensures { IfOk result (λ published. published.items ≡ publishing_turns turns.now process) }
 {
     let mut published = Vec::new(alloc);

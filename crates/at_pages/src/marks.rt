@@ -1,16 +1,16 @@
 //! The marks of the turns.
 
 ghost use Rattle.std.specs.Prelude.{◌≡◌, ◌<◌, ◌++◌, All, OnOk, codes};
-ghost use Rattle.at_files.specs.Names.{AreNamesOf};
+ghost use Rattle.at_pages.specs.Prelude.{AreNamesOf};
 ghost use Rattle.at_pages.specs.Marks.{mark_shape, mark_text, marks_text, turn_title};
 ghost use Rattle.at_pages.specs.Places.{lane_place, place_text, time_place};
 
-use crate::NoMemory;
 use crate::parts::{lane_place, push_place, push_size, time_place};
 use at_files::Names;
 use at_ledger::Book;
 use at_stepper::TurnMade;
-use at_traces::{push_step_address, step_word};
+use at_tables::{push_step_address, step_word};
+use std::alloc::AllocError;
 
 /// The shape of a turn's mark.
 fn mark_shape(made: &TurnMade) -> &'static [u8]
@@ -30,7 +30,7 @@ fn push_title(
     names: &Names,
     turn: usize,
     made: &TurnMade,
-) -> Result<(), NoMemory>
+) -> Result<(), AllocError>
     requires { AreNamesOf book.now names.now }
     ensures { OnOk result
         (out.new.items ≡ out.old.items ++ turn_title book.now names.now turn made.now) }
@@ -44,7 +44,7 @@ fn push_title(
 }
 
 /// Adds the begin of a mark: its shape and its place.
-fn push_shape(out: &mut Vec<u8>, turn: usize, made: &TurnMade) -> Result<(), NoMemory>
+fn push_shape(out: &mut Vec<u8>, turn: usize, made: &TurnMade) -> Result<(), AllocError>
     ensures { OnOk result (out.new.items ≡ out.old.items ++ (codes "<use href='#" ++ mark_shape made.now
         ++ codes "'" ++ place_text (time_place turn) (lane_place made.now.process))) }
 {
@@ -61,7 +61,7 @@ fn push_mark(
     names: &Names,
     turn: usize,
     made: &TurnMade,
-) -> Result<(), NoMemory>
+) -> Result<(), AllocError>
     requires { AreNamesOf book.now names.now }
     ensures { OnOk result
         (out.new.items ≡ out.old.items ++ mark_text book.now names.now turn made.now) }
@@ -78,7 +78,7 @@ pub(crate) fn push_marks(
     book: &Book,
     names: &Names,
     turns: &[TurnMade],
-) -> Result<(), NoMemory>
+) -> Result<(), AllocError>
     requires { AreNamesOf book.now names.now }
     ensures { OnOk result
         (out.new.items ≡ out.old.items ++ marks_text book.now names.now turns.now) }

@@ -1,13 +1,10 @@
 //! The page of a run.
 
 ghost use Rattle.std.specs.Prelude.{◌≡◌, ◌<◌, ◌++◌, All, IfOk, OnOk, length};
-ghost use Rattle.at_ledger.specs.Call.{IsLineOn};
-ghost use Rattle.at_ledger.specs.Files.{IsPlayable, contents_of};
-ghost use Rattle.at_files.specs.Names.{AreNamesOf};
+ghost use Rattle.at_pages.specs.Prelude.{IsLineOn, IsPlayable, contents_of, AreNamesOf};
 ghost use Rattle.at_pages.specs.PageText.{page_text, picture_text, size_text};
 ghost use Rattle.at_pages.specs.Spans.{all_spans};
 
-use crate::NoMemory;
 use crate::arrows::push_arrows;
 use crate::bars::{push_bars, push_lanes};
 use crate::curves::push_curves;
@@ -18,13 +15,13 @@ use crate::parts::{
 use crate::spans::{Span, all_spans};
 use crate::tables::{push_items, push_rows};
 use at_files::Names;
-use at_kinds::payments_sentence;
 use at_ledger::{Book, Call};
 use at_stepper::{Replayed, TurnMade};
-use std::alloc::Global;
+use at_tables::payments_sentence;
+use std::alloc::{AllocError, Global};
 
 /// Adds the picture's size.
-fn push_picture_size(out: &mut Vec<u8>, turns: usize, processes: u32) -> Result<(), NoMemory>
+fn push_picture_size(out: &mut Vec<u8>, turns: usize, processes: u32) -> Result<(), AllocError>
     ensures { OnOk result (out.new.items ≡ out.old.items ++ size_text turns processes) }
 {
     out.extend_from_slice(b" width='")?;
@@ -43,7 +40,7 @@ fn push_picture(
     files: &[Vec<Call>],
     turns: &[TurnMade],
     spans: &[Span],
-) -> Result<(), NoMemory>
+) -> Result<(), AllocError>
     requires names { AreNamesOf book.now names.now }
     requires count { length files.now ≡ book.now.processes }
     requires files { All (IsPlayable (length book.now.accounts)) (contents_of files.now) }
@@ -71,7 +68,7 @@ pub fn page_text(
     names: &Names,
     files: &[Vec<Call>],
     replayed: &Replayed,
-) -> Result<Vec<u8>, NoMemory>
+) -> Result<Vec<u8>, AllocError>
     requires names { AreNamesOf book.now names.now }
     requires count { length files.now ≡ book.now.processes }
     requires files { All (IsPlayable (length book.now.accounts)) (contents_of files.now) }

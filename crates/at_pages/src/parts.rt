@@ -3,7 +3,7 @@
 ghost use Rattle.std.specs.Prelude.{◌≡◌, ◌++◌, OnOk, decimal};
 ghost use Rattle.at_pages.specs.Places.{bar_left, bar_right, bar_top, bar_width, borrow_line, facing_edge, lane_place, lane_width, middle_of, name_line, caption_line, caption_place, picture_height, picture_width, place_text, reply_line, time_place, words_line};
 
-use crate::NoMemory;
+use std::alloc::AllocError;
 
 /// All that stands before the sentence.
 pub(crate) const HEAD: &[u8] = b"<!DOCTYPE html>
@@ -239,14 +239,14 @@ pub(crate) fn picture_height(processes: u32) -> u128
 }
 
 /// Adds a number of any size that the picture has.
-pub(crate) fn push_size(out: &mut Vec<u8>, n: u128) -> Result<(), NoMemory>
+pub(crate) fn push_size(out: &mut Vec<u8>, n: u128) -> Result<(), AllocError>
     ensures { OnOk result (out.new.items ≡ out.old.items ++ decimal n) }
 {
     out.extend_from_slice(itoa::Buffer::new().format(n).as_bytes())
 }
 
 /// Adds the place of an element.
-pub(crate) fn push_place(out: &mut Vec<u8>, x: u128, y: u128) -> Result<(), NoMemory>
+pub(crate) fn push_place(out: &mut Vec<u8>, x: u128, y: u128) -> Result<(), AllocError>
     ensures { OnOk result (out.new.items ≡ out.old.items ++ place_text x y) }
 {
     out.extend_from_slice(b" x='")?;

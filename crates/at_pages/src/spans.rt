@@ -4,11 +4,10 @@ ghost use Rattle.std.specs.Prelude.{◌≡◌, ◌<◌, ◌+◌, ◌^◌, ◌++�
 ghost use Rattle.at_pages.specs.Making.{IsFew, after_turn, ended, ended_by, is_answer, not_begun, with_turn};
 ghost use Rattle.at_pages.specs.Spans.{all_spans, begins_record, is_exchange, spans_of};
 
-use crate::NoMemory;
 use at_board::{BoardStep, BoardWord};
 use at_ledger::Reply;
 use at_stepper::TurnMade;
-use std::alloc::Global;
+use std::alloc::{AllocError, Global};
 
 /// A call by its process, its number from 0, its first turn and its last, its steps and exchanges, the records of others that it counted anew, and
 /// its reply.
@@ -119,7 +118,7 @@ fn push_ended(
     made: &TurnMade,
     process: u32,
     turn: usize,
-) -> Result<(), NoMemory>
+) -> Result<(), AllocError>
     requires few { IsFew making.now turn }
     requires small { turn + 1 < 2 ^ 64 }
     ensures { OnOk result
@@ -149,7 +148,7 @@ fn after_turn(making: &Making, made: &TurnMade, process: u32, turn: usize) -> Ma
 }
 
 /// Adds the calls of a process.
-fn push_spans(out: &mut Vec<Span>, turns: &[TurnMade], process: u32) -> Result<(), NoMemory>
+fn push_spans(out: &mut Vec<Span>, turns: &[TurnMade], process: u32) -> Result<(), AllocError>
     ensures { OnOk result (out.new.items ≡ out.old.items ++ spans_of turns.now process) }
 {
     let mut making = next_call(0);
@@ -166,7 +165,7 @@ pub(crate) fn all_spans(
     alloc: Global,
     turns: &[TurnMade],
     processes: u32,
-) -> Result<Vec<Span>, NoMemory>
+) -> Result<Vec<Span>, AllocError>
     ensures spans { IfOk result (λ spans. spans.items ≡ all_spans turns.now processes) }
     ensures processes { IfOk result (λ spans. All (λ s. s.process < processes) spans.items) }
 {

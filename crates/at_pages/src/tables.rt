@@ -1,27 +1,22 @@
 //! The table of the calls, and the journal.
 
 ghost use Rattle.std.specs.Prelude.{◌≡◌, ◌<◌, [], ◌∷◌, ◌++◌, All, OnOk, decimal, length};
-ghost use Rattle.at_ledger.specs.Call.{IsCallOn, IsLineOn};
-ghost use Rattle.at_ledger.specs.Files.{IsPlayable, contents_of};
-ghost use Rattle.at_files.specs.Names.{AreNamesOf};
-ghost use Rattle.at_kinds.specs.CallFields.{call_fields};
-ghost use Rattle.at_traces.specs.TraceText.{reply_field};
+ghost use Rattle.at_pages.specs.Prelude.{IsCallOn, IsLineOn, IsPlayable, contents_of, AreNamesOf, call_fields, reply_field};
 ghost use Rattle.at_pages.specs.Bars.{spanned_call};
 ghost use Rattle.at_pages.specs.Tables.{bound_cells, bound_cells_of, bound_words, call_cells, cells_text, count_cells, item_text, items_text, row_text, rows_text};
 
-use crate::NoMemory;
 use crate::bars::push_reply;
 use crate::files::file_of;
 use crate::parts::push_size;
 use crate::spans::Span;
-use at_costs::{most_exchanges, most_steps};
 use at_files::Names;
-use at_kinds::{call_word, kind_of, kind_word};
 use at_ledger::{Book, Call, Line, Reply};
 use at_report::push_line;
+use at_tables::{call_word, kind_of, kind_word, most_exchanges, most_steps};
+use std::alloc::AllocError;
 
 /// Adds a cell of a word.
-fn push_cell(out: &mut Vec<u8>, word: &[u8]) -> Result<(), NoMemory>
+fn push_cell(out: &mut Vec<u8>, word: &[u8]) -> Result<(), AllocError>
     ensures { OnOk result (out.new.items ≡ out.old.items ++ cells_text (word.now ∷ [])) }
 {
     out.extend_from_slice(b"<td>")?;
@@ -30,7 +25,7 @@ fn push_cell(out: &mut Vec<u8>, word: &[u8]) -> Result<(), NoMemory>
 }
 
 /// Adds a cell of a number.
-fn push_number_cell(out: &mut Vec<u8>, n: u128) -> Result<(), NoMemory>
+fn push_number_cell(out: &mut Vec<u8>, n: u128) -> Result<(), AllocError>
     ensures { OnOk result (out.new.items ≡ out.old.items ++ cells_text (decimal n ∷ [])) }
 {
     out.extend_from_slice(b"<td>")?;
@@ -39,7 +34,7 @@ fn push_number_cell(out: &mut Vec<u8>, n: u128) -> Result<(), NoMemory>
 }
 
 /// Adds a cell of a reply.
-fn push_reply_cell(out: &mut Vec<u8>, reply: Option<Reply>) -> Result<(), NoMemory>
+fn push_reply_cell(out: &mut Vec<u8>, reply: Option<Reply>) -> Result<(), AllocError>
     ensures { OnOk result (out.new.items ≡ out.old.items ++ cells_text (reply_field reply ∷ [])) }
 {
     out.extend_from_slice(b"<td>")?;
@@ -54,7 +49,7 @@ fn push_fields(
     names: &Names,
     process: u32,
     call: &Call,
-) -> Result<(), NoMemory>
+) -> Result<(), AllocError>
     requires names { length names.now.accounts ≡ length book.now.accounts }
     requires call { IsCallOn (length book.now.accounts) call.now }
     ensures { OnOk result (out.new.items
@@ -73,7 +68,7 @@ fn push_call_cells(
     names: &Names,
     files: &[Vec<Call>],
     span: &Span,
-) -> Result<(), NoMemory>
+) -> Result<(), AllocError>
     requires names { length names.now.accounts ≡ length book.now.accounts }
     requires process { span.now.process < length files.now }
     requires files { All (IsPlayable (length book.now.accounts)) (contents_of files.now) }
@@ -90,7 +85,7 @@ fn push_call_cells(
 }
 
 /// Adds the cells of what was counted of the call.
-fn push_count_cells(out: &mut Vec<u8>, span: &Span) -> Result<(), NoMemory>
+fn push_count_cells(out: &mut Vec<u8>, span: &Span) -> Result<(), AllocError>
     ensures { OnOk result (out.new.items ≡ out.old.items ++ cells_text (count_cells span.now)) }
 {
     push_number_cell(out, span.steps as u128)?;
@@ -106,7 +101,7 @@ fn push_bounds(
     call: &Call,
     new_records: usize,
     reply: Reply,
-) -> Result<(), NoMemory>
+) -> Result<(), AllocError>
     requires { IsCallOn (length book.now.accounts) call.now }
     ensures { OnOk result (out.new.items
         ≡ out.old.items ++ cells_text (bound_words book.now call.now new_records reply)) }
@@ -123,7 +118,7 @@ fn push_bounds_if(
     call: &Call,
     new_records: usize,
     reply: Option<Reply>,
-) -> Result<(), NoMemory>
+) -> Result<(), AllocError>
     requires { IsCallOn (length book.now.accounts) call.now }
     ensures { OnOk result (out.new.items
         ≡ out.old.items ++ cells_text (bound_cells_of book.now call.now new_records reply)) }
@@ -140,7 +135,7 @@ fn push_bound_cells(
     book: &Book,
     files: &[Vec<Call>],
     span: &Span,
-) -> Result<(), NoMemory>
+) -> Result<(), AllocError>
     requires process { span.now.process < length files.now }
     requires files { All (IsPlayable (length book.now.accounts)) (contents_of files.now) }
     ensures { OnOk result (out.new.items ≡ out.old.items ++ cells_text (bound_cells book.now
@@ -162,7 +157,7 @@ fn push_row(
     names: &Names,
     files: &[Vec<Call>],
     span: &Span,
-) -> Result<(), NoMemory>
+) -> Result<(), AllocError>
     requires names { AreNamesOf book.now names.now }
     requires count { length files.now ≡ book.now.processes }
     requires process { span.now.process < length files.now }
@@ -188,7 +183,7 @@ pub(crate) fn push_rows(
     names: &Names,
     files: &[Vec<Call>],
     spans: &[Span],
-) -> Result<(), NoMemory>
+) -> Result<(), AllocError>
     requires names { AreNamesOf book.now names.now }
     requires count { length files.now ≡ book.now.processes }
     requires process { All (λ s. s.process < length files.now) spans.now }
@@ -203,7 +198,7 @@ pub(crate) fn push_rows(
 }
 
 /// Adds a line of the journal.
-fn push_item(out: &mut Vec<u8>, names: &Names, line: &Line) -> Result<(), NoMemory>
+fn push_item(out: &mut Vec<u8>, names: &Names, line: &Line) -> Result<(), AllocError>
     requires { IsLineOn (length names.now.processes) (length names.now.accounts) line.now }
     ensures { OnOk result (out.new.items ≡ out.old.items ++ item_text names.now line.now) }
 {
@@ -213,7 +208,7 @@ fn push_item(out: &mut Vec<u8>, names: &Names, line: &Line) -> Result<(), NoMemo
 }
 
 /// Adds the lines of the journal.
-pub(crate) fn push_items(out: &mut Vec<u8>, names: &Names, lines: &[Line]) -> Result<(), NoMemory>
+pub(crate) fn push_items(out: &mut Vec<u8>, names: &Names, lines: &[Line]) -> Result<(), AllocError>
     requires { All (IsLineOn (length names.now.processes) (length names.now.accounts)) lines.now }
     ensures { OnOk result (out.new.items ≡ out.old.items ++ items_text names.now lines.now) }
 {

@@ -3,10 +3,9 @@
 ghost use Rattle.std.specs.Prelude.{◌≡◌, ◌==◌, ℕ, ◌<◌, [], ◌∷◌, ◌++◌, All, IfOk, OnOk, if◌then◌else◌, length};
 ghost use Rattle.at_pages.specs.Turns.{own_step, own_turns};
 
-use crate::NoMemory;
 use at_board::BoardStep;
 use at_stepper::TurnMade;
-use std::alloc::Global;
+use std::alloc::{AllocError, Global};
 
 /// Adds the number of the turn, if it is one of the process.
 fn push_if_own(
@@ -14,7 +13,7 @@ fn push_if_own(
     made: &TurnMade,
     process: u32,
     turn: usize,
-) -> Result<(), NoMemory>
+) -> Result<(), AllocError>
     ensures { OnOk result (own.new.items
         ≡ own.old.items ++ (if made.now.process == process then turn ∷ [] else [])) }
 {
@@ -29,7 +28,7 @@ pub(crate) fn own_turns(
     alloc: Global,
     turns: &[TurnMade],
     process: u32,
-) -> Result<Vec<usize>, NoMemory>
+) -> Result<Vec<usize>, AllocError>
     ensures turns { IfOk result (λ own. own.items ≡ own_turns turns.now process) }
     ensures within { IfOk result (λ own. All (λ m. m < length turns.now) own.items) }
 {

@@ -1,3 +1,4 @@
+pub mod Prelude
 pub mod LineLaws
 pub mod PieceLaws
 pub mod WordLaws

@@ -1,12 +1,6 @@
 -- Lines and their words.
 use Rattle.std.proofs.Common.{Result, Ok, Err, OnErr, ◌≡◌, ℕ, ◌+◌, List, [], ◌∷◌, ◌++◌, map, length, take, get_or, ◌<◌, ◌≤◌, ap, ◌∙◌, sym, append_assoc, append-nil, arith}
-use Rattle.std.specs.Io.{StartsWith}
-use Rattle.std.specs.List.{join_with_byte, range_with_len}
-use Rattle.std.proofs.lemmas.Grind.{flat_map-append}
-use Rattle.std.proofs.lemmas.List.{length-append, take-take, take_more, map-append}
-use Rattle.std.proofs.lemmas.List.FromFn.{map-range_with_len_more}
-use Rattle.std.proofs.Math.Seq.{take-append_seam}
-use Rattle.at_report.specs.Lines.{Words, spaced, line_text, lines_text}
+use Rattle.at_report.proofs.Prelude.{StartsWith, join_with_byte, range_with_len, flat_map-append, length-append, take-take, take_more, map-append, map-range_with_len_more, take-append_seam, Words, spaced, line_text, lines_text}
 
 -- a line is its first word, and then the others, each after a space
 pub join_with_byte-spaced : (word : List ℕ) (words : Words) → join_with_byte 32 (word ∷ words) ≡ word ++ spaced words

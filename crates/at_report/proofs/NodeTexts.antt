@@ -1,12 +1,6 @@
 -- The lines of nodes, one after another.
 use Rattle.std.proofs.Common.{◌≡◌, ℕ, ◌+◌, ◌<◌, List, [], ◌∷◌, ◌++◌, map, length, take, get_or, refl, ap, ◌∙◌, sym, append_assoc, append-nil, arith}
-use Rattle.std.specs.List.{range_with_len}
-use Rattle.std.proofs.lemmas.Grind.{flat_map-append}
-use Rattle.std.proofs.lemmas.List.{length-take-le, take_more}
-use Rattle.std.proofs.lemmas.List.FromFn.{map-range_with_len_more}
-use Rattle.at_broadcast.specs.Node.{NodeState}
-use Rattle.at_report.specs.Lines.{Word, Words, spaced, line_text, lines_text}
-use Rattle.at_report.specs.Nodes.{node_lines, nodes_from}
+use Rattle.at_report.proofs.Prelude.{range_with_len, flat_map-append, length-take-le, take_more, map-range_with_len_more, NodeState, Word, Words, spaced, line_text, lines_text, node_lines, nodes_from}
 use Rattle.at_report.proofs.LineLaws.{line_text-spaced}
 
 -- one more of the words that a function gives

@@ -1,9 +1,6 @@
 -- Texts in pieces.
 use Rattle.std.proofs.Common.{◌≡◌, ℕ, ◌+◌, List, [], ◌++◌, length, get_or, ◌<◌, ap, ◌∙◌, sym, append_assoc}
-use Rattle.at_ledger.specs.declared.call.Line.{Line}
-use Rattle.at_files.specs.Names.{NameList}
-use Rattle.at_report.specs.Lines.{journal_words, line_text}
-use Rattle.at_report.specs.Pieces.{LeadsOn, text_before}
+use Rattle.at_report.proofs.Prelude.{Line, NameList, journal_words, line_text, LeadsOn, text_before}
 use Rattle.at_report.proofs.LineLaws.{lines_text-take_more}
 
 -- a text that leads to one number of lines, and then the next line

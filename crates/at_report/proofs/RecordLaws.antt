@@ -1,11 +1,6 @@
 -- Records of CSV texts and their fields.
 use Rattle.std.proofs.Common.{◌≡◌, ℕ, ◌+◌, ◌<◌, List, [], ◌∷◌, ◌++◌, flat_map, map, ap, ◌∙◌, sym, append_assoc, append-nil, arith}
-use Rattle.std.specs.List.{join_with_byte, range_with_len}
-use Rattle.std.proofs.lemmas.Grind.{flat_map-append}
-use Rattle.std.proofs.lemmas.List.{map-id}
-use Rattle.std.proofs.lemmas.List.FromFn.{map-range_with_len_more}
-use Rattle.at_report.specs.Lines.{Words}
-use Rattle.at_report.specs.Records.{comma_led, record_text, records_text}
+use Rattle.at_report.proofs.Prelude.{join_with_byte, range_with_len, flat_map-append, map-id, map-range_with_len_more, Words, comma_led, record_text, records_text}
 
 -- a record is its first field, and then the others, each after a comma
 pub join_with_byte-comma_led : (field : List ℕ) (fields : Words) → join_with_byte 44 (field ∷ fields) ≡ field ++ comma_led fields

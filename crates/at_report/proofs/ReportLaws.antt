@@ -1,26 +1,6 @@
 -- A report spells its lines: no two lists of lines have one.
 use Rattle.std.proofs.Common.{◌≡◌, ℕ, ◌<◌, ◌≤◌, ◌^◌, ◌⊎◌, inl, inr, List, [], ◌∷◌, ◌++◌, map, length, get_or, All, Some, codes, decimal, refl, sym, ap, ◌∙◌, arith, append_assoc, zero, suc, sum, true, bytes_eq}
-use Rattle.std.specs.List.{IsDistinct, list_all}
-use Rattle.std.proofs.lemmas.Bool.{and_parts}
-use Rattle.std.proofs.lemmas.Fmt.{digits_decimal, first_decimal, decimal_digit}
-use Rattle.at_base.specs.Numbers.{number_of}
-use Rattle.at_base.proofs.NumberLaws.{AreDigits, number_of-decimal, own, tells_digits}
-use Rattle.at_ledger.specs.Book.{BookTerms, IsBook}
-use Rattle.at_ledger.specs.Call.{AreTargetsOn, IsCallOn, IsLineOn, TargetPair}
-use Rattle.at_ledger.specs.declared.call.Call.{Call}
-use Rattle.at_ledger.specs.declared.call.Call.TheVariants.{Transfer, Read, Pay}
-use Rattle.at_ledger.specs.declared.call.Reply.{Reply}
-use Rattle.at_ledger.specs.declared.call.Reply.TheVariants.{Done, Short, NotOwner, Full, Balance}
-use Rattle.at_ledger.specs.declared.call.Line.{Line}
-use Rattle.at_ledger.specs.Run.{asked_in, last_state}
-use Rattle.at_ledger.specs.State.{LedgerState, opening_state}
-use Rattle.at_ledger.proofs.Run.{book-run_from}
-use Rattle.std.proofs.lemmas.Grind.{flat_map-append}
-use Rattle.at_files.specs.Names.{AreFormed, AreNames, AreNamesOf, NameList, account_name, is_name_byte, position_of, process_name}
-use Rattle.at_files.specs.Payments.{HasAmounts}
-use Rattle.at_files.proofs.NameLaws.{decimal-AreNames, name-bytes, name_byte-above, position_of-at}
-use Rattle.at_report.specs.Lines.{IsFirstWord, IsWord, Words, call_words, journal_words, line_text, lines_text, reply_word, targets_words}
-use Rattle.at_report.specs.Report.{HasBalance, IsPrinted, balance_lines, report_text}
+use Rattle.at_report.proofs.Prelude.{IsDistinct, list_all, and_parts, digits_decimal, first_decimal, decimal_digit, number_of, AreDigits, number_of-decimal, own, tells_digits, BookTerms, IsBook, AreTargetsOn, IsCallOn, IsLineOn, TargetPair, Call, Transfer, Read, Pay, Reply, Done, Short, NotOwner, Full, Balance, Line, asked_in, last_state, LedgerState, opening_state, book-run_from, flat_map-append, AreFormed, AreNames, AreNamesOf, NameList, account_name, is_name_byte, position_of, process_name, HasAmounts, decimal-AreNames, name-bytes, name_byte-above, position_of-at, IsFirstWord, IsWord, Words, call_words, journal_words, line_text, lines_text, reply_word, targets_words, HasBalance, IsPrinted, balance_lines, report_text}
 use Rattle.at_report.proofs.WordLaws.{AreWords, AreWords-append, IsLineOfWords, IsWord-decimal, IsWord-from, first_word-only, split_line}
 
 decimal-injective : (n m : ℕ) → n < 2 ^ 64 → m < 2 ^ 64 → decimal n ≡ decimal m → n ≡ m

@@ -1,11 +1,6 @@
 -- The words of a text, and the lines of a text, can be told apart.
 use Rattle.std.proofs.Common.{◌≡◌, ℕ, ◌<◌, ◌≤◌, List, [], ◌∷◌, ◌++◌, true, nat_lt, refl, sym, ap, ◌∙◌, arith, append_assoc, decimal, ◌^◌}
-use Rattle.std.specs.List.{list_all}
-use borrow.Author.Tests.{ltb-true}
-use Rattle.std.proofs.lemmas.Bool.{and_parts}
-use Rattle.std.proofs.lemmas.Fmt.{digits_decimal}
-use Rattle.at_base.proofs.NumberLaws.{AreDigits, own, tells_digits}
-use Rattle.at_report.specs.Lines.{IsFirstWord, IsWord, Words, spaced, line_text}
+use Rattle.at_report.proofs.Prelude.{list_all, ltb-true, and_parts, digits_decimal, AreDigits, own, tells_digits, IsFirstWord, IsWord, Words, spaced, line_text}
 use Rattle.at_report.proofs.LineLaws.{line_text-spaced}
 
 abbrev pub AreWords : Words → Type 0
@@ -38,24 +33,24 @@ AreWords-append [] vs a b = b
 AreWords-append (w ∷ ws) vs a b = (a.0, AreWords-append ws vs a.1 b)
 
 -- two words that begin one text are the same, where what follows each is a space or a newline
-record AreCut (a b : List ℕ) (x y : ℕ) (r s : List ℕ) : Type 0 where
+record AreParted (a b : List ℕ) (x y : ℕ) (r s : List ℕ) : Type 0 where
   word : a ≡ b
   first : x ≡ y
   rest : r ≡ s
 
-cut : (a b : List ℕ) (x y : ℕ) (r s : List ℕ) → IsWord a → IsWord b → x ≤ 32 → y ≤ 32 → a ++ x ∷ r ≡ b ++ y ∷ s → AreCut a b x y r s
-cut [] [] x y r s wa wb hx hy e = record { word = refl; first = cc; rest = cc }
-cut [] (d ∷ b) x y r s wa wb hx hy e = let same : x ≡ d = cc in absurd (omega (arith, same, wb.0))
-cut (c ∷ a) [] x y r s wa wb hx hy e = let same : c ≡ y = cc in absurd (omega (arith, same, wa.0))
-cut (c ∷ a) (d ∷ b) x y r s wa wb hx hy e =
+parted : (a b : List ℕ) (x y : ℕ) (r s : List ℕ) → IsWord a → IsWord b → x ≤ 32 → y ≤ 32 → a ++ x ∷ r ≡ b ++ y ∷ s → AreParted a b x y r s
+parted [] [] x y r s wa wb hx hy e = record { word = refl; first = cc; rest = cc }
+parted [] (d ∷ b) x y r s wa wb hx hy e = let same : x ≡ d = cc in absurd (omega (arith, same, wb.0))
+parted (c ∷ a) [] x y r s wa wb hx hy e = let same : c ≡ y = cc in absurd (omega (arith, same, wa.0))
+parted (c ∷ a) (d ∷ b) x y r s wa wb hx hy e =
     let same : c ≡ d = cc in
     let tails : a ++ x ∷ r ≡ b ++ y ∷ s = cc in
-    let later = cut a b x y r s wa.1 wb.1 hx hy tails in
+    let later = parted a b x y r s wa.1 wb.1 hx hy tails in
     record { word = let words = later.word in cc; first = later.first; rest = later.rest }
 
 -- a text has one first word
 pub first_word-only : (a b text : List ℕ) → IsWord a → IsWord b → IsFirstWord a text → IsFirstWord b text → a ≡ b
-first_word-only a b text is_a is_b (r, begins) (s, starts) = (cut a b 32 32 r s is_a is_b (omega arith) (omega arith) (sym begins ∙ starts)).word
+first_word-only a b text is_a is_b (r, begins) (s, starts) = (parted a b 32 32 r s is_a is_b (omega arith) (omega arith) (sym begins ∙ starts)).word
 
 -- what follows a word on its line begins with a space or a newline
 record Follows (ws : Words) (after : List ℕ) : Type 0 where
@@ -78,13 +73,13 @@ AreSplit-cons : (w v : List ℕ) (ws vs : Words) (after later : List ℕ) → w 
 AreSplit-cons w v ws vs after later same split = record { words = let rest = split.words in cc; rest = split.rest }
 
 -- a word, and what follows it
-cut_words : (w v : List ℕ) (ws vs : Words) (after later : List ℕ) → IsWord w → IsWord v → w ++ (spaced ws ++ 10 ∷ after) ≡ v ++ (spaced vs ++ 10 ∷ later)
+split_words : (w v : List ℕ) (ws vs : Words) (after later : List ℕ) → IsWord w → IsWord v → w ++ (spaced ws ++ 10 ∷ after) ≡ v ++ (spaced vs ++ 10 ∷ later)
     → (w ≡ v) × (spaced ws ++ 10 ∷ after ≡ spaced vs ++ 10 ∷ later)
-cut_words w v ws vs after later is_w is_v e =
+split_words w v ws vs after later is_w is_v e =
     let f = follows ws after in
     let g = follows vs later in
     let begins : w ++ f.first ∷ f.rest ≡ v ++ g.first ∷ g.rest = ap (λ (t : List ℕ). w ++ t) (sym f.is) ∙ e ∙ ap (λ (t : List ℕ). v ++ t) g.is in
-    let parts = cut w v f.first g.first f.rest g.rest is_w is_v f.below g.below begins in
+    let parts = parted w v f.first g.first f.rest g.rest is_w is_v f.below g.below begins in
     let first = parts.first in
     let rest = parts.rest in
     let heads : f.first ∷ f.rest ≡ g.first ∷ g.rest = cc in
@@ -97,7 +92,7 @@ split_spaced (w ∷ ws) [] after later is_ws is_vs e = let wrong : ◌≡◌ {A 
 split_spaced (w ∷ ws) (v ∷ vs) after later is_ws is_vs e =
     let tails : (w ++ spaced ws) ++ 10 ∷ after ≡ (v ++ spaced vs) ++ 10 ∷ later = cc in
     let words : w ++ (spaced ws ++ 10 ∷ after) ≡ v ++ (spaced vs ++ 10 ∷ later) = sym (append_assoc w (spaced ws) (10 ∷ after)) ∙ tails ∙ append_assoc v (spaced vs) (10 ∷ later) in
-    let parts = cut_words w v ws vs after later is_ws.0 is_vs.0 words in
+    let parts = split_words w v ws vs after later is_ws.0 is_vs.0 words in
     AreSplit-cons w v ws vs after later parts.0 (split_spaced ws vs after later is_ws.1 is_vs.1 parts.1)
 
 -- two lines that begin one text are the same
@@ -106,7 +101,7 @@ split_line [] m after later is_l is_m e = absurd is_l
 split_line (w ∷ ws) [] after later is_l is_m e = absurd is_m
 split_line (w ∷ ws) (v ∷ vs) after later is_l is_m e =
     let words : w ++ (spaced ws ++ 10 ∷ after) ≡ v ++ (spaced vs ++ 10 ∷ later) = sym (line_and w ws after) ∙ e ∙ line_and v vs later in
-    let parts = cut_words w v ws vs after later is_l.0 is_m.0 words in
+    let parts = split_words w v ws vs after later is_l.0 is_m.0 words in
     AreSplit-cons w v ws vs after later parts.0 (split_spaced ws vs after later is_l.1 is_m.1 parts.1)
   where
     line_and : (w : List ℕ) (ws : Words) (after : List ℕ) → line_text (w ∷ ws) ++ after ≡ w ++ (spaced ws ++ 10 ∷ after)

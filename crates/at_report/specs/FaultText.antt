@@ -1,20 +1,14 @@
 -- The one line of each refusal.
 use Rattle.std.specs.Prelude.{ℕ, List, [], ◌∷◌, ◌++◌, codes, decimal}
-use Rattle.at_ledger.specs.declared.draft.BookError.{BookError}
-use Rattle.at_ledger.specs.declared.draft.BookError.TheVariants.{NoProcess, TooManyProcesses, NoAccount, TooManyAccounts, OwnerOutOfRange, OwnersNotRising, TooManyOwners, RoomOutOfRange, RoundsOverLimit, TotalOverLimit}
-use Rattle.at_files.specs.declared.book_fault.BookWhy.{BookWhy}
+use Rattle.at_report.specs.Prelude.{BookError, NoProcess, TooManyProcesses, NoAccount, TooManyAccounts, OwnerOutOfRange, OwnersNotRising, TooManyOwners, RoomOutOfRange, RoundsOverLimit, TotalOverLimit, BookWhy, PaymentsWhy, ScheduleWhy, OrderWhy, MessagesWhy}
 use Rattle.at_files.specs.declared.book_fault.BookWhy.TheVariants as book
-use Rattle.at_files.specs.declared.payments_fault.PaymentsWhy.{PaymentsWhy}
 use Rattle.at_files.specs.declared.payments_fault.PaymentsWhy.TheVariants as payments
 use Rattle.at_report.specs.declared.status.Status.{Status}
 use Rattle.at_report.specs.declared.status.Status.TheVariants.{Done, Usage, BadBook, BadPayments, ReadFault, WriteFault, NoMemory, TooLong, BadSchedule, BadOrder, BadMessages, NotLegal, TooManyOrders}
 use Rattle.at_report.specs.declared.status.UsageFault.{UsageFault}
 use Rattle.at_report.specs.declared.status.UsageFault.TheVariants as usage
-use Rattle.at_files.specs.declared.schedule.ScheduleWhy.{ScheduleWhy}
 use Rattle.at_files.specs.declared.schedule.ScheduleWhy.TheVariants as schedule
-use Rattle.at_files.specs.declared.deliveries.OrderWhy.{OrderWhy}
 use Rattle.at_files.specs.declared.deliveries.OrderWhy.TheVariants as order
-use Rattle.at_files.specs.declared.messages.MessagesWhy.{MessagesWhy}
 use Rattle.at_files.specs.declared.messages.MessagesWhy.TheVariants as messages
 
 -- why a book breaks a limit

@@ -1,3 +1,4 @@
+pub mod Prelude
 pub mod Status
 pub mod FaultText
 pub mod Lines

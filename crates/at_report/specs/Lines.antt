@@ -1,13 +1,6 @@
 -- Lines of printed texts, word by word.
 use Rattle.std.specs.Prelude.{◌≡◌, ℕ, ◌<◌, List, [], ◌∷◌, ◌++◌, codes, decimal, flat_map}
-use Rattle.std.specs.List.{join_with_byte}
-use Rattle.at_ledger.specs.Call.{TargetPair}
-use Rattle.at_ledger.specs.declared.call.Call.{Call}
-use Rattle.at_ledger.specs.declared.call.Call.TheVariants.{Transfer, Read, Pay}
-use Rattle.at_ledger.specs.declared.call.Reply.{Reply}
-use Rattle.at_ledger.specs.declared.call.Reply.TheVariants.{Done, Short, NotOwner, Full, Balance}
-use Rattle.at_ledger.specs.declared.call.Line.{Line}
-use Rattle.at_files.specs.Names.{NameList, account_name, process_name}
+use Rattle.at_report.specs.Prelude.{join_with_byte, TargetPair, Call, Transfer, Read, Pay, Reply, Done, Short, NotOwner, Full, Balance, Line, NameList, account_name, process_name}
 use Rattle.at_report.specs.declared.line_at.LineAt.{LineAt}
 
 -- a word of a text, and the words of a line

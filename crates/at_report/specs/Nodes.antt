@@ -1,16 +1,15 @@
 -- The output of nodes that messages were delivered to.
 use Rattle.std.specs.Prelude.{ℕ, ◌+◌, List, [], ◌∷◌, ◌++◌, length, map, codes, decimal, slice_index, sum}
-use Rattle.std.specs.List.{range_with_len}
-use Rattle.at_broadcast.specs.Node.{NodeState}
+use Rattle.at_report.specs.Prelude.{range_with_len, NodeState}
 use Rattle.at_report.specs.Lines.{Word, Words, lines_text}
 
--- how many messages of a process are validated
+-- how many messages of a log are validated
 abbrev pub validated_word : NodeState → ℕ → Word
 validated_word s p = decimal (slice_index s.validated p)
 
--- the same of each process, in order
+-- the same of each log, in order
 abbrev pub validated_words : NodeState → Words
-validated_words s = codes "validated" ∷ map (validated_word s) (range_with_len 0 s.book.processes)
+validated_words s = codes "validated" ∷ map (validated_word s) (range_with_len 0 s.book.logs)
 
 -- the number and the balance of an account
 abbrev pub node_balance_words : NodeState → ℕ → Words

@@ -1,8 +1,6 @@
 -- Texts whose pieces stand apart.
 use Rattle.std.specs.Prelude.{◌≡◌, ℕ, List, ◌++◌, flat_map, map, take, Vec}
-use Rattle.std.specs.Global.{Global}
-use Rattle.at_ledger.specs.declared.call.Line.{Line}
-use Rattle.at_files.specs.Names.{NameList}
+use Rattle.at_report.specs.Prelude.{Global, Line, NameList}
 use Rattle.at_report.specs.Lines.{journal_words, lines_text}
 
 -- the pieces, one after another

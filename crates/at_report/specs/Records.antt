@@ -1,6 +1,6 @@
 -- Records of printed CSV texts, field by field. No field has a comma, a quote or a line's end in it.
 use Rattle.std.specs.Prelude.{ℕ, List, [], ◌∷◌, ◌++◌, flat_map}
-use Rattle.std.specs.List.{join_with_byte}
+use Rattle.at_report.specs.Prelude.{join_with_byte}
 use Rattle.at_report.specs.Lines.{Words}
 
 -- the fields parted by commas, and a newline

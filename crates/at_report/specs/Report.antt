@@ -1,15 +1,6 @@
 -- The report of a run, and the lines of a check, of a verified report and of an agreement.
 use Rattle.std.specs.Prelude.{ℕ, ◌<◌, ◌^◌, ⊤, List, [], ◌∷◌, ◌++◌, length, map, codes, decimal, sum}
-use Rattle.std.specs.List.{range_with_len}
-use Rattle.at_ledger.specs.Book.{BookTerms}
-use Rattle.at_ledger.specs.State.{LedgerState, balance_of}
-use Rattle.at_ledger.specs.Run.{last_state}
-use Rattle.at_ledger.specs.Call.{IsLineOn}
-use Rattle.at_ledger.specs.declared.call.Line.{Line}
-use Rattle.at_ledger.specs.declared.call.Reply.{Reply}
-use Rattle.at_ledger.specs.declared.call.Reply.TheVariants.{Balance}
-use Rattle.at_files.specs.Payments.{HasAmounts}
-use Rattle.at_files.specs.Names.{NameList, account_name}
+use Rattle.at_report.specs.Prelude.{range_with_len, BookTerms, LedgerState, balance_of, last_state, IsLineOn, Line, Reply, Balance, HasAmounts, NameList, account_name}
 use Rattle.at_report.specs.Lines.{Words, journal_words, line_text, lines_text}
 
 -- how many lines a journal has

@@ -1,14 +1,6 @@
 -- The summary of a run.
 use Rattle.std.specs.Prelude.{ℕ, Bool, true, false, List, [], ◌∷◌, ◌++◌, codes, decimal, count_by}
-use Rattle.at_ledger.specs.Book.{BookTerms}
-use Rattle.at_ledger.specs.State.{LedgerState}
-use Rattle.at_ledger.specs.Run.{last_state}
-use Rattle.at_ledger.specs.declared.call.Call.{Call}
-use Rattle.at_ledger.specs.declared.call.Call.TheVariants.{Transfer, Read, Pay}
-use Rattle.at_ledger.specs.declared.call.Reply.{Reply}
-use Rattle.at_ledger.specs.declared.call.Reply.TheVariants.{Done, Short, NotOwner, Full, Balance}
-use Rattle.at_ledger.specs.declared.call.Line.{Line}
-use Rattle.at_files.specs.Names.{plain_names}
+use Rattle.at_report.specs.Prelude.{BookTerms, LedgerState, last_state, Call, Transfer, Read, Pay, Reply, Done, Short, NotOwner, Full, Balance, Line, plain_names}
 use Rattle.at_report.specs.Lines.{Words, lines_text}
 use Rattle.at_report.specs.Report.{audit_lines}
 

@@ -1,23 +1,18 @@
 //! The report of a run, made by several threads.
 
-ghost use denote.Param.Send.{IsSync};
+ghost use Rattle.at_report.specs.Prelude.{IsSync, IsLineOn, last_state, Line, AreNamesOf};
 ghost use Rattle.std.specs.Prelude.{◌≡◌, ◌^◌, ◌<◌, ◌≤◌, List, length, All, IfOk};
-ghost use Rattle.at_ledger.specs.Call.{IsLineOn};
-ghost use Rattle.at_ledger.specs.Run.{last_state};
-ghost use Rattle.at_ledger.specs.declared.call.Line.{Line};
-ghost use Rattle.at_files.specs.Names.{AreNamesOf};
 ghost use Rattle.at_report.specs.Lines.{line_text, lines_text};
 ghost use Rattle.at_report.specs.Pieces.{LeadsOn};
 ghost use Rattle.at_report.specs.Report.{IsPrinted, audit_lines, heading_words, report_text};
 
-use crate::NoMemory;
 use crate::line_at::Journal;
 use crate::lines::push_line_at;
 use crate::pieces::Pieces;
 use crate::run_report::{push_end, push_heading};
 use at_files::Names;
 use at_ledger::Book;
-use std::alloc::Global;
+use std::alloc::{AllocError, Global};
 use std::thread::{Threads, join};
 
 /// How many bytes a line has, with few exceptions. Room that nothing comes to lie in costs nothing, since no byte of it is touched.
@@ -30,7 +25,7 @@ fn some_lines<J: Journal>(
     journal: &J,
     from: usize,
     to: usize,
-) -> Result<Vec<u8>, NoMemory>
+) -> Result<Vec<u8>, AllocError>
     requires lines { All (IsLineOn (length names.now.processes) (length names.now.accounts))
         (J.lines journal.now) }
     requires order { from ≤ to }
@@ -52,7 +47,7 @@ fn halves<R: Threads + Sync, J: Journal + Sync>(
     journal: &J,
     from: usize,
     to: usize,
-) -> Result<Pieces, NoMemory>
+) -> Result<Pieces, AllocError>
     requires lines { All (IsLineOn (length names.now.processes) (length names.now.accounts))
         (J.lines journal.now) }
     requires order { from ≤ to }
@@ -76,7 +71,7 @@ fn quarters<R: Threads + Sync, J: Journal + Sync>(
     alloc: Global,
     names: &Names,
     journal: &J,
-) -> Result<Pieces, NoMemory>
+) -> Result<Pieces, AllocError>
     requires { All (IsLineOn (length names.now.processes) (length names.now.accounts))
         (J.lines journal.now) }
     ensures { IfOk result
@@ -86,14 +81,14 @@ fn quarters<R: Threads + Sync, J: Journal + Sync>(
     let middle = count / 2;
     let (first, second) = join(
         rt,
-        move || -> Result<Pieces, NoMemory>
+        move || -> Result<Pieces, AllocError>
             requires { IsSync R.row × IsSync J.row × All
                 (IsLineOn (length names.now.processes) (length names.now.accounts))
                 (J.lines journal.now) × (middle ≤ length (J.lines journal.now)) }
             ensures { IfOk result
                 (λ text. LeadsOn names.entry.now (J.lines journal.entry.now) 0 middle text) }
         { halves(rt, alloc, names, journal, 0, middle) },
-        move || -> Result<Pieces, NoMemory>
+        move || -> Result<Pieces, AllocError>
             requires { IsSync R.row × IsSync J.row × All
                 (IsLineOn (length names.now.processes) (length names.now.accounts))
                 (J.lines journal.now) × (middle ≤ count) × (count ≤ length (J.lines journal.now)) }
@@ -107,7 +102,7 @@ fn quarters<R: Threads + Sync, J: Journal + Sync>(
 }
 
 /// The first line of a report of so many lines.
-fn heading(alloc: Global, count: usize) -> Result<Vec<u8>, NoMemory>
+fn heading(alloc: Global, count: usize) -> Result<Vec<u8>, AllocError>
     ensures { IfOk result (λ text. text.items ≡ line_text (heading_words count)) }
 {
     let mut out = Vec::new(alloc);
@@ -121,7 +116,7 @@ fn end<J: Journal>(
     book: &Book,
     names: &Names,
     journal: &J,
-) -> Result<Vec<u8>, NoMemory>
+) -> Result<Vec<u8>, AllocError>
     requires names { length names.now.accounts ≡ length book.now.accounts }
     requires lines { All (IsLineOn book.now.processes (length book.now.accounts))
         (J.lines journal.now) }
@@ -140,7 +135,7 @@ fn report_in_pieces<R: Threads + Sync, J: Journal + Sync>(
     book: &Book,
     names: &Names,
     journal: &J,
-) -> Result<Pieces, NoMemory>
+) -> Result<Pieces, AllocError>
     requires names { AreNamesOf book.now names.now }
     requires lines { All (IsLineOn book.now.processes (length book.now.accounts))
         (J.lines journal.now) }
@@ -150,7 +145,7 @@ fn report_in_pieces<R: Threads + Sync, J: Journal + Sync>(
     let (ending, lines) = join(
         rt,
         move || end(alloc, book, names, journal),
-        move || -> Result<Pieces, NoMemory>
+        move || -> Result<Pieces, AllocError>
             requires { IsSync R.row × IsSync J.row × All
                 (IsLineOn (length names.now.processes) (length names.now.accounts))
                 (J.lines journal.now) }
@@ -174,7 +169,7 @@ pub fn journal_report<R: Threads + Sync, J: Journal + Sync>(
     book: &Book,
     names: &Names,
     journal: &J,
-) -> Result<Pieces, NoMemory>
+) -> Result<Pieces, AllocError>
     requires names { AreNamesOf book.now names.now }
     requires lines { All (IsLineOn book.now.processes (length book.now.accounts))
         (J.lines journal.now) }

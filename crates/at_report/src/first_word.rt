@@ -1,7 +1,7 @@
 //! The process that a line of the journal is of: its name is the line's first word.
 
 ghost use Rattle.std.specs.Prelude.{◌≡◌, ℕ, ◌<◌, ◌↔◌, IfSome, IsTrue, Some};
-ghost use Rattle.at_files.specs.Names.{AreNamesOf, process_name};
+ghost use Rattle.at_report.specs.Prelude.{AreNamesOf, process_name};
 ghost use Rattle.at_report.specs.Lines.{IsFirstWord, IsWord};
 
 use at_files::Names;

@@ -34,4 +34,3 @@ pub use crate::run_report::{
 };
 pub use crate::run_summary::summary;
 pub use crate::status::{Status, UsageFault};
-pub use at_base::NoMemory;

@@ -1,7 +1,7 @@
 //! Lines that are looked at where their calls stand.
 
 ghost use Rattle.std.specs.Prelude.{◌≡◌, ◌<◌, List, length, slice_index_or};
-ghost use Rattle.at_ledger.specs.declared.call.Line.{Line};
+ghost use Rattle.at_report.specs.Prelude.{Line};
 ghost use Rattle.at_report.specs.Lines.{line_shown};
 
 use at_ledger::{Call, Line, Reply};

@@ -1,17 +1,16 @@
 //! Lines of printed texts, word by word.
 
 ghost use Rattle.std.specs.Prelude.{◌≡◌, ◌<◌, [], ◌∷◌, ◌++◌, length, take, decimal, OnOk, OnErr};
-ghost use Rattle.std.specs.Io.{StartsWith};
-ghost use Rattle.at_ledger.specs.Call.{AreTargetsOn, IsCallOn, IsLineOn, target_at};
+ghost use Rattle.at_report.specs.Prelude.{StartsWith, AreTargetsOn, IsCallOn, IsLineOn, target_at};
 ghost use Rattle.at_report.specs.Lines.{spaced, line_shown, line_text, targets_words, call_words, reply_word, journal_words};
 
-use crate::NoMemory;
 use crate::line_at::{LineAt, at_line};
 use at_files::Names;
 use at_ledger::{Call, Line, Reply, Targets};
+use std::alloc::AllocError;
 
 /// Adds a word that follows another on its line.
-pub fn push_word(out: &mut Vec<u8>, word: &[u8]) -> Result<(), NoMemory>
+pub fn push_word(out: &mut Vec<u8>, word: &[u8]) -> Result<(), AllocError>
     ensures text { OnOk result (out.new.items ≡ out.old.items ++ spaced (word.now ∷ [])) }
     ensures begun { OnErr result (StartsWith out.new.items out.old.items) }
 {
@@ -20,7 +19,7 @@ pub fn push_word(out: &mut Vec<u8>, word: &[u8]) -> Result<(), NoMemory>
 }
 
 /// Adds a number that follows a word on its line.
-pub fn push_number(out: &mut Vec<u8>, n: u64) -> Result<(), NoMemory>
+pub fn push_number(out: &mut Vec<u8>, n: u64) -> Result<(), AllocError>
     ensures text { OnOk result (out.new.items ≡ out.old.items ++ spaced (decimal n ∷ [])) }
     ensures begun { OnErr result (StartsWith out.new.items out.old.items) }
 {
@@ -29,7 +28,7 @@ pub fn push_number(out: &mut Vec<u8>, n: u64) -> Result<(), NoMemory>
 }
 
 /// Adds a line of a word and a number.
-pub fn push_numbered(out: &mut Vec<u8>, word: &[u8], n: u64) -> Result<(), NoMemory>
+pub fn push_numbered(out: &mut Vec<u8>, word: &[u8], n: u64) -> Result<(), AllocError>
     ensures text { OnOk result (out.new.items ≡ out.old.items
         ++ line_text (word.now ∷ decimal n ∷ [])) }
     ensures begun { OnErr result (StartsWith out.new.items out.old.items) }
@@ -40,7 +39,12 @@ pub fn push_numbered(out: &mut Vec<u8>, word: &[u8], n: u64) -> Result<(), NoMem
     Ok(())
 }
 
-fn push_target(out: &mut Vec<u8>, names: &Names, targets: &Targets, i: u32) -> Result<(), NoMemory>
+fn push_target(
+    out: &mut Vec<u8>,
+    names: &Names,
+    targets: &Targets,
+    i: u32,
+) -> Result<(), AllocError>
     requires target { i < length targets.now }
     requires accounts { AreTargetsOn (length names.now.accounts) targets.now }
     ensures text { OnOk result
@@ -52,7 +56,7 @@ fn push_target(out: &mut Vec<u8>, names: &Names, targets: &Targets, i: u32) -> R
     push_number(out, targets.amount(i))
 }
 
-fn push_targets(out: &mut Vec<u8>, names: &Names, targets: &Targets) -> Result<(), NoMemory>
+fn push_targets(out: &mut Vec<u8>, names: &Names, targets: &Targets) -> Result<(), AllocError>
     requires { AreTargetsOn (length names.now.accounts) targets.now }
     ensures text { OnOk result
         (out.new.items ≡ out.old.items ++ spaced (targets_words names.now targets.now)) }
@@ -64,7 +68,7 @@ fn push_targets(out: &mut Vec<u8>, names: &Names, targets: &Targets) -> Result<(
     Ok(())
 }
 
-fn push_call(out: &mut Vec<u8>, names: &Names, call: &Call) -> Result<(), NoMemory>
+fn push_call(out: &mut Vec<u8>, names: &Names, call: &Call) -> Result<(), AllocError>
     requires { IsCallOn (length names.now.accounts) call.now }
     ensures text { OnOk result
         (out.new.items ≡ out.old.items ++ spaced (call_words names.now call.now)) }
@@ -90,7 +94,7 @@ fn push_transfer(
     from: u32,
     to: u32,
     amount: u64,
-) -> Result<(), NoMemory>
+) -> Result<(), AllocError>
     requires source { from < length names.now.accounts }
     requires target { to < length names.now.accounts }
     ensures text { OnOk result
@@ -105,7 +109,7 @@ fn push_transfer(
 }
 
 /// Adds the word of a reply.
-pub(crate) fn push_reply_word(out: &mut Vec<u8>, reply: Reply) -> Result<(), NoMemory>
+pub(crate) fn push_reply_word(out: &mut Vec<u8>, reply: Reply) -> Result<(), AllocError>
     ensures text { OnOk result (out.new.items ≡ out.old.items ++ reply_word reply) }
     ensures begun { OnErr result (StartsWith out.new.items out.old.items) }
 {
@@ -118,7 +122,7 @@ pub(crate) fn push_reply_word(out: &mut Vec<u8>, reply: Reply) -> Result<(), NoM
     }
 }
 
-fn push_reply(out: &mut Vec<u8>, reply: Reply) -> Result<(), NoMemory>
+fn push_reply(out: &mut Vec<u8>, reply: Reply) -> Result<(), AllocError>
     ensures text { OnOk result (out.new.items ≡ out.old.items ++ spaced (reply_word reply ∷ [])) }
     ensures begun { OnErr result (StartsWith out.new.items out.old.items) }
 {
@@ -126,12 +130,12 @@ fn push_reply(out: &mut Vec<u8>, reply: Reply) -> Result<(), NoMemory>
     push_reply_word(out, reply)
 }
 
-/// Cuts a text back to what it was where not all could be added.
+/// Takes a text back to what it was where not all could be added.
 pub(crate) fn all_or_nothing(
     out: &mut Vec<u8>,
     length: usize,
-    added: Result<(), NoMemory>,
-) -> Result<(), NoMemory>
+    added: Result<(), AllocError>,
+) -> Result<(), AllocError>
     ensures same { result ≡ added }
     ensures all { OnOk result (out.new.items ≡ out.old.items) }
     ensures nothing { OnErr result (out.new.items ≡ take length out.old.items) }
@@ -143,7 +147,7 @@ pub(crate) fn all_or_nothing(
 }
 
 /// Adds what a line of the journal is made of, one part after another.
-fn push_parts(out: &mut Vec<u8>, names: &Names, line: &LineAt<'_>) -> Result<(), NoMemory>
+fn push_parts(out: &mut Vec<u8>, names: &Names, line: &LineAt<'_>) -> Result<(), AllocError>
     requires { IsLineOn (length names.now.processes) (length names.now.accounts)
         (line_shown line.now) }
     ensures text { OnOk result
@@ -164,7 +168,7 @@ pub(crate) fn push_line_at(
     out: &mut Vec<u8>,
     names: &Names,
     line: &LineAt<'_>,
-) -> Result<(), NoMemory>
+) -> Result<(), AllocError>
     requires { IsLineOn (length names.now.processes) (length names.now.accounts)
         (line_shown line.now) }
     ensures text { OnOk result
@@ -178,7 +182,7 @@ pub(crate) fn push_line_at(
 }
 
 /// Adds a line of the journal, with its newline.
-pub fn push_line(out: &mut Vec<u8>, names: &Names, line: &Line) -> Result<(), NoMemory>
+pub fn push_line(out: &mut Vec<u8>, names: &Names, line: &Line) -> Result<(), AllocError>
     requires { IsLineOn (length names.now.processes) (length names.now.accounts) line.now }
     ensures text { OnOk result
         (out.new.items ≡ out.old.items ++ line_text (journal_words names.now line.now)) }

@@ -3,8 +3,7 @@
 ghost use Rattle.std.specs.Prelude.{◌≡◌, ◌++◌, [], IfOk, OnOk};
 ghost use Rattle.at_report.specs.Pieces.{joined};
 
-use crate::NoMemory;
-use std::alloc::Global;
+use std::alloc::{AllocError, Global};
 use std::marker::Model;
 
 /// A text in pieces, one after another. None is copied to stand with the others.
@@ -33,7 +32,7 @@ impl Pieces {
     }
 
     /// A text in one piece.
-    pub fn one(alloc: Global, text: Vec<u8>) -> Result<Pieces, NoMemory>
+    pub fn one(alloc: Global, text: Vec<u8>) -> Result<Pieces, AllocError>
         ensures { IfOk result (λ p. p ≡ text.items) }
     {
         let mut pieces = Pieces::new(alloc);
@@ -42,7 +41,7 @@ impl Pieces {
     }
 
     /// Adds a piece.
-    pub(crate) fn push(&mut self, piece: Vec<u8>) -> Result<(), NoMemory>
+    pub(crate) fn push(&mut self, piece: Vec<u8>) -> Result<(), AllocError>
         ensures { OnOk result (self.new ≡ self.old ++ piece.items) }
     {
         self.pieces.push(piece)?;
@@ -50,7 +49,7 @@ impl Pieces {
     }
 
     /// Adds the pieces of another text.
-    pub(crate) fn append(&mut self, more: Pieces) -> Result<(), NoMemory>
+    pub(crate) fn append(&mut self, more: Pieces) -> Result<(), AllocError>
         ensures { OnOk result (self.new ≡ self.old ++ more) }
     {
         let Pieces { mut pieces } = more;

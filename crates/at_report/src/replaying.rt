@@ -1,16 +1,18 @@
 //! The state after the lines of a run.
 
 ghost use Rattle.std.specs.Prelude.{◌≡◌, length, All, IfOk};
-ghost use Rattle.at_ledger.specs.Call.{IsLineOn};
-ghost use Rattle.at_ledger.specs.Run.{last_state};
+ghost use Rattle.at_report.specs.Prelude.{IsLineOn, last_state};
 
-use crate::NoMemory;
 use crate::line_at::Journal;
 use at_ledger::{Book, State};
-use std::alloc::Global;
+use std::alloc::{AllocError, Global};
 
 /// Makes the calls of the lines again, from the openings.
-pub(crate) fn replay<J: Journal>(alloc: Global, book: &Book, journal: &J) -> Result<State, NoMemory>
+pub(crate) fn replay<J: Journal>(
+    alloc: Global,
+    book: &Book,
+    journal: &J,
+) -> Result<State, AllocError>
     requires { All (IsLineOn book.now.processes (length book.now.accounts)) (J.lines journal.now) }
     ensures last { IfOk result (λ s. s ≡ last_state book.now (J.lines journal.now)) }
     ensures book { IfOk result (λ s. s.book ≡ book.now) }

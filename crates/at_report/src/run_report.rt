@@ -1,21 +1,16 @@
 //! The report of a run, and the lines of a check, of a verified report and of an agreement.
 
 ghost use Rattle.std.specs.Prelude.{◌≡◌, ◌^◌, ◌<◌, ◌++◌, List, length, All, IfOk, OnOk, OnErr};
-ghost use Rattle.std.specs.Io.{StartsWith};
-ghost use Rattle.at_ledger.specs.Call.{IsLineOn};
-ghost use Rattle.at_ledger.specs.Run.{last_state};
-ghost use Rattle.at_ledger.specs.declared.call.Line.{Line};
-ghost use Rattle.at_files.specs.Names.{AreNamesOf};
+ghost use Rattle.at_report.specs.Prelude.{StartsWith, IsLineOn, last_state, Line, AreNamesOf};
 ghost use Rattle.at_report.specs.Lines.{line_text, lines_text};
 ghost use Rattle.at_report.specs.Report.{IsPrinted, agreed_line, audit_lines, balance_lines, checked_line, heading_words, printed_journal, report_text, verified_line};
 
-use crate::NoMemory;
 use crate::line_at::Journal;
 use crate::lines::{all_or_nothing, push_line_at, push_number, push_numbered};
 use crate::replaying::replay;
 use at_files::Names;
 use at_ledger::{Book, Line, State};
-use std::alloc::Global;
+use std::alloc::{AllocError, Global};
 
 /// Adds the name and the balance of each account.
 fn push_balances(
@@ -23,7 +18,7 @@ fn push_balances(
     book: &Book,
     names: &Names,
     state: &State,
-) -> Result<(), NoMemory>
+) -> Result<(), AllocError>
     requires book { state.now.book ≡ book.now }
     requires names { length names.now.accounts ≡ length book.now.accounts }
     ensures text { OnOk result
@@ -42,7 +37,7 @@ fn push_audit_lines(
     book: &Book,
     names: &Names,
     state: &State,
-) -> Result<(), NoMemory>
+) -> Result<(), AllocError>
     requires book { state.now.book ≡ book.now }
     requires names { length names.now.accounts ≡ length book.now.accounts }
     ensures text { OnOk result
@@ -60,7 +55,7 @@ pub fn push_audit(
     book: &Book,
     names: &Names,
     state: &State,
-) -> Result<(), NoMemory>
+) -> Result<(), AllocError>
     requires book { state.now.book ≡ book.now }
     requires names { length names.now.accounts ≡ length book.now.accounts }
     ensures text { OnOk result
@@ -79,7 +74,7 @@ pub(crate) fn push_end<J: Journal>(
     book: &Book,
     names: &Names,
     journal: &J,
-) -> Result<(), NoMemory>
+) -> Result<(), AllocError>
     requires names { length names.now.accounts ≡ length book.now.accounts }
     requires lines { All (IsLineOn book.now.processes (length book.now.accounts))
         (J.lines journal.now) }
@@ -92,7 +87,7 @@ pub(crate) fn push_end<J: Journal>(
 }
 
 /// Adds the first line of a report: how many lines its journal has.
-pub fn push_heading(out: &mut Vec<u8>, lines: u64) -> Result<(), NoMemory>
+pub fn push_heading(out: &mut Vec<u8>, lines: u64) -> Result<(), AllocError>
     ensures text { OnOk result (out.new.items ≡ out.old.items ++ line_text (heading_words lines)) }
     ensures kept { OnErr result (out.new.items ≡ out.old.items) }
 {
@@ -102,7 +97,7 @@ pub fn push_heading(out: &mut Vec<u8>, lines: u64) -> Result<(), NoMemory>
 }
 
 /// Adds how many lines there are, and then each of them.
-fn push_journal<J: Journal>(out: &mut Vec<u8>, names: &Names, journal: &J) -> Result<(), NoMemory>
+fn push_journal<J: Journal>(out: &mut Vec<u8>, names: &Names, journal: &J) -> Result<(), AllocError>
     requires { All (IsLineOn (length names.now.processes) (length names.now.accounts))
         (J.lines journal.now) }
     ensures { OnOk result
@@ -122,7 +117,7 @@ fn write_report<J: Journal>(
     book: &Book,
     names: &Names,
     journal: &J,
-) -> Result<Vec<u8>, NoMemory>
+) -> Result<Vec<u8>, AllocError>
     requires names { AreNamesOf book.now names.now }
     requires lines { All (IsLineOn book.now.processes (length book.now.accounts))
         (J.lines journal.now) }
@@ -142,7 +137,7 @@ pub fn report(
     book: &Book,
     names: &Names,
     lines: &[Line],
-) -> Result<Vec<u8>, NoMemory>
+) -> Result<Vec<u8>, AllocError>
     requires names { AreNamesOf book.now names.now }
     requires lines { All (IsLineOn book.now.processes (length book.now.accounts)) lines.now }
     ensures text { IfOk result (λ text. text.items ≡ report_text book.now names.now lines.now) }
@@ -157,7 +152,7 @@ pub fn report(
 }
 
 /// The line of a check: how many processes and accounts the book has, and how many calls its files have together.
-pub fn checked_text(alloc: Global, book: &Book, calls: u32) -> Result<Vec<u8>, NoMemory>
+pub fn checked_text(alloc: Global, book: &Book, calls: u32) -> Result<Vec<u8>, AllocError>
     ensures { IfOk result (λ text. text.items ≡ checked_line book.now calls) }
 {
     let mut out = Vec::from_slice(alloc, b"checked")?;
@@ -169,7 +164,7 @@ pub fn checked_text(alloc: Global, book: &Book, calls: u32) -> Result<Vec<u8>, N
 }
 
 /// The line of a report that was verified: how many lines its journal has.
-pub fn verified_text(alloc: Global, lines: u32) -> Result<Vec<u8>, NoMemory>
+pub fn verified_text(alloc: Global, lines: u32) -> Result<Vec<u8>, AllocError>
     ensures { IfOk result (λ text. text.items ≡ verified_line lines) }
 {
     let mut out = Vec::from_slice(alloc, b"verified")?;
@@ -179,7 +174,7 @@ pub fn verified_text(alloc: Global, lines: u32) -> Result<Vec<u8>, NoMemory>
 }
 
 /// The line of an agreement: how many values were proposed, and the one that all agreed on.
-pub fn agreed_text(alloc: Global, count: u32, value: u64) -> Result<Vec<u8>, NoMemory>
+pub fn agreed_text(alloc: Global, count: u32, value: u64) -> Result<Vec<u8>, AllocError>
     ensures { IfOk result (λ text. text.items ≡ agreed_line count value) }
 {
     let mut out = Vec::from_slice(alloc, b"agreed")?;

@@ -1,16 +1,15 @@
 //! The summary of a run.
 
 ghost use Rattle.std.specs.Prelude.{◌≡◌, ◌∷◌, [], length, All, IfOk, codes, decimal};
-ghost use Rattle.at_ledger.specs.Call.{IsLineOn};
+ghost use Rattle.at_report.specs.Prelude.{IsLineOn};
 ghost use Rattle.at_report.specs.Lines.{line_text, lines_text};
 ghost use Rattle.at_report.specs.Summary.{done_in, is_done_reply, is_read, made_lines, read_in, summary_text};
 
-use crate::NoMemory;
 use crate::lines::{push_number, push_numbered};
 use crate::run_report::push_end;
 use at_files::Names;
 use at_ledger::{Book, Call, Line, Reply};
-use std::alloc::Global;
+use std::alloc::{AllocError, Global};
 
 fn is_done_reply(reply: Reply) -> bool
     ensures { result ≡ is_done_reply reply }
@@ -48,7 +47,7 @@ fn read_in(lines: &[Line]) -> u64
 }
 
 /// The line that says what was made.
-fn made_line(alloc: Global, first: u64, processes: u32, calls: u32) -> Result<Vec<u8>, NoMemory>
+fn made_line(alloc: Global, first: u64, processes: u32, calls: u32) -> Result<Vec<u8>, AllocError>
     ensures { IfOk result
         (λ text. text.items ≡ line_text
         (codes "made" ∷ decimal first ∷ decimal processes ∷ decimal calls ∷ [])) }
@@ -68,7 +67,7 @@ fn made_lines(
     first: u64,
     processes: u32,
     calls: u32,
-) -> Result<Vec<u8>, NoMemory>
+) -> Result<Vec<u8>, AllocError>
     ensures { IfOk result
         (λ text. text.items ≡ lines_text
         (made_lines first processes calls (done_in lines.now) (read_in lines.now))) }
@@ -88,7 +87,7 @@ pub fn summary(
     lines: &[Line],
     first: u64,
     calls: u32,
-) -> Result<Vec<u8>, NoMemory>
+) -> Result<Vec<u8>, AllocError>
     requires { All (IsLineOn book.now.processes (length book.now.accounts)) lines.now }
     ensures { IfOk result (λ text. text.items ≡ summary_text book.now lines.now first calls) }
 {

@@ -1,11 +1,6 @@
 -- Words are refused exactly where they ask for nothing.
 use Rattle.std.proofs.Common.{◌≡◌, ◌↔◌, Option, Some, None, refl}
-use Rattle.at_commands.specs.Outcome.{Found, Outcome}
-use Rattle.at_report.specs.declared.status.Status.TheVariants.{Usage}
-use Rattle.at_report.specs.declared.status.UsageFault.TheVariants.{Words}
-use Rattle.at_shows.specs.Answered.{LeavesShown}
-use Rattle.at_shows.specs.Words.{Showing}
-use Rattle.at_shows.specs.Words.Showing.{Files, Show, Trace}
+use Rattle.at_shows.proofs.Prelude.{Found, Outcome, Usage, Words, LeavesShown, Showing, Files, Show, Trace}
 
 pub LeavesShown-formless : (wanted : Option Showing) (s : Found) (o : Outcome) → LeavesShown wanted s o → (o.answer ≡ Usage Words) ↔ (wanted ≡ None)
 LeavesShown-formless (Some (Files view form)) s o left = (λ is. absurd (left.formed is), λ none. absurd (cc))

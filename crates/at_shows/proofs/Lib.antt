@@ -1,3 +1,4 @@
+pub mod Prelude
 pub mod Formless
 pub mod Refusals
 pub mod Refusing

@@ -1,17 +1,6 @@
 -- The costs of calls that were made on a closed ledger.
 use Rattle.std.proofs.Common.{◌≡◌, ℕ, suc, ◌<◌, All, List, [], ◌∷◌, length, get_or, refl, sym, ap, subst, ◌∙◌, arith}
-use Rattle.std.proofs.lemmas.List.{get_or-map, length-map}
-use Rattle.at_ledger.specs.Files.{IsPlayable}
-use Rattle.at_ledger.specs.Book.{BookTerms}
-use Rattle.at_ledger.specs.Call.{IsCallOn}
-use Rattle.at_ledger.specs.declared.call.Call.{Call}
-use Rattle.at_log.specs.Receipts.{calls_of}
-use Rattle.at_log.specs.declared.receipt.Receipt.{Receipt}
-use Rattle.at_object.specs.Closings.{ClosedTerms}
-use Rattle.at_object.specs.Passes.{PassTerms}
-use Rattle.at_commands.specs.Running.{IsPlayedNoting}
-use Rattle.at_costs.specs.CostsText.{HaveCosts}
-use Rattle.at_workers.specs.Costs.{CostTerms, TakeCalls}
+use Rattle.at_shows.proofs.Prelude.{get_or-map, length-map, IsPlayable, BookTerms, IsCallOn, Call, calls_of, Receipt, ClosedTerms, PassTerms, IsPlayedNoting, HaveCosts, CostTerms, TakeCalls}
 
 -- there is a cost for each receipt
 length-TakeCalls : (b : BookTerms) (before after : PassTerms) (receipts : List Receipt) (costs : List CostTerms) → TakeCalls b before receipts costs after

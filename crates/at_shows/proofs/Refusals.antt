@@ -1,11 +1,6 @@
 -- The line of a refusal.
 use Rattle.std.proofs.Common.{◌≡◌, ◌∙◌, ℕ, ◌++◌, Bool, true, false, List, Result, Ok, Err, inl, inr, ap, refl, subst, sym}
-use Rattle.std.specs.Result.{OnErr, OnOk}
-use Rattle.at_io.specs.Faults.{Rose}
-use Rattle.at_io.specs.Sink.{TakesPrefix}
-use Rattle.at_report.specs.FaultText.{fault_line}
-use Rattle.at_report.specs.declared.status.Status.{Status}
-use Rattle.at_shows.specs.Usage.{TookRefusal, is_formless, refusal_line, usage_line}
+use Rattle.at_shows.proofs.Prelude.{OnErr, OnOk, Rose, TakesPrefix, fault_line, Status, TookRefusal, is_formless, refusal_line, usage_line}
 
 -- words of no form have the usage line, and every other refusal is told as everywhere
 pub refusal_line-formless : (status : Status) (b : Bool) → b ≡ is_formless status → b ≡ true → refusal_line status ≡ usage_line

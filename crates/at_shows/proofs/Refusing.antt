@@ -1,16 +1,6 @@
 -- When a view is refused, and what is answered of it.
 use Rattle.std.proofs.Common.{◌≡◌, ◌≢◌, ◌⊎◌, ℕ, Bool, true, Result, Ok, Err, inl, inr, refl}
-use Rattle.at_commands.proofs.Endings.{Refuses}
-use Rattle.at_io.specs.Faults.{Rose}
-use Rattle.at_loading.specs.Faults.{Answers, IsFaultless, IsWritten}
-use Rattle.at_loading.specs.Faults.Kind.{payments}
-use Rattle.at_loading.specs.Loading.{Loaded}
-use Rattle.at_loading.proofs.Laws.Exact.{MayRefuse-exact}
-use Rattle.at_loading.proofs.Laws.MayRefuse.{MayRefuse-loaded}
-use Rattle.at_report.specs.declared.status.Status.{Status}
-use Rattle.at_report.specs.declared.status.Status.TheVariants.{Done, NoMemory, TooManyOrders, WriteFault}
-use Rattle.at_shows.specs.Refused.{AnswersView, Completes, HasTooMany, IsTooMany, MayRefuseView}
-use Rattle.at_shows.specs.declared.words.View.{View}
+use Rattle.at_shows.proofs.Prelude.{Refuses, Rose, Answers, IsFaultless, IsWritten, payments, Loaded, MayRefuse-exact, MayRefuse-loaded, Status, Done, NoMemory, TooManyOrders, WriteFault, AnswersView, Completes, HasTooMany, IsTooMany, MayRefuseView, View}
 
 pub Refuses-view : (view : View) (tells : Bool) (expected : Result Loaded Status) (before now : ℕ)
     → Refuses (λ refusal. MayRefuseView view tells expected before now refusal)

@@ -1,13 +1,6 @@
 -- What each command leaves: its contract. What is the same for all commands stands at `show_all`.
 use Rattle.std.specs.Prelude.{◌≡◌, ◌≢◌, ◌⊎◌, ℕ, true, false, List, length, Option, Some, None}
-use Rattle.at_commands.specs.Answered.{AnsweredTurns}
-use Rattle.at_commands.specs.Outcome.{Found, Outcome}
-use Rattle.at_commands.specs.Writing.{TookAll, TookPrefix}
-use Rattle.at_loading.specs.Faults.{HasFileNumbers, IsFaultless, IsWritten}
-use Rattle.at_loading.specs.Loading.{Loaded, MayReach, Spelled, loaded}
-use Rattle.at_loading.specs.Words.{Form}
-use Rattle.at_report.specs.declared.status.Status.TheVariants.{Done, NoMemory, ReadFault, Usage, WriteFault}
-use Rattle.at_report.specs.declared.status.UsageFault.TheVariants.{Words}
+use Rattle.at_shows.specs.Prelude.{AnsweredTurns, Found, Outcome, TookAll, TookPrefix, HasFileNumbers, IsFaultless, IsWritten, Loaded, MayReach, Spelled, loaded, Form, Done, NoMemory, ReadFault, Usage, WriteFault, Words}
 use Rattle.at_shows.specs.Picturing.{ShowsPage}
 use Rattle.at_shows.specs.Refused.{AnswersView, Completes, MayRefuseView}
 use Rattle.at_shows.specs.Tracing.{ShowsTrace}

@@ -1,3 +1,4 @@
+pub mod Prelude
 pub mod Tracing
 pub mod Picturing
 pub mod Words

@@ -1,9 +1,6 @@
 -- What `show` prints.
 use Rattle.std.specs.Prelude.{◌≡◌, ℕ, List}
-use Rattle.at_commands.specs.Replaying.{Replay}
-use Rattle.at_pages.specs.PageText.{page_text}
-use Rattle.at_stepper.specs.InTurns.{IsReplayBy}
-use Rattle.at_stepper.specs.declared.replaying.Replayed.{Replayed}
+use Rattle.at_shows.specs.Prelude.{Replay, page_text, IsReplayBy, Replayed}
 
 -- the text is the page of what was made of the files' calls by the turns of the schedule
 pub record ShowsPage (r : Replay) (text : List ℕ) : Type 0 where

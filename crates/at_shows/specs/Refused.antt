@@ -1,12 +1,6 @@
 -- When a view is refused, and what is answered of it.
 use Rattle.std.specs.Prelude.{◌≡◌, ◌⊎◌, ℕ, Bool, true, Result, Ok, Err}
-use Rattle.at_loading.specs.Faults.{IsWritten, MayRefuse}
-use Rattle.at_loading.specs.Loading.{Loaded}
-use Rattle.at_orders.specs.Covered.{OpeningsCover}
-use Rattle.at_orders.specs.Stages.{HasMoreStages}
-use Rattle.at_orders.specs.declared.walk.TheConstants.{STAGES_MAX}
-use Rattle.at_report.specs.declared.status.Status.{Status}
-use Rattle.at_report.specs.declared.status.Status.TheVariants.{Done, NoMemory, TooManyOrders}
+use Rattle.at_shows.specs.Prelude.{IsWritten, MayRefuse, Loaded, OpeningsCover, HasMoreStages, STAGES_MAX, Status, Done, NoMemory, TooManyOrders}
 use Rattle.at_shows.specs.declared.words.View.{View}
 use Rattle.at_shows.specs.declared.words.View.TheVariants.{Orders}
 

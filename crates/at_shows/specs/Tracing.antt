@@ -1,9 +1,6 @@
 -- What `trace` prints.
 use Rattle.std.specs.Prelude.{◌≡◌, ℕ, List}
-use Rattle.at_commands.specs.Replaying.{Replay}
-use Rattle.at_stepper.specs.InTurns.{IsReplayBy}
-use Rattle.at_stepper.specs.declared.replaying.Replayed.{Replayed}
-use Rattle.at_traces.specs.TraceText.{trace_text}
+use Rattle.at_shows.specs.Prelude.{Replay, IsReplayBy, Replayed, trace_text}
 
 -- the text has a record for each turn of what was made of the files' calls by the turns of the schedule: the step that it made, as its machine
 -- told it, and the reply of the call that it answered

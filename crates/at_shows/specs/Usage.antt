@@ -1,11 +1,6 @@
 -- The line of each refusal.
 use Rattle.std.specs.Prelude.{◌≡◌, ℕ, ◌⊎◌, Bool, true, false, List, [], ◌∷◌, ◌++◌, codes, if◌then◌else◌}
-use Rattle.at_io.specs.Faults.{Rose}
-use Rattle.at_io.specs.Sink.{TakesPrefix}
-use Rattle.at_report.specs.FaultText.{fault_line}
-use Rattle.at_report.specs.declared.status.Status.{Status}
-use Rattle.at_report.specs.declared.status.Status.TheVariants.{Usage}
-use Rattle.at_report.specs.declared.status.UsageFault.TheVariants.{Words}
+use Rattle.at_shows.specs.Prelude.{Rose, TakesPrefix, fault_line, Status, Usage, Words}
 
 -- what the words have to be
 abbrev pub usage_line : List ℕ

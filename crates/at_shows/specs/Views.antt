@@ -1,22 +1,8 @@
 -- What each command shows of a book and payments.
 use Rattle.std.specs.Prelude.{◌≡◌, ℕ, ◌<◌, Bool, true, false, List, [], length, slice_index_or, Ok, Option, Some, None}
-use Rattle.at_commands.specs.Running.{IsPlayed, IsPlayedNoting}
-use Rattle.at_costs.specs.Bounds.{AreCostsWithin}
-use Rattle.at_costs.specs.CostsText.{costs_text}
-use Rattle.at_hledger.specs.LedgerText.{ledger_text}
-use Rattle.at_kinds.specs.Groups.{AreGroups, groups_of}
-use Rattle.at_kinds.specs.KindsText.{kinds_text}
-use Rattle.at_ledger.specs.declared.call.Line.{Line}
-use Rattle.at_loading.specs.Loading.{Files, Loaded, Spelled, loaded}
-use Rattle.at_loading.specs.Words.{Form}
-use Rattle.at_log.specs.ClosingTerms.{receipts_of}
-use Rattle.at_object.specs.Closings.{ClosedTerms}
-use Rattle.at_orders.specs.Orders.{AreAnswers}
-use Rattle.at_orders.specs.declared.replies.Replies.{Replies}
-use Rattle.at_replies.specs.OrdersText.{orders_text}
+use Rattle.at_shows.specs.Prelude.{IsPlayed, IsPlayedNoting, AreCostsWithin, costs_text, ledger_text, AreGroups, groups_of, kinds_text, Line, Files, Loaded, Spelled, loaded, Form, receipts_of, ClosedTerms, AreAnswers, Replies, orders_text, CostTerms}
 use Rattle.at_shows.specs.declared.words.View.{View}
 use Rattle.at_shows.specs.declared.words.View.TheVariants.{Costs, Kinds, Ledger, Orders}
-use Rattle.at_workers.specs.Costs.{CostTerms}
 
 -- `kinds`: the text is that of the kinds of the calls. Its groups are just the sets of owners that have payments to agree on
 pub record ShowsKinds (l : Loaded) (text : List ℕ) : Type 0 where

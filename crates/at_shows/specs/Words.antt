@@ -1,8 +1,6 @@
 -- What the words of each command ask to be shown.
 use Rattle.std.specs.Prelude.{List, [], ◌∷◌, codes, bytes_eq, Option, Some, None, if◌then◌else◌}
-use Rattle.at_report.specs.Lines.{Word}
-use Rattle.at_loading.specs.Words.{Form, Replaying, form_shown, replaying_shown}
-use Rattle.at_loading.specs.declared.words.Command.TheVariants.{Check}
+use Rattle.at_shows.specs.Prelude.{Word, Form, Replaying, form_shown, replaying_shown, Check}
 use Rattle.at_shows.specs.declared.words.Asked as program
 use Rattle.at_shows.specs.declared.words.Asked.TheVariants as given
 use Rattle.at_shows.specs.declared.words.View.{View}

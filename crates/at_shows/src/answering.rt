@@ -1,11 +1,7 @@
 //! What is answered of what the words ask.
 
 ghost use Rattle.std.specs.Prelude.{◌≡◌, ◌≢◌, ◌≤◌, ℕ, length, false, None, Err, IfOk, IfErr, OnOk, option_map};
-ghost use Rattle.at_io.specs.Faults.{Rose};
-ghost use Rattle.at_io.specs.Shelf.{SameFiles};
-ghost use Rattle.at_loading.specs.Faults.{HasFileNumbers};
-ghost use Rattle.at_loading.specs.Loading.{MayReach, loaded};
-ghost use Rattle.at_loading.specs.Words.{form_shown};
+ghost use Rattle.at_shows.specs.Prelude.{Rose, SameFiles, HasFileNumbers, MayReach, loaded, form_shown};
 ghost use Rattle.at_shows.specs.Answered.{AnsweredView, LeavesShown};
 ghost use Rattle.at_shows.specs.Refused.{MayRefuseView};
 ghost use Rattle.at_shows.specs.Views.{ShowsRead, is_run};

@@ -1,9 +1,7 @@
 //! What `show` prints of a run by a schedule.
 
 ghost use Rattle.std.specs.Prelude.{◌≡◌, ◌<◌, All, IfOk, OnOk, length};
-ghost use Rattle.at_ledger.specs.Files.{IsPlayable, contents_of};
-ghost use Rattle.at_files.specs.Names.{AreNamesOf};
-ghost use Rattle.at_loading.specs.Loading.{loaded_shown};
+ghost use Rattle.at_shows.specs.Prelude.{IsPlayable, contents_of, AreNamesOf, loaded_shown};
 ghost use Rattle.at_shows.specs.Picturing.{ShowsPage};
 
 use at_commands::TurnsText;

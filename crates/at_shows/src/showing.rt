@@ -1,9 +1,7 @@
 //! All that the second program does.
 
 ghost use Rattle.std.specs.Prelude.{◌≡◌, ◌≢◌, ◌↔◌, ◌≤◌, true, None};
-ghost use Rattle.at_io.specs.Faults.{Rose};
-ghost use Rattle.at_io.specs.Shelf.{SameFiles};
-ghost use Rattle.at_loading.specs.Words.{words_of};
+ghost use Rattle.at_shows.specs.Prelude.{Rose, SameFiles, words_of};
 ghost use Rattle.at_shows.specs.Answered.{LeavesShown};
 ghost use Rattle.at_shows.specs.Usage.{TookRefusal, is_formless};
 ghost use Rattle.at_shows.specs.Words.{showing_of};

@@ -1,16 +1,14 @@
 //! What `trace` prints of a run by a schedule.
 
 ghost use Rattle.std.specs.Prelude.{◌≡◌, ◌<◌, All, IfOk, length};
-ghost use Rattle.at_ledger.specs.Files.{IsPlayable, contents_of};
-ghost use Rattle.at_files.specs.Names.{AreNamesOf};
-ghost use Rattle.at_loading.specs.Loading.{loaded_shown};
+ghost use Rattle.at_shows.specs.Prelude.{IsPlayable, contents_of, AreNamesOf, loaded_shown};
 ghost use Rattle.at_shows.specs.Tracing.{ShowsTrace};
 
 use at_commands::TurnsText;
 use at_ledger::Call;
 use at_loading::Loaded;
 use at_stepper::replay;
-use at_traces::trace_text;
+use at_tables::trace_text;
 use std::alloc::{AllocError, Global};
 
 /// What each turn did.

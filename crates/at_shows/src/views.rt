@@ -1,21 +1,17 @@
 //! What each view shows of what was loaded.
 
 ghost use Rattle.std.specs.Prelude.{◌≡◌, All, Err, IfOk, length};
-ghost use Rattle.at_ledger.specs.Files.{IsPlayable, contents_of};
-ghost use Rattle.at_files.specs.Names.{AreNamesOf};
+ghost use Rattle.at_shows.specs.Prelude.{IsPlayable, contents_of, AreNamesOf};
 ghost use Rattle.at_shows.specs.Refused.{HasTooMany};
 ghost use Rattle.at_shows.specs.Views.{Shows};
 
 use crate::words::View;
 use at_commands::{Printed, play, play_noting};
-use at_costs::costs_text;
 use at_files::Names;
-use at_hledger::ledger;
-use at_kinds::kinds;
 use at_ledger::{Book, Call};
 use at_orders::{OrdersError, orders};
-use at_replies::orders_text;
 use at_report::Pieces;
+use at_tables::{costs_text, kinds, ledger, orders_text};
 use at_workers::Gate;
 use std::alloc::{AllocError, Global};
 use std::thread::Threads;

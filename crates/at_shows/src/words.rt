@@ -1,7 +1,7 @@
 //! What the words after the program's name ask to be shown.
 
 ghost use Rattle.std.specs.Prelude.{◌≡◌, option_map};
-ghost use Rattle.at_loading.specs.Words.{words_of};
+ghost use Rattle.at_shows.specs.Prelude.{words_of};
 ghost use Rattle.at_shows.specs.Words.{show_wanted, showing_of, showing_shown, trace_wanted, view_wanted};
 
 use at_loading::{Command, Form, Replaying};

@@ -1,7 +1,6 @@
 -- How many counts have not moved since the first collect.
 use Rattle.std.proofs.Common.{◌≡◌, ◌≢◌, ℕ, ◌+◌, ◌<◌, ◌≤◌, zero, suc, cond, List, [], ◌∷◌, length, get_or, refl, ap, arith, inl, inr}
-use Rattle.std.proofs.lemmas.Bool.{cases_eq, eq-eqb, ne_eqb}
-use Rattle.at_snapshot.specs.Snapping.{one_if_same, unmoved}
+use Rattle.at_snapshot.proofs.Prelude.{cases_eq, eq-eqb, ne_eqb, one_if_same, unmoved}
 
 one_if_same-equal : (f l : ℕ) → f ≡ l → one_if_same f l ≡ 1
 unfolding one_if_same

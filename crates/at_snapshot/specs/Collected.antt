@@ -1,11 +1,6 @@
 -- What loads of lengths tell a seat.
 use Rattle.std.specs.Prelude.{◌≡◌, ℕ, ◌+◌, ◌<◌, ◌≤◌, List, length, map, slice_index}
-use Rattle.at_ledger.specs.Book.{BookTerms}
-use Rattle.at_board.specs.declared.knowledge.Knowledge.{Knowledge}
-use Rattle.at_history.specs.Publications.{IsPrefix, count_of}
-use Rattle.at_history.specs.Histories.{IsHistory}
-use Rattle.at_board.specs.Knowledge.Parts.{with_part}
-use Rattle.at_board.specs.Knowledge.Parts.{loads_of, own_part}
+use Rattle.at_snapshot.specs.Prelude.{BookTerms, Knowledge, IsPrefix, count_of, IsHistory, with_part, loads_of, own_part}
 
 -- the numbers that a seat last loaded
 abbrev pub collect_of : Knowledge → List ℕ

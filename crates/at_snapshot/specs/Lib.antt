@@ -1,3 +1,4 @@
+pub mod Prelude
 pub mod Collected
 pub mod Scans
 pub mod Turns

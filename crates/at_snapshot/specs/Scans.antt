@@ -1,10 +1,6 @@
 -- Scans as callers see them.
 use Rattle.std.specs.Prelude.{◌≡◌, ℕ, ◌+◌, ◌<◌, ◌≤◌, List, length, slice_index, Option, Some, None, IfSome}
-use Rattle.at_base.specs.Counts.{Covers}
-use Rattle.at_ledger.specs.Book.{BookTerms}
-use Rattle.at_board.specs.declared.knowledge.Knowledge.{Knowledge}
-use Rattle.at_history.specs.Publications.{IsPrefix, count_of}
-use Rattle.at_board.specs.Knowledge.Parts.{loads_of, own_part}
+use Rattle.at_snapshot.specs.Prelude.{Covers, BookTerms, Knowledge, IsPrefix, count_of, loads_of, own_part}
 use Rattle.at_snapshot.specs.declared.collects.Collects.{Collects}
 use Rattle.at_snapshot.specs.Collected.{collect_of}
 

@@ -1,8 +1,6 @@
 -- Snapshots in the making, from one collect to the next.
 use Rattle.std.specs.Prelude.{◌≡◌, ℕ, ◌+◌, ◌*◌, ◌<◌, ◌≤◌, ◌==◌, List, [], ◌∷◌, Option, Some, None, if◌then◌else◌}
-use Rattle.at_ledger.specs.Book.{BookTerms}
-use Rattle.at_board.specs.declared.knowledge.Knowledge.{Knowledge}
-use Rattle.at_board.specs.Knowledge.Parts.{loads_of, own_part}
+use Rattle.at_snapshot.specs.Prelude.{BookTerms, Knowledge, loads_of, own_part}
 use Rattle.at_snapshot.specs.declared.collects.Collects.{Collects}
 use Rattle.at_snapshot.specs.Collected.{HasLoaded}
 use Rattle.at_snapshot.specs.Scans.{IsScanOf, ScanTerms, SeesOwnRecords}

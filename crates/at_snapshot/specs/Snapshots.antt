@@ -1,18 +1,13 @@
--- Snapshots: fronts of what a seat has seen that begin with all that it had seen.
+-- Snapshots: cuts of what a seat has seen that begin with all that it had seen.
 use Rattle.std.specs.Prelude.{◌≡◌, ℕ, ◌+◌, ◌*◌, ◌<◌, ◌≤◌, List, slice_index, refl}
-use Rattle.at_ledger.specs.Book.{BookTerms}
-use Rattle.at_board.specs.declared.knowledge.Knowledge.{Knowledge}
-use Rattle.at_board.specs.Knowledge.Fresh.{IsFresh}
-use Rattle.at_history.specs.Fronts.{IsFront, prefix_of}
-use Rattle.at_history.specs.Publications.{IsPrefix}
-use Rattle.at_board.specs.Knowledge.Parts.{loads_of, own_part}
+use Rattle.at_snapshot.specs.Prelude.{BookTerms, Knowledge, IsFresh, IsCut, prefix_of, IsPrefix, loads_of, own_part}
 use Rattle.at_snapshot.specs.declared.scan.Turn.{Turn}
 use Rattle.at_snapshot.specs.declared.scan.Turn.TheVariants.{Clean, Borrowed, Again}
 
--- the counts are a front of what the seat has seen now, whose prefix begins with all that it had seen before, and are fresh.
+-- the counts are a cut of what the seat has seen now, whose prefix begins with all that it had seen before, and are fresh.
 -- They count all that the seat's process has published
 pub record IsSnapshot (b : BookTerms) (before after : Knowledge) (counts : List ℕ) : Type 0 where
-  pub front : IsFront b.processes counts after.seen
+  pub cut : IsCut b.processes counts after.seen
   pub begins : IsPrefix before.seen (prefix_of counts after.seen)
   pub fresh : IsFresh b before after counts
   pub own : slice_index counts before.first ≡ (own_part before).published

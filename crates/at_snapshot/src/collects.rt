@@ -1,9 +1,7 @@
 //! Collects, and how a whole one compares with those before it.
 
 ghost use Rattle.std.specs.Prelude.{◌≡◌, ℕ, ◌+◌, ◌<◌, ◌≤◌, ◌↔◌, length, slice_index, IsTrue, MatchOption, Option, Some};
-ghost use Rattle.at_board.specs.Counting.{raised, stepped};
-ghost use Rattle.at_history.specs.Publications.{count_of};
-ghost use Rattle.at_board.specs.Knowledge.Seats.{IsOf};
+ghost use Rattle.at_snapshot.specs.Prelude.{raised, stepped, count_of, IsOf};
 ghost use Rattle.at_snapshot.specs.declared.collects.Collects.{Collects};
 ghost use Rattle.at_snapshot.specs.Collected.{IsCollect, collect_of};
 ghost use Rattle.at_snapshot.specs.Scans.{collects_after};

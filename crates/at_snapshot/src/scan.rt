@@ -1,9 +1,7 @@
 //! Scans, made turn by turn.
 
 ghost use Rattle.std.specs.Prelude.{◌≡◌, ◌+◌};
-ghost use Rattle.at_board.specs.Counting.{raised};
-ghost use Rattle.at_ledger.specs.Book.{BookTerms};
-ghost use Rattle.at_board.specs.Knowledge.Seats.{IsOf};
+ghost use Rattle.at_snapshot.specs.Prelude.{raised, BookTerms, IsOf};
 ghost use Rattle.at_snapshot.specs.Collected.{IsCollect, collect_of};
 ghost use Rattle.at_snapshot.specs.Scans.{IsScanOf, SeesOwnRecords, scan_after, starting_scan};
 ghost use Rattle.at_snapshot.specs.Snapshots.{IsSnapshot, OnCounts};

@@ -1,7 +1,7 @@
 //! Whole snapshots.
 
 ghost use Rattle.std.specs.Prelude.{◌≡◌, ◌+◌, ◌≤◌};
-ghost use Rattle.at_board.specs.Knowledge.Seats.{IsOf};
+ghost use Rattle.at_snapshot.specs.Prelude.{IsOf};
 ghost use Rattle.at_snapshot.specs.Collected.{HasLoaded};
 ghost use Rattle.at_snapshot.specs.Snapshots.{HasCollected, IsSnapshot, snapshot_steps};
 

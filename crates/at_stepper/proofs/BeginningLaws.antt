@@ -1,19 +1,7 @@
 -- Callers that begin their next calls, with what is published.
 use Rattle.std.specs.Prelude.{IfSome, sum_by, ◌+◌}
 use Rattle.std.proofs.Common.{◌≡◌, ◌-◌, List, drop, Option, Some, None, length, refl, sym, ap, subst, ◌∙◌, arith}
-use Rattle.at_board.specs.Steps.Made.{MakesOnly}
-use Rattle.at_calling.proofs.Laws.Steps.{MakesOnly-MakesCallStep}
-use Rattle.at_calling.specs.Calling.{IsWay, exchanges_of, first_step, next_step, publishes_of, refusal_in}
-use Rattle.at_calling.specs.declared.call_stage.CallStage.{CallStage}
-use Rattle.at_history.specs.declared.publication.Publication.{Publication}
-use Rattle.at_ledger.specs.Book.{BookTerms}
-use Rattle.at_ledger.specs.declared.call.Call.{Call}
-use Rattle.at_board.specs.Counting.{raised}
-use Rattle.at_board.specs.Knowledge.Seats.{SeatTerms}
-use Rattle.at_object.specs.Passes.{PassTerms, seat_of}
-use Rattle.at_stepper.specs.Callers.{BeginsCall, CallerTerms, HasLearned, IsReadyFrom, IsTurned, caller_turns_left, calls_left_of, most_turns, next_call, own_seen, steps_in, steps_so_far}
-use Rattle.at_stepper.specs.KeptCallers.{StartsNext, TakesTurn}
-use Rattle.at_stepper.specs.declared.turned.Turned.{Turned}
+use Rattle.at_stepper.proofs.Prelude.{MakesOnly, MakesOnly-MakesCallStep, IsWay, exchanges_of, first_step, next_step, publishes_of, refusal_in, CallStage, Publication, BookTerms, Call, raised, SeatTerms, PassTerms, seat_of, BeginsCall, CallerTerms, HasLearned, IsReadyFrom, IsTurned, caller_turns_left, calls_left_of, most_turns, next_call, own_seen, steps_in, steps_so_far, StartsNext, TakesTurn, Turned}
 
 -- the caller begins its next call with what it has learned
 module _ (b : BookTerms) (published : List Publication) (was mid ready : CallerTerms) (learned : HasLearned was mid)

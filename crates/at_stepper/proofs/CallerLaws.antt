@@ -1,41 +1,11 @@
 -- A caller whose call goes on, or is answered.
 use Rattle.std.specs.Prelude.{IfSome, IsSome, is_some, ◌↔◌}
 use Rattle.std.proofs.Common.{◌≡◌, ℕ, zero, suc, ◌+◌, ◌<◌, ◌⊎◌, Bool, true, false, cond, List, [], ◌∷◌, ◌++◌, drop, length, get_or, take, None, Option, Some, refl, sym, ap, subst, ◌∙◌, arith, inl, inr, length-append}
-use Rattle.std.proofs.lemmas.Bool.{cases_Bool}
-use Rattle.std.proofs.lemmas.List.{map-append, take_more}
-use Rattle.std.proofs.lemmas.List.Sums.{sum_by-drop_more}
+use Rattle.at_stepper.proofs.Prelude.{cases_Bool, map-append, take_more, sum_by-drop_more, BookTerms, is_owner, Call, Pay, Read, Transfer, Reply, Balance, Done, Full, NotOwner, Short, own_part, LearnsOverview, IsKept, SeatTerms, Knowledge, calls_of, Receipt, IsOfOnePass, pass_of, CallCountTerms, with_one_call, PassTerms, Stands, sent_by, IsRefused, has_used_up, Rest, process-CallMade, CallerTerms, HasLearned, IsAnswered, IsFile, IsStillCalling, caller_turns_left, calls_left_of, is_refused, most_turns, next_call, own_seen, steps_in, CallingTerms, IsCallWithin, IsWay, MakesCallStep, StartsFrom, call_turns_left, exchanges_made, exchanges_of, first_step, next_step, pass_before, publishes_of, refusal_in, steps_made, steps_of, CallMade, StaysWithin, IsPrefix, Publication, IsPrefix-refl, IsCallerOf, IsNextInMaking, StartsNext, TakesTurn, caller_of, stage_in, raised, CallStage, PayAlone, PayShared, Refuse, Refused, Turned, Answer, Step}
 use Rattle.std.specs.Prelude.{sum_by}
-use Rattle.at_ledger.specs.Book.{BookTerms, is_owner}
-use Rattle.at_ledger.specs.declared.call.Call.{Call}
-use Rattle.at_ledger.specs.declared.call.Call.TheVariants.{Pay, Read, Transfer}
-use Rattle.at_ledger.specs.declared.call.Reply.{Reply}
-use Rattle.at_ledger.specs.declared.call.Reply.TheVariants.{Balance, Done, Full, NotOwner, Short}
-use Rattle.at_board.specs.Knowledge.Parts.{own_part}
-use Rattle.at_board.specs.Knowledge.Overviews.{LearnsOverview}
-use Rattle.at_board.specs.Knowledge.Seats.{IsKept, SeatTerms}
-use Rattle.at_board.specs.declared.knowledge.Knowledge.{Knowledge}
-use Rattle.at_log.specs.Receipts.{calls_of}
-use Rattle.at_log.specs.declared.receipt.Receipt.{Receipt}
-use Rattle.at_object.specs.Parted.{IsOfOnePass, pass_of}
-use Rattle.at_object.specs.CallCounts.{CallCountTerms, with_one_call}
-use Rattle.at_object.specs.Passes.{PassTerms, Stands, sent_by}
-use Rattle.at_object.specs.Payments.{IsRefused, has_used_up}
-use Rattle.at_object.specs.declared.parts.Rest.{Rest}
-use Rattle.at_object.proofs.Laws.Calls.{process-CallMade}
-use Rattle.at_stepper.specs.Callers.{CallerTerms, HasLearned, IsAnswered, IsFile, IsStillCalling, caller_turns_left, calls_left_of, is_refused, most_turns, next_call, own_seen, steps_in}
-use Rattle.at_calling.specs.Calling.{CallingTerms, IsCallWithin, IsWay, MakesCallStep, StartsFrom, call_turns_left, exchanges_made, exchanges_of, first_step, next_step, pass_before, publishes_of, refusal_in, steps_made, steps_of}
-use Rattle.at_object.specs.Calls.{CallMade, StaysWithin}
-use Rattle.at_history.specs.Publications.{IsPrefix}
-use Rattle.at_history.specs.declared.publication.Publication.{Publication}
 use Rattle.at_stepper.proofs.PublishedLaws.{longer-IsPrefix}
 use Rattle.at_stepper.proofs.LookLaws.{look-CallMade}
-use Rattle.at_history.proofs.Laws.Prefixes.{IsPrefix-refl}
-use Rattle.at_stepper.specs.KeptCallers.{IsCallerOf, IsNextInMaking, StartsNext, TakesTurn, caller_of, stage_in}
-use Rattle.at_board.specs.Counting.{raised}
-use Rattle.at_calling.specs.declared.call_stage.CallStage.{CallStage}
-use Rattle.at_calling.specs.declared.call_stage.CallStage.TheVariants.{PayAlone, PayShared, Read as ReadOn, Refuse, Refused}
-use Rattle.at_stepper.specs.declared.turned.Turned.{Turned}
-use Rattle.at_stepper.specs.declared.turned.Turned.TheVariants.{Answer, Step}
+use Rattle.at_calling.specs.declared.call_stage.CallStage.TheVariants.{Read as ReadOn}
 
 -- a turn that isn't a call's last makes a step
 pub steps_of-going_on : (b : BookTerms) (stage : CallStage) → 1 < call_turns_left b stage → steps_of stage ≡ 1

@@ -1,22 +1,8 @@
 -- What is published at the end of a run is what its closing has.
 use Rattle.std.proofs.Common.{◌≡◌, ℕ, zero, suc, ◌+◌, ◌<◌, ◌≤◌, List, [], ◌∷◌, ◌++◌, length, get_or, take, refl, sym, ap, subst, ◌∙◌, arith, inl, inr}
-use Rattle.std.proofs.lemmas.Bool.{cases_lt}
-use Rattle.std.proofs.lemmas.List.{get_or-map, length-map, take_all}
-use Rattle.at_ledger.specs.Book.{BookTerms}
-use Rattle.at_history.proofs.Laws.Counts.{count_of-push_own, count_of-take_mono}
-use Rattle.at_history.proofs.Laws.Histories.{ArePublishedBy-IsHistory}
-use Rattle.at_history.proofs.Laws.Prefixes.{take-IsPrefix, take-publication_at}
-use Rattle.at_history.specs.BoardState.{publication_at}
-use Rattle.at_history.specs.Publications.{IsPrefix, count_of, no_publication}
-use Rattle.at_history.specs.declared.publication.Publication.{Publication}
-use Rattle.at_object.specs.Closings.{ClosedTerms, HasAllLogs}
-use Rattle.at_object.specs.Passes.{PassTerms, seat_of}
-use Rattle.at_board.specs.Knowledge.Seats.{SeatTerms}
+use Rattle.at_stepper.proofs.Prelude.{cases_lt, get_or-map, length-map, take_all, BookTerms, count_of-push_own, count_of-take_mono, ArePublishedBy-IsHistory, take-IsPrefix, take-publication_at, publication_at, IsPrefix, count_of, no_publication, Publication, ClosedTerms, HasAllLogs, PassTerms, seat_of, SeatTerms, CallerTerms, IsAllPublished, caller_passes, StepperTerms}
 use Rattle.at_stepper.proofs.PublishedLaws.{IsPrefix-counts, IsPrefix-same}
 use Rattle.at_stepper.proofs.TurnCounts.{some_of}
-use Rattle.at_stepper.specs.Callers.{CallerTerms}
-use Rattle.at_stepper.specs.KeptStepping.{IsAllPublished, caller_passes}
-use Rattle.at_stepper.specs.Stepping.{StepperTerms}
 
 -- a prefix that has all records of the last one's process is the whole list
 whole-prefix : (seen list : List Publication) (m : ℕ) → IsPrefix seen list → m + 1 ≡ length list

@@ -1,37 +1,17 @@
 -- The counts that a call takes, and what one turn more leaves of them: they were loaded in turns of the call, or borrowed.
 use Rattle.std.proofs.Common.{◌≡◌, ◌≢◌, ◌⊎◌, ℕ, ◌+◌, ◌<◌, ◌≤◌, true, false, List, Option, Some, [], ◌∷◌, ◌++◌, length, map, slice_index, take, refl, sym, ap, subst, ◌∙◌, arith, inl, inr}
-use Rattle.std.proofs.lemmas.Bool.{cases_Bool, cases_lt}
-use Rattle.std.proofs.lemmas.List.{get_or-map, get_or_append_left, get_or_push, length-map, length_push}
-use Rattle.at_ledger.specs.Book.{BookTerms}
-use Rattle.at_closing.proofs.Laws.Keys.{publication_at-IsPrefix}
-use Rattle.at_history.proofs.Laws.Fronts.{length-IsFront}
-use Rattle.at_history.proofs.Laws.Prefixes.{IsPrefix-length, publications_of-IsPrefix, take-IsPrefix, take-IsPrefix-le}
-use Rattle.at_history.specs.BoardState.{publication_at}
-use Rattle.at_history.specs.Publications.{IsPrefix, count_of, publications_of}
-use Rattle.at_history.specs.declared.publication.Publication.{Publication}
-use Rattle.at_board.specs.Knowledge.Fresh.{IsBorrowed}
-use Rattle.at_board.specs.Knowledge.Parts.{loads_of, own_part}
-use Rattle.at_board.specs.declared.knowledge.Knowledge.{Knowledge}
-use Rattle.at_board.specs.declared.knowledge.Loads.{Loads}
-use Rattle.at_log.specs.Placed.{IsPlaced, read, not_owner, full, short, done, round}
-use Rattle.at_log.specs.declared.receipt.At.{At}
-use Rattle.at_log.specs.declared.receipt.At.TheVariants.{Front, Own, Round, Previous}
-use Rattle.at_log.specs.declared.receipt.Receipt.{Receipt}
-use Rattle.at_single.specs.Standing.{front_behind}
-use Rattle.at_snapshot.specs.Snapshots.{IsSnapshot}
-use Rattle.at_stepper.proofs.LookLaws.{HasNoFront, RestsOnSnapshot}
+use Rattle.at_stepper.proofs.Prelude.{cases_Bool, cases_lt, get_or-map, get_or_append_left, get_or_push, length-map, length_push, BookTerms, publication_at-IsPrefix, length-IsCut, IsPrefix-length, publications_of-IsPrefix, take-IsPrefix, take-IsPrefix-le, publication_at, IsPrefix, count_of, publications_of, Publication, IsBorrowed, loads_of, own_part, Knowledge, Loads, IsPlaced, read, not_owner, full, short, done, round, At, Cut, Own, Round, Previous, Receipt, cut_behind, IsSnapshot, AreBorrowed, AreLoaded, AreLoadedOrBorrowed, CountsLoads, IsLastLoad, PublishInOrder, is_turn_of, published_by_then, times_of, turn_at, turns_of_call, TurnMade}
+use Rattle.at_stepper.proofs.LookLaws.{HasNoCut, RestsOnSnapshot}
 use Rattle.at_stepper.proofs.PublishedTurns.{published_by_then-le, published_by_then-push}
 use Rattle.at_stepper.proofs.TurnTimes.{AreTimes, AreTimes-push, begun-push, ended-other, ended-own, is_next_of, is_turn_of-last, is_turn_of-push, process-is_next_of, some-own}
-use Rattle.at_stepper.specs.InTurns.{AreBorrowed, AreLoaded, AreLoadedOrBorrowed, CountsLoads, IsLastLoad, PublishInOrder, is_turn_of, published_by_then, times_of, turn_at, turns_of_call}
-use Rattle.at_stepper.specs.declared.replaying.TurnMade.{TurnMade}
 
 -- a receipt that stands at an own record of its process stands within the list
 pub own_within : (b : BookTerms) (p : ℕ) (list : List Publication) (earlier : List Receipt) (r : Receipt) → IsPlaced b p list earlier r
     → (number : ℕ) → r.at ≡ Own number → number < count_of p list
-own_within b p list earlier r (read account amount call reply front) number own = absurd (cc (front.at, own))
+own_within b p list earlier r (read account amount call reply cut) number own = absurd (cc (cut.at, own))
 own_within b p list earlier r (not_owner source targets call owner reply at) number own = absurd (cc (at, own))
 own_within b p list earlier r (full source targets call owner room reply at) number own = absurd (cc (at, own))
-own_within b p list earlier r (short source amount targets may single reply front less) number own = absurd (cc (front.at, own))
+own_within b p list earlier r (short source amount targets may single reply cut less) number own = absurd (cc (cut.at, own))
 own_within b p list earlier r (done source targets may single reply so) number own =
     let same : so.number ≡ number = cc (so.at, own) in
     subst (λ k. k < count_of p list) same so.within
@@ -144,7 +124,7 @@ module _ (turns : List TurnMade) (t : TurnMade) (times : AreTimes turns) where
 
       pub CountsLoads-push : (at : At) → ((number : ℕ) → at ≡ Own number → number < count_of p published) → CountsLoads turns loaded published p i at
           → CountsLoads all loaded_now published_now p i at
-      CountsLoads-push (Front view) within was = AreLoadedOrBorrowed-push view was
+      CountsLoads-push (Cut view) within was = AreLoadedOrBorrowed-push view was
       CountsLoads-push (Own number) within was =
           let same = publications_of-IsPrefix p number published published_now grown (within number refl) in
           subst (λ (x : Publication). AreLoadedOrBorrowed all loaded_now published_now p i x.view) (sym same)
@@ -162,7 +142,7 @@ module _ (turns : List TurnMade) (loaded : ℕ → Option ℕ) (published : List
   AreLoaded-last counts snapshot is q within =
       let all = (own_part after).loads in
       let none : Loads = record { times = 0; last = 0 } in
-      let known : q < b.processes = omega (arith, within, length-IsFront b.processes counts after.seen snapshot.front) in
+      let known : q < b.processes = omega (arith, within, length-IsCut b.processes counts after.seen snapshot.cut) in
       let inside : q < length all = omega (arith, within, ap (λ (ns : List ℕ). length ns) is, length-map all (λ (l : Loads). l.last)) in
       let last : slice_index counts q ≡ (loads_of (own_part after) q).last =
       ap (λ ns. slice_index ns q) is ∙ get_or-map (λ (l : Loads). l.last) all q none 0 inside in
@@ -189,23 +169,23 @@ module _ (turns : List TurnMade) (loaded : ℕ → Option ℕ) (published : List
         | inr (m, borrowed) ↦ inr (AreBorrowed-IsBorrowed counts m borrowed)
       ]
 
-  CountsLoads-front : (at : At) → ((number : ℕ) → at ≡ Own number → number < count_of after.first after.seen)
-      → IsSnapshot b before after (front_behind after at) → CountsLoads turns loaded published p i at
-  CountsLoads-front (Front view) within snapshot = AreLoadedOrBorrowed-IsSnapshot view snapshot
-  CountsLoads-front (Own number) within snapshot =
+  CountsLoads-cut : (at : At) → ((number : ℕ) → at ≡ Own number → number < count_of after.first after.seen)
+      → IsSnapshot b before after (cut_behind after at) → CountsLoads turns loaded published p i at
+  CountsLoads-cut (Cut view) within snapshot = AreLoadedOrBorrowed-IsSnapshot view snapshot
+  CountsLoads-cut (Own number) within snapshot =
       let same : publication_at (publications_of p published) number ≡ publication_at (publications_of after.first after.seen) number =
       ap (λ k. publication_at (publications_of k published) number) (sym process_is)
       ∙ publications_of-IsPrefix after.first number after.seen published seen (within number refl) in
       subst (λ (x : Publication). AreLoadedOrBorrowed turns loaded published p i x.view) (sym same)
       (AreLoadedOrBorrowed-IsSnapshot (publication_at (publications_of after.first after.seen) number).view snapshot)
-  CountsLoads-front (Round on place) within snapshot = tt
-  CountsLoads-front Previous within snapshot = tt
+  CountsLoads-cut (Round on place) within snapshot = tt
+  CountsLoads-cut Previous within snapshot = tt
 
-  CountsLoads-none : (at : At) → HasNoFront at → CountsLoads turns loaded published p i at
+  CountsLoads-none : (at : At) → HasNoCut at → CountsLoads turns loaded published p i at
   CountsLoads-none at (inl (on, place, is)) = subst (CountsLoads turns loaded published p i) (sym is) tt
   CountsLoads-none at (inr is) = subst (CountsLoads turns loaded published p i) (sym is) tt
 
   pub CountsLoads-answered : (at : At) → ((number : ℕ) → at ≡ Own number → number < count_of after.first after.seen) → RestsOnSnapshot b before after at
       → CountsLoads turns loaded published p i at
-  CountsLoads-answered at within (inl snapshot) = CountsLoads-front at within snapshot
+  CountsLoads-answered at within (inl snapshot) = CountsLoads-cut at within snapshot
   CountsLoads-answered at within (inr none) = CountsLoads-none at none

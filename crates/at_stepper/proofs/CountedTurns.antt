@@ -2,22 +2,7 @@
 -- run's closing.
 use Rattle.std.proofs.Common.{◌≡◌, ◌≢◌, ℕ, ◌+◌, ◌<◌, ◌==◌, true, List, [], ◌∷◌, ◌++◌, Bool, cond, Option, None, Some, length, get_or, map, refl, sym, ap, subst, ◌∙◌, arith, inl, inr}
 use Rattle.std.specs.Prelude.{is_some}
-use Rattle.std.proofs.lemmas.Bool.{cases_eq, cases_lt, eq-eqb, ne_eqb}
-use Rattle.std.proofs.lemmas.List.{length_push}
-use Rattle.at_ledger.specs.Book.{BookTerms}
-use Rattle.at_ledger.specs.declared.call.Call.{Call}
-use Rattle.at_history.proofs.Laws.Prefixes.{IsPrefix-count_of}
-use Rattle.at_history.specs.Publications.{IsPrefix, count_of}
-use Rattle.at_history.specs.declared.publication.Publication.{Publication}
-use Rattle.at_board.specs.Knowledge.Parts.{loads_of, own_part}
-use Rattle.at_board.specs.Knowledge.Seats.{SeatTerms}
-use Rattle.at_board.specs.declared.knowledge.Loads.{Loads}
-use Rattle.at_log.specs.ClosingTerms.{ClosingTerms, receipts_of}
-use Rattle.at_log.specs.Receipts.{receipt_at}
-use Rattle.at_log.specs.declared.receipt.At.TheVariants.{Own, Previous}
-use Rattle.at_log.specs.declared.receipt.Receipt.{Receipt}
-use Rattle.at_object.specs.Passes.{PassTerms}
-use Rattle.at_calling.specs.Calling.{length_loaded}
+use Rattle.at_stepper.proofs.Prelude.{cases_eq, cases_lt, eq-eqb, ne_eqb, length_push, BookTerms, Call, IsPrefix-count_of, IsPrefix, count_of, Publication, loads_of, own_part, SeatTerms, Loads, ClosingTerms, receipts_of, receipt_at, Own, Previous, Receipt, PassTerms, length_loaded, CallerTerms, IsTurned, answers_in, CountsLoads, IsLastLoad, IsMadeAs, IsMadeByTurns, LooksWithin, PublishInOrder, RunsTo, length_loaded_in, published_by_then, goes_on, starts, answered_by, ChangesOne, IsNewStepper, SeesPublished, StepperTerms, TurnsOne, TurnMade, Turned}
 use Rattle.at_stepper.proofs.CountLaws.{CountsLoads-answered, CountsLoads-push, IsLastLoad-own, LoadsIn, LoadsIn-push, own_within}
 use Rattle.at_stepper.proofs.LoadLaws.{loads-MakesCallStep}
 use Rattle.at_stepper.proofs.PublishedTurns.{grown-PublishesAtMostOne}
@@ -27,13 +12,6 @@ use Rattle.at_stepper.proofs.TimedLaws.{AreTimedTurns-RunsTo, known_caller, look
 use Rattle.at_stepper.proofs.TimedTurns.{AreTimedTurns, HasMore-turned, pass_seen}
 use Rattle.at_stepper.proofs.TurnCounts.{some_of, is_some-reply}
 use Rattle.at_stepper.proofs.TurnTimes.{ended-own, is_next_of, is_next_of-number, is_next_of-own, next-answered, number-is_next_of, process-is_next_of}
-use Rattle.at_stepper.specs.Callers.{CallerTerms, IsTurned, answers_in}
-use Rattle.at_stepper.specs.InTurns.{CountsLoads, IsLastLoad, IsMadeAs, IsMadeByTurns, LooksWithin, PublishInOrder, RunsTo, length_loaded_in, published_by_then}
-use Rattle.at_stepper.specs.InTurns.RunsTo.{goes_on, starts}
-use Rattle.at_stepper.specs.Schedules.{answered_by}
-use Rattle.at_stepper.specs.Stepping.{ChangesOne, IsNewStepper, SeesPublished, StepperTerms, TurnsOne}
-use Rattle.at_stepper.specs.declared.replaying.TurnMade.{TurnMade}
-use Rattle.at_stepper.specs.declared.turned.Turned.{Turned}
 
 -- so it is of all answered calls, and each call in the making has loaded each length in its own turns, or not yet
 pub record AreCountsLoaded (turns : List TurnMade) (loaded : CallerTerms → ℕ → Option ℕ) (callers : List CallerTerms) (published : List Publication) : Type 0 where

@@ -1,13 +1,6 @@
 -- Whose the turns of a schedule are: of processes that it names, and of all in turn.
 use Rattle.std.proofs.Common.{ℕ, zero, suc, ◌<◌, ◌++◌, List, [], ◌∷◌, All, length, length-append, refl, subst, arith}
-use Rattle.std.proofs.lemmas.List.{get_or_append_left, get_or_push, length_push}
-use Rattle.std.proofs.lemmas.List.Elements.{All-append, All-nil, All-push}
-use Rattle.std.proofs.lemmas.List.FromFn.{get_or-range_with_len, length-range_with_len}
-use Rattle.std.specs.List.{range_with_len}
-use Rattle.at_ledger.specs.declared.call.Call.{Call}
-use Rattle.at_stepper.specs.Schedules.{AreTurnsBy, AreTurnsOf, rounds_of_turns}
-use Rattle.at_stepper.specs.Schedules.AreTurnsBy.{none, idle, turn}
-use Rattle.at_stepper.specs.declared.replaying.TurnMade.{TurnMade}
+use Rattle.at_stepper.proofs.Prelude.{get_or_append_left, get_or_push, length_push, All-append, All-nil, All-push, get_or-range_with_len, length-range_with_len, range_with_len, Call, AreTurnsBy, AreTurnsOf, rounds_of_turns, none, idle, turn, TurnMade}
 
 -- what holds of all elements of a list holds of the first ones, and of the last
 All-begin : {X : Type 0} (P : X → Type 0) (xs ys : List X) → All P (xs ++ ys) → All P xs

@@ -1,29 +1,8 @@
 -- The journal of a run that is closed.
 use Rattle.std.proofs.Common.{◌≡◌, ℕ, ◌<◌, List, length, get_or, map, ap, subst, ◌∙◌, arith}
-use Rattle.std.proofs.lemmas.List.{get_or-map, length-map}
-use Rattle.at_history.specs.declared.publication.Publication.{Publication}
-use Rattle.at_history.specs.Publications.{IsPrefix, publications_of}
-use Rattle.at_journal.specs.Calls.{calls_in}
-use Rattle.at_journal.specs.Linearizable.{AreTimed, CallTimes, IsLinearizable}
-use Rattle.at_ledger.specs.Book.{BookTerms}
-use Rattle.at_ledger.specs.declared.call.Call.{Call}
-use Rattle.at_ledger.specs.declared.call.Line.{Line}
-use Rattle.at_board.specs.Knowledge.Seats.{BoardTerms}
-use Rattle.at_log.specs.ClosingTerms.{log_published}
-use Rattle.at_log.specs.Coherent.{Coherent}
-use Rattle.at_log.specs.InTime.{KeepsTime}
-use Rattle.at_log.specs.JournalOrder.{journal_lines}
-use Rattle.at_log.specs.declared.receipt.Receipt.{Receipt}
-use Rattle.at_object.specs.Closings.{ClosedTerms, HasAllLogs}
-use Rattle.at_object.specs.Passes.{PassTerms}
+use Rattle.at_stepper.proofs.Prelude.{get_or-map, length-map, Publication, IsPrefix, publications_of, calls_in, AreTimed, CallTimes, IsLinearizable, BookTerms, Call, Line, BoardTerms, log_published, Coherent, KeepsTime, journal_lines, Receipt, ClosedTerms, HasAllLogs, PassTerms, CallerTerms, IsJournalOf, RunsTo, times_of, goes_on, starts, caller_passes, StepperTerms, files_of, TurnMade}
 use Rattle.at_stepper.proofs.CountedTurns.{IsMadeByTurns-RunsTo}
 use Rattle.at_stepper.proofs.TimedLaws.{AreTimed-RunsTo}
-use Rattle.at_stepper.specs.Callers.{CallerTerms}
-use Rattle.at_stepper.specs.InTurns.{IsJournalOf, RunsTo, times_of}
-use Rattle.at_stepper.specs.InTurns.RunsTo.{goes_on, starts}
-use Rattle.at_stepper.specs.KeptStepping.{caller_passes}
-use Rattle.at_stepper.specs.Stepping.{StepperTerms, files_of}
-use Rattle.at_stepper.specs.declared.replaying.TurnMade.{TurnMade}
 
 -- a run is of the book and the files of the new one that led to it
 pub book-RunsTo : (b : BookTerms) (files : List (List Call)) (turns : List TurnMade) (s : StepperTerms) → RunsTo b files turns s → s.ledger.book ≡ b

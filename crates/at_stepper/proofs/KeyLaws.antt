@@ -1,25 +1,6 @@
 -- The keys and looks of receipts that stay while more receipts come and more is seen.
 use Rattle.std.proofs.Common.{◌≡◌, ℕ, zero, suc, ◌*◌, ◌<◌, ◌≤◌, List, [], ◌∷◌, ◌++◌, length, slice_index, take, refl, sym, ap, subst, ◌∙◌, arith}
-use Rattle.std.proofs.lemmas.List.{get_or_append_left, length-take}
-use Rattle.at_ledger.specs.Book.{BookTerms}
-use Rattle.at_ledger.specs.Call.{TargetPair}
-use Rattle.at_closing.proofs.Laws.Keys.{keys_of-IsPrefix, keys_of-le}
-use Rattle.at_history.proofs.Laws.Counts.{get_or-publications_of}
-use Rattle.at_history.proofs.Laws.Fronts.{place-IsFront-le}
-use Rattle.at_history.proofs.Laws.Histories.{ArePublishedBy-IsHistory}
-use Rattle.at_history.proofs.Laws.Prefixes.{ArePublishedBy-take, publications_of-IsPrefix}
-use Rattle.at_history.specs.BoardState.{publication_at}
-use Rattle.at_history.specs.Fronts.{place}
-use Rattle.at_history.specs.Histories.{IsHistory, IsShownDecision}
-use Rattle.at_history.specs.Publications.{IsPrefix, no_publication, publications_of}
-use Rattle.at_history.specs.declared.publication.Publication.{Publication}
-use Rattle.at_log.proofs.Laws.Keys.{length-keys_from}
-use Rattle.at_log.proofs.Laws.Positions.{own_position-at}
-use Rattle.at_log.specs.InTime.{look_at}
-use Rattle.at_log.specs.Placed.{IsAtFront, IsAtOwn, IsAtRound, IsPlaced, read, not_owner, full, short, done, round}
-use Rattle.at_log.specs.Receipts.{receipt_at}
-use Rattle.at_log.specs.Told.{Told, key_of, keys_from, keys_of, own_position}
-use Rattle.at_log.specs.declared.receipt.Receipt.{Receipt}
+use Rattle.at_stepper.proofs.Prelude.{get_or_append_left, length-take, BookTerms, TargetPair, keys_of-IsPrefix, keys_of-le, get_or-publications_of, place-IsCut-le, ArePublishedBy-IsHistory, ArePublishedBy-take, publications_of-IsPrefix, publication_at, place, IsHistory, IsShownDecision, IsPrefix, no_publication, publications_of, Publication, length-keys_from, own_position-at, look_at, IsAtCut, IsAtOwn, IsAtRound, IsPlaced, read, not_owner, full, short, done, round, receipt_at, Told, key_of, keys_from, keys_of, own_position, Receipt}
 
 -- more receipts change no key of the earlier ones
 keys_from-append : (p : ℕ) (list : List Publication) (previous : ℕ) (receipts more : List Receipt) (i : ℕ) → i < length receipts
@@ -33,12 +14,12 @@ keys_from-append p list previous (r ∷ rs) more (suc i) within =
 -- the place of a look stays in a longer list
 pub look_at-IsPrefix : (b : BookTerms) (p : ℕ) (list more : List Publication) (earlier : List Receipt) (r : Receipt) → IsPrefix list more
     → IsPlaced b p list earlier r → look_at p more r.at ≡ look_at p list r.at
-look_at-IsPrefix b p list more earlier r before (read account amount call reply front) =
-    ap (look_at p more) front.at ∙ sym (ap (look_at p list) front.at)
+look_at-IsPrefix b p list more earlier r before (read account amount call reply cut) =
+    ap (look_at p more) cut.at ∙ sym (ap (look_at p list) cut.at)
 look_at-IsPrefix b p list more earlier r before (not_owner source targets call owner reply at) = ap (look_at p more) at ∙ sym (ap (look_at p list) at)
 look_at-IsPrefix b p list more earlier r before (full source targets call owner room reply at) = ap (look_at p more) at ∙ sym (ap (look_at p list) at)
-look_at-IsPrefix b p list more earlier r before (short source amount targets may single reply front less) =
-    ap (look_at p more) front.at ∙ sym (ap (look_at p list) front.at)
+look_at-IsPrefix b p list more earlier r before (short source amount targets may single reply cut less) =
+    ap (look_at p more) cut.at ∙ sym (ap (look_at p list) cut.at)
 look_at-IsPrefix b p list more earlier r before (done source targets may single reply own) =
     ap (look_at p more) own.at
     ∙ (ap (λ (x : Publication). place x.view) (publications_of-IsPrefix p own.number list more before own.within)
@@ -47,12 +28,12 @@ look_at-IsPrefix b p list more earlier r before (round source targets may shared
 
 -- and is within a history
 module _ (b : BookTerms) (p : ℕ) (list : List Publication) (earlier : List Receipt) (r : Receipt) (history : IsHistory b list) where
-  look-front : (account amount : ℕ) → IsAtFront b list account amount r → look_at p list r.at ≤ length list
-  look-front account amount so =
+  look-cut : (account amount : ℕ) → IsAtCut b list account amount r → look_at p list r.at ≤ length list
+  look-cut account amount so =
       omega (
         arith,
         ap (look_at p list) so.at,
-        place-IsFront-le b.processes so.view list so.front (ArePublishedBy-IsHistory b list history),
+        place-IsCut-le b.processes so.view list so.cut (ArePublishedBy-IsHistory b list history),
       )
 
   look-own : (source : ℕ) (targets : List TargetPair) → IsAtOwn p list earlier source targets r → look_at p list r.at ≤ length list
@@ -66,7 +47,7 @@ module _ (b : BookTerms) (p : ℕ) (list : List Publication) (earlier : List Rec
         arith,
         ap (look_at p list) so.at,
         ap (λ (x : Publication). place x.view) is,
-        place-IsFront-le b.processes view (take m list) (history.views m at.within).front
+        place-IsCut-le b.processes view (take m list) (history.views m at.within).cut
             (ArePublishedBy-take b.processes m list (ArePublishedBy-IsHistory b list history)),
         length-take m list,
         at.within,
@@ -78,10 +59,10 @@ module _ (b : BookTerms) (p : ℕ) (list : List Publication) (earlier : List Rec
       omega (arith, ap (look_at p list) so.at, shown.place)
 
   pub look_at-le : IsPlaced b p list earlier r → look_at p list r.at ≤ length list
-  look_at-le (read account amount call reply front) = look-front account amount front
+  look_at-le (read account amount call reply cut) = look-cut account amount cut
   look_at-le (not_owner source targets call owner reply at) = omega (arith, ap (look_at p list) at)
   look_at-le (full source targets call owner room reply at) = omega (arith, ap (look_at p list) at)
-  look_at-le (short source amount targets may single reply front less) = look-front source amount front
+  look_at-le (short source amount targets may single reply cut less) = look-cut source amount cut
   look_at-le (done source targets may single reply own) = look-own source targets own
   look_at-le (round source targets may shared so) = look-round source targets so
 

@@ -1,3 +1,4 @@
+pub mod Prelude
 pub mod LookLaws
 pub mod LoadLaws
 pub mod PublishedLaws

@@ -1,46 +1,7 @@
 -- What each step of a call leaves of its seat's loads of a length: they are as they were, unless the step has loaded it. Then the last of them
 -- gave what the seat has seen.
 use Rattle.std.proofs.Common.{◌≡◌, ◌≢◌, ◌⊎◌, ℕ, ◌+◌, ◌<◌, ◌≤◌, List, [], ◌∷◌, ◌++◌, Option, Some, get_or, length, set, refl, sym, ap, subst, ◌∙◌, arith, inl, inr}
-use Rattle.std.proofs.lemmas.Bool.{cases_eq, cases_lt}
-use Rattle.std.proofs.lemmas.List.{get_or-set_other}
-use Rattle.at_ledger.specs.Book.{BookTerms}
-use Rattle.at_history.specs.Publications.{count_of}
-use Rattle.at_history.specs.Rounds.{rounds}
-use Rattle.at_history.specs.declared.publication.Publication.{Publication}
-use Rattle.at_history.specs.declared.request.Request.{Request}
-use Rattle.at_board.specs.Knowledge.Parts.{asking_on, loads_of, no_part, own_part, part_asking, seen_as, with_asking, with_part}
-use Rattle.at_board.specs.Knowledge.Seats.{SeatTerms}
-use Rattle.at_board.specs.Steps.Announce.{Announces, with_request}
-use Rattle.at_board.specs.Steps.Decide.{with_decide, with_decision}
-use Rattle.at_board.specs.Steps.LoadAnnounced.{LoadsAnnounced, all_of, with_row}
-use Rattle.at_board.specs.Steps.LoadLength.{LoadsLength, with_load}
-use Rattle.at_board.specs.Steps.LoadRequestWord.{LoadsRequestWord, with_loaded}
-use Rattle.at_board.specs.Steps.Publish.{Publishes, with_record}
-use Rattle.at_board.specs.Steps.StoreRecordWord.{StoresWord, with_word}
-use Rattle.at_board.specs.Steps.StoreRequestWord.{StoresRequestWord, with_request_word}
-use Rattle.at_board.specs.Words.Addresses.{record_width}
-use Rattle.at_board.specs.declared.knowledge.Asking.{Asking}
-use Rattle.at_board.specs.declared.knowledge.Knowledge.{Knowledge}
-use Rattle.at_board.specs.declared.knowledge.Loads.{Loads}
-use Rattle.at_board.specs.declared.knowledge.Part.{Part}
-use Rattle.at_board.specs.declared.words.TheConstants.{REQUEST_WORDS}
-use Rattle.at_fold.specs.Sums.{TotalSums}
-use Rattle.at_machines.specs.Asking.{AnnouncesAsked, AskingTerms, StoresNextRequestWord, request_asked}
-use Rattle.at_machines.specs.Deciding.{DecidingTerms, MakesStep, NextOfRound, round_in}
-use Rattle.at_machines.specs.LoadingRow.{MakesLoadOf, NextRowLoad}
-use Rattle.at_machines.specs.Looking.{MakesLookLoad, length_at}
-use Rattle.at_machines.specs.Snapping.{MakesLoad, NextLoad, length_in}
-use Rattle.at_machines.specs.declared.look_stage.LookStage.{LookStage}
-use Rattle.at_calling.specs.Calling.{MakesCallStep, length_loaded}
-use Rattle.at_calling.specs.PayingAlone.{MakesPayStep, pay_length_at}
-use Rattle.at_calling.specs.PayingShared.{MakesShareStep, share_length_at}
-use Rattle.at_calling.specs.Starting.{MakesStartStep, start_length_at}
-use Rattle.at_calling.specs.Turning.{MakesTurnStep, help_length_at}
-use Rattle.at_calling.specs.declared.call_stage.CallStage.{CallStage}
-use Rattle.at_calling.specs.declared.pay_stage.PayStage.{PayStage}
-use Rattle.at_calling.specs.declared.share_stage.ShareStage.{ShareStage}
-use Rattle.at_calling.specs.declared.start_stage.StartStage.{StartStage}
-use Rattle.at_calling.specs.declared.turn_stage.TurnStage.{TurnStage}
+use Rattle.at_stepper.proofs.Prelude.{cases_eq, cases_lt, get_or-set_other, BookTerms, count_of, rounds, Publication, Request, asking_on, loads_of, no_part, own_part, part_asking, seen_as, with_asking, with_part, SeatTerms, Announces, with_request, with_decide, with_decision, LoadsAnnounced, all_of, with_row, LoadsLength, with_load, LoadsRequestWord, with_loaded, Publishes, with_record, StoresWord, with_word, StoresRequestWord, with_request_word, record_width, Asking, Knowledge, Loads, Part, REQUEST_WORDS, TotalSums, AnnouncesAsked, AskingTerms, StoresNextRequestWord, request_asked, DecidingTerms, MakesStep, NextOfRound, round_in, MakesLoadOf, NextRowLoad, MakesLookLoad, length_at, MakesLoad, NextLoad, length_in, LookStage, MakesCallStep, length_loaded, MakesPayStep, pay_length_at, MakesShareStep, share_length_at, MakesStartStep, start_length_at, MakesTurnStep, help_length_at, CallStage, PayStage, ShareStage, StartStage, TurnStage}
 
 -- the seat's loads of a length are the same
 abbrev pub HasSameLoads : ℕ → Knowledge → Knowledge → Type 0

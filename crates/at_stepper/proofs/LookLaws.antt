@@ -1,50 +1,19 @@
 -- The look that a receipt rests on has seen all that the pass had seen before the call.
 use Rattle.std.proofs.Common.{◌≡◌, ◌≢◌, ℕ, ◌*◌, ◌<◌, ◌≤◌, ◌⊎◌, ◌==◌, ◌&&◌, Bool, true, false, cond, List, [], ◌∷◌, ◌++◌, length, replicate, refl, sym, ap, subst, ◌∙◌, arith, inl, inr}
-use Rattle.std.proofs.lemmas.Bool.{cases_Bool, eq-eqb, leb-false}
-use Rattle.std.proofs.lemmas.List.{get_or_push, length-take, length_push}
-use Rattle.std.proofs.lemmas.List.Folds.{sum_by-replicate}
+use Rattle.at_stepper.proofs.Prelude.{cases_Bool, eq-eqb, leb-false, get_or_push, length-take, length_push, sum_by-replicate, is_shared, is_single, slot_in, BookTerms, HasSlot, account_of, is_owner, TargetPair, first_account, first_account-payout, Call, Pay, Read, Transfer, Done, Full, NotOwner, Short, IsPrefix-length, publication_at, request_at, place, prefix_of, IsShownEntry, no_publication, Publication, Request, AgreesOnEntry, asking_on, own_part, IsKept, Knowledge, look_at, IsAtRound, IsPlaced, read, not_owner, full, short, done, round, asks_in, is_at_round, is_payout_from, At, Receipt, CallMade, PaymentMade, PaysAlone, PaysInRound, PassTerms, IsDecidedByBalance, IsRefused, has_used_up, cut_behind, IsSnapshot}
 use Rattle.std.specs.Prelude.{is_some, nat_le, position}
-use Rattle.at_ledger.specs.Account.{is_shared, is_single, slot_in}
-use Rattle.at_ledger.specs.Book.{BookTerms, HasSlot, account_of, is_owner}
-use Rattle.at_ledger.specs.Call.{TargetPair, first_account}
-use Rattle.at_log.proofs.Laws.Replies.{first_account-payout}
-use Rattle.at_ledger.specs.declared.call.Call.{Call}
-use Rattle.at_ledger.specs.declared.call.Call.TheVariants.{Pay, Read, Transfer}
-use Rattle.at_ledger.specs.declared.call.Reply.TheVariants.{Done, Full, NotOwner, Short}
-use Rattle.at_history.proofs.Laws.Prefixes.{IsPrefix-length}
-use Rattle.at_history.specs.BoardState.{publication_at, request_at}
-use Rattle.at_history.specs.Fronts.{place, prefix_of}
-use Rattle.at_history.specs.Histories.{IsShownEntry}
-use Rattle.at_history.specs.Publications.{no_publication}
-use Rattle.at_history.specs.declared.publication.Publication.{Publication}
-use Rattle.at_history.specs.declared.request.Request.{Request}
-use Rattle.at_board.specs.Knowledge.Agreement.{AgreesOnEntry}
-use Rattle.at_board.specs.Knowledge.Parts.{asking_on, own_part}
-use Rattle.at_board.specs.Knowledge.Seats.{IsKept}
-use Rattle.at_board.specs.declared.knowledge.Knowledge.{Knowledge}
-use Rattle.at_log.specs.InTime.{look_at}
-use Rattle.at_log.specs.Placed.{IsAtRound, IsPlaced, read, not_owner, full, short, done, round}
-use Rattle.at_log.specs.Receipts.{asks_in, is_at_round, is_payout_from}
-use Rattle.at_log.specs.declared.receipt.At.{At}
-use Rattle.at_log.specs.declared.receipt.Receipt.{Receipt}
-use Rattle.at_object.specs.Calls.{CallMade, PaymentMade}
-use Rattle.at_object.specs.Paid.{PaysAlone, PaysInRound}
-use Rattle.at_object.specs.Passes.{PassTerms}
-use Rattle.at_object.specs.Payments.{IsDecidedByBalance, IsRefused, has_used_up}
-use Rattle.at_single.specs.Standing.{front_behind}
-use Rattle.at_snapshot.specs.Snapshots.{IsSnapshot}
 
--- the place of a snapshot's front is at least what had been seen
-place-IsSnapshot : (b : BookTerms) (before after : Knowledge) (front : List ℕ) → IsSnapshot b before after front → length before.seen ≤ place front
-place-IsSnapshot b before after front so =
-    omega (arith, IsPrefix-length before.seen (prefix_of front after.seen) so.begins, length-take (place front) after.seen)
+-- the place of a snapshot's cut is at least what had been seen
+place-IsSnapshot : (b : BookTerms) (before after : Knowledge) (cut : List ℕ) → IsSnapshot b before after cut → length before.seen ≤ place cut
+place-IsSnapshot b before after cut so =
+    omega (arith, IsPrefix-length before.seen (prefix_of cut after.seen) so.begins, length-take (place cut) after.seen)
 
--- the front behind a receipt is that of its look
-look-Front : (v : Knowledge) (at : At) → at ≡ At.Front (front_behind v at) → look_at v.first v.seen at ≡ place (front_behind v at)
-look-Front v at is = ap (look_at v.first v.seen) is
+-- the cut behind a receipt is that of its look
+look-Cut : (v : Knowledge) (at : At) → at ≡ At.Cut (cut_behind v at) → look_at v.first v.seen at ≡ place (cut_behind v at)
+look-Cut v at is = ap (look_at v.first v.seen) is
 
-look-Own : (v : Knowledge) (at : At) (number : ℕ) → at ≡ At.Own number → look_at v.first v.seen at ≡ place (front_behind v at)
-look-Own v at number is = ap (look_at v.first v.seen) is ∙ sym (ap (λ a. place (front_behind v a)) is)
+look-Own : (v : Knowledge) (at : At) (number : ℕ) → at ≡ At.Own number → look_at v.first v.seen at ≡ place (cut_behind v at)
+look-Own v at number is = ap (look_at v.first v.seen) is ∙ sym (ap (λ a. place (cut_behind v a)) is)
 
 -- a payment is refused, or decided by a balance
 decided_or_refused : (owner used low : Bool) (r : Receipt) → r.reply ≡ cond owner (cond used Full (cond low Short Done)) NotOwner → IsRefused r ⊎ IsDecidedByBalance r
@@ -96,10 +65,10 @@ module _ (b : BookTerms) (before after : Knowledge) (source : ℕ) (call : Call)
   -- a receipt in a round was placed there
   look-IsPlaced : (at_place at_round : ℕ) → r.at ≡ At.Round at_round at_place → IsPlaced b after.first after.seen (asked_before source number) r
       → length before.seen ≤ look_at after.first after.seen r.at
-  look-IsPlaced at_place at_round at (read account amount is reply front) = absurd (cc (at, front.at))
+  look-IsPlaced at_place at_round at (read account amount is reply cut) = absurd (cc (at, cut.at))
   look-IsPlaced at_place at_round at (not_owner on targets is owner reply previous) = absurd (cc (at, previous))
   look-IsPlaced at_place at_round at (full on targets is owner room reply previous) = absurd (cc (at, previous))
-  look-IsPlaced at_place at_round at (short on amount targets may single reply front less) = absurd (cc (at, front.at))
+  look-IsPlaced at_place at_round at (short on amount targets may single reply cut less) = absurd (cc (at, cut.at))
   look-IsPlaced at_place at_round at (done on targets may single reply own) = absurd (cc (at, own.at))
   look-IsPlaced at_place at_round at (round on targets may shared so) =
       since-IsAtRound targets on so
@@ -110,17 +79,17 @@ module _ (b : BookTerms) (before after : Knowledge) (source : ℕ) (call : Call)
       look-IsPlaced paid.in_round.place paid.in_round.round paid.in_round.at
       (paid.placed (asked_before source number) (asks_in-asked_before source number))
 
--- one that an account's one owner made stands at its front, or at its own record
+-- one that an account's one owner made stands at its cut, or at its own record
 look-PaysAlone : (b : BookTerms) (before after : Knowledge) (source : ℕ) (targets : List TargetPair) (call : Call) (r : Receipt)
     → PaysAlone b before after source targets call r → IsDecidedByBalance r → length before.seen ≤ look_at after.first after.seen r.at
 look-PaysAlone b before after source targets call r paid (inl is) =
     omega (
       arith,
-      place-IsSnapshot b before after (front_behind after r.at) paid.snapshot,
+      place-IsSnapshot b before after (cut_behind after r.at) paid.snapshot,
       look-Own after r.at (own_part before).published (paid.done is).at_own,
     )
 look-PaysAlone b before after source targets call r paid (inr is) =
-    omega (arith, place-IsSnapshot b before after (front_behind after r.at) paid.snapshot, look-Front after r.at (paid.short is).at_front)
+    omega (arith, place-IsSnapshot b before after (cut_behind after r.at) paid.snapshot, look-Cut after r.at (paid.short is).at_cut)
 
 -- an account that has an owner has one alone, or two or more
 single-owner : (owners : List ℕ) (process : ℕ) → is_some (position (λ owner. owner == process) owners) ≡ true → nat_le 2 (length owners) ≡ false
@@ -164,17 +133,17 @@ look-CallMade b before after (Transfer from to amount) r made kept book placed =
 look-CallMade b before after (Read account) r made kept book placed =
     omega (
       arith,
-      place-IsSnapshot b before.knows after.knows (front_behind after.knows r.at) made.snapshot,
-      look-Front after.knows r.at made.at_front,
+      place-IsSnapshot b before.knows after.knows (cut_behind after.knows r.at) made.snapshot,
+      look-Cut after.knows r.at made.at_cut,
     )
 look-CallMade b before after (Pay from targets) r made kept book placed = look-PaymentMade b before after from targets (Pay from targets) r made refl kept book placed
 
 -- a receipt rests on a snapshot that its call has made, or it stands in a round, or nowhere
-abbrev pub HasNoFront : At → Type 0
-HasNoFront at = ((round : ℕ) × (place : ℕ) × (at ≡ At.Round round place)) ⊎ (at ≡ At.Previous)
+abbrev pub HasNoCut : At → Type 0
+HasNoCut at = ((round : ℕ) × (place : ℕ) × (at ≡ At.Round round place)) ⊎ (at ≡ At.Previous)
 
 abbrev pub RestsOnSnapshot : BookTerms → Knowledge → Knowledge → At → Type 0
-RestsOnSnapshot b before after at = IsSnapshot b before after (front_behind after at) ⊎ HasNoFront at
+RestsOnSnapshot b before after at = IsSnapshot b before after (cut_behind after at) ⊎ HasNoCut at
 
 snapshot-PaymentMade : (b : BookTerms) (before after : PassTerms) (source : ℕ) (targets : List TargetPair) (call : Call) (r : Receipt)
     → PaymentMade b before after source targets call r → RestsOnSnapshot b before.knows after.knows r.at

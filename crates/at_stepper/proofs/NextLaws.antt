@@ -1,18 +1,7 @@
 -- Which step a caller's next turn makes.
 use Rattle.std.specs.Prelude.{◌==◌, ◌&&◌, ◌||◌}
 use Rattle.std.proofs.Common.{◌≡◌, ℕ, Option, Some, None, if◌then◌else◌, sym, ap, subst, ◌∙◌}
-use Rattle.at_ledger.specs.Account.{is_shared, is_single}
-use Rattle.at_ledger.specs.Book.{BookTerms, account_of, is_owner}
-use Rattle.at_ledger.specs.declared.call.Call.{Call}
-use Rattle.at_ledger.specs.declared.call.Call.TheVariants.{Pay, Read, Transfer}
-use Rattle.at_ledger.specs.declared.call.Reply.{Reply}
-use Rattle.at_ledger.specs.declared.call.Reply.TheVariants.{Full, NotOwner}
-use Rattle.at_board.specs.declared.step.BoardStep.{BoardStep}
-use Rattle.at_object.specs.Passes.{PassTerms, asked_by, sent_by}
-use Rattle.at_object.specs.Payments.{refusal_of}
-use Rattle.at_calling.specs.Calling.{first_step, next_step, refusal_in}
-use Rattle.at_calling.specs.declared.call_stage.CallStage.{CallStage}
-use Rattle.at_stepper.specs.Callers.{BeginsCall, CallerTerms, HasLearned, IsNextOf, IsReadyFrom, next_call}
+use Rattle.at_stepper.proofs.Prelude.{is_shared, is_single, BookTerms, account_of, is_owner, Call, Pay, Read, Transfer, Reply, Full, NotOwner, BoardStep, PassTerms, asked_by, sent_by, refusal_of, first_step, next_step, refusal_in, CallStage, BeginsCall, CallerTerms, HasLearned, IsNextOf, IsReadyFrom, next_call}
 
 -- why a payment is refused, by the process, by its payments from single accounts, and by what it has asked for
 abbrev refused_with : BookTerms → ℕ → ℕ → ℕ → ℕ → Option Reply

@@ -1,13 +1,6 @@
 -- What is published, as the callers' seats have seen it.
 use Rattle.std.proofs.Common.{◌≡◌, ◌≢◌, ℕ, ◌+◌, ◌<◌, ◌≤◌, Bool, cond, List, [], ◌∷◌, ◌++◌, length, sym, ap, subst, ◌∙◌, append-nil, append_assoc, arith, inl, inr}
-use Rattle.std.proofs.Math.Seq.{get_or-append_seam}
-use Rattle.std.proofs.lemmas.Bool.{cases_eq, le-ltb, lt-ltb, cases_lt}
-use Rattle.std.proofs.lemmas.List.{length-append}
-use Rattle.at_history.proofs.Laws.Counts.{count_of-append, count_of-push_own}
-use Rattle.at_history.proofs.Laws.Prefixes.{IsPrefix-length}
-use Rattle.at_history.specs.Publications.{ArePublishedBy, IsPrefix, count_of, longer}
-use Rattle.at_history.specs.declared.publication.Publication.{Publication}
-use Rattle.at_stepper.specs.Stepping.{PublishesAtMostOne}
+use Rattle.at_stepper.proofs.Prelude.{get_or-append_seam, cases_eq, le-ltb, lt-ltb, cases_lt, length-append, count_of-append, count_of-push_own, IsPrefix-length, ArePublishedBy, IsPrefix, count_of, longer, Publication, PublishesAtMostOne}
 
 -- of two lists that begin with each other none is longer
 pub IsPrefix-same : (xs ys : List Publication) → IsPrefix xs ys → length ys ≤ length xs → ys ≡ xs

@@ -1,16 +1,6 @@
 -- Turns publish the records of a run in their order, at most one each.
 use Rattle.std.proofs.Common.{◌≡◌, ℕ, zero, suc, ◌+◌, ◌-◌, ◌<◌, ◌≤◌, true, Bool, cond, List, [], ◌∷◌, ◌++◌, length, refl, sum_by, sym, ap, subst, ◌∙◌, arith, inl, inr}
-use Rattle.std.proofs.lemmas.Bool.{cases_Bool, cases_lt}
-use Rattle.std.proofs.lemmas.List.{get_or_append_left, get_or_push, length_push, take-append-le, take_all}
-use Rattle.std.proofs.lemmas.List.Sums.{sum_by-take-le, sum_by_more, sum_by_push}
-use Rattle.at_closing.proofs.Laws.Keys.{publication_at-IsPrefix}
-use Rattle.at_history.proofs.Laws.Prefixes.{IsPrefix-refl}
-use Rattle.at_history.specs.BoardState.{publication_at}
-use Rattle.at_history.specs.Publications.{IsPrefix, no_publication}
-use Rattle.at_history.specs.declared.publication.Publication.{Publication}
-use Rattle.at_stepper.specs.InTurns.{PublishInOrder, published_by_then, turn_at}
-use Rattle.at_stepper.specs.Stepping.{PublishesAtMostOne}
-use Rattle.at_stepper.specs.declared.replaying.TurnMade.{TurnMade}
+use Rattle.at_stepper.proofs.Prelude.{cases_Bool, cases_lt, get_or_append_left, get_or_push, length_push, take-append-le, take_all, sum_by-take-le, sum_by_more, sum_by_push, publication_at-IsPrefix, IsPrefix-refl, publication_at, IsPrefix, no_publication, Publication, PublishInOrder, published_by_then, turn_at, PublishesAtMostOne, TurnMade}
 
 -- how many records a turn publishes
 abbrev pub publishes_in : TurnMade → ℕ

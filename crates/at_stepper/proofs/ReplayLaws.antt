@@ -1,23 +1,9 @@
 -- The turns of a schedule, one after another.
 use Rattle.std.proofs.Common.{◌≡◌, ℕ, zero, suc, ◌+◌, ◌<◌, ◌≤◌, ◌&&◌, ◌⊎◌, Bool, cond, List, [], ◌∷◌, ◌++◌, length, get_or, slice_index, refl, sym, ap, subst, ◌∙◌, append_assoc, arith, inl, inr, zero-add}
 use Rattle.std.specs.Prelude.{is_some}
-use Rattle.std.proofs.lemmas.Bool.{cases_eq, cases_lt, eq-eqb, ne_eqb}
-use Rattle.std.proofs.lemmas.List.{append-nil, get_or_past, length-map, map-id}
-use Rattle.std.proofs.lemmas.List.FromFn.{map-range_with_len_more}
-use Rattle.std.specs.List.{range_with_len}
-use Rattle.at_ledger.specs.Book.{BookTerms}
-use Rattle.at_ledger.specs.declared.call.Call.{Call}
-use Rattle.at_log.specs.declared.receipt.Receipt.{Receipt}
+use Rattle.at_stepper.proofs.Prelude.{cases_eq, cases_lt, eq-eqb, ne_eqb, append-nil, get_or_past, length-map, map-id, map-range_with_len_more, range_with_len, BookTerms, Call, Receipt, calls_left_of, IsMadeAs, goes_on, starts, HasTurnedBy, IsSameRun, TurnAll, TurnBy, TurnInRounds, AreTurnsBy, answered_by, rounds_of_turns, IsNewStepper, IsOver, StepperTerms, TurnsOne, all_turns_left, calls_left, TurnMade, Turned}
 use Rattle.at_stepper.proofs.SteppingLaws.{calls_left-at}
 use Rattle.at_stepper.proofs.TurnCounts.{answered_by-push, answers-cond, some_of, is_some-reply}
-use Rattle.at_stepper.specs.Callers.{calls_left_of}
-use Rattle.at_stepper.specs.InTurns.{IsMadeAs}
-use Rattle.at_stepper.specs.InTurns.RunsTo.{goes_on, starts}
-use Rattle.at_stepper.specs.Replays.{HasTurnedBy, IsSameRun, TurnAll, TurnBy, TurnInRounds}
-use Rattle.at_stepper.specs.Schedules.{AreTurnsBy, answered_by, rounds_of_turns}
-use Rattle.at_stepper.specs.Stepping.{IsNewStepper, IsOver, StepperTerms, TurnsOne, all_turns_left, calls_left}
-use Rattle.at_stepper.specs.declared.replaying.TurnMade.{TurnMade}
-use Rattle.at_stepper.specs.declared.turned.Turned.{Turned}
 
 -- so many processes were idle, and nothing has changed
 pub record WereIdle (count : ℕ) (before after : StepperTerms) : Type 0 where

@@ -1,29 +1,9 @@
 -- The replies that a process's turns answered are those of its receipts, and of its lines.
 use Rattle.std.proofs.Common.{◌≡◌, ◌≢◌, ℕ, ◌<◌, ◌==◌, Bool, cond, List, [], ◌∷◌, ◌++◌, None, length, get_or, map, refl, sym, ap, subst, ◌∙◌, append-nil, arith, inl, inr}
-use Rattle.std.specs.List.{cons_option}
-use Rattle.std.proofs.lemmas.Bool.{cases_eq, eq-eqb, ne_eqb}
-use Rattle.std.proofs.lemmas.List.{get_or-map, length-map, map-append}
-use Rattle.std.proofs.lemmas.List.Elements.{filter_map-append}
-use Rattle.at_history.specs.declared.publication.Publication.{Publication}
-use Rattle.at_journal.proofs.WholeLaws.{map-lines_of}
-use Rattle.at_ledger.specs.Book.{BookTerms}
-use Rattle.at_ledger.specs.Run.{lines_of}
-use Rattle.at_ledger.specs.declared.call.Call.{Call}
-use Rattle.at_ledger.specs.declared.call.Line.{Line}
-use Rattle.at_ledger.specs.declared.call.Reply.{Reply}
-use Rattle.at_ledger.specs.declared.call.Reply.TheVariants.{Done}
-use Rattle.at_log.specs.declared.receipt.Receipt.{Receipt}
-use Rattle.at_calling.specs.declared.call_stage.CallStage.{CallStage}
+use Rattle.at_stepper.proofs.Prelude.{cons_option, cases_eq, eq-eqb, ne_eqb, get_or-map, length-map, map-append, filter_map-append, Publication, map-lines_of, BookTerms, lines_of, Call, Line, Reply, Done, Receipt, CallStage, CallerTerms, IsReadyToTurn, IsTurned, LeavesCaller, reply_in, IsJournalOf, RunsTo, replies_by, goes_on, starts, StepperTerms, TurnMade, Turned, Answer, Step}
 use Rattle.at_stepper.proofs.JournalLaws.{files-RunsTo}
 use Rattle.at_stepper.proofs.TimedCallers.{begins_or_on}
 use Rattle.at_stepper.proofs.TurnCounts.{some_of}
-use Rattle.at_stepper.specs.Callers.{CallerTerms, IsReadyToTurn, IsTurned, LeavesCaller, reply_in}
-use Rattle.at_stepper.specs.InTurns.{IsJournalOf, RunsTo, replies_by}
-use Rattle.at_stepper.specs.InTurns.RunsTo.{goes_on, starts}
-use Rattle.at_stepper.specs.Stepping.{StepperTerms}
-use Rattle.at_stepper.specs.declared.replaying.TurnMade.{TurnMade}
-use Rattle.at_stepper.specs.declared.turned.Turned.{Turned}
-use Rattle.at_stepper.specs.declared.turned.Turned.TheVariants.{Answer, Step}
 
 -- the replies of receipts
 abbrev replies_of : List Receipt → List Reply

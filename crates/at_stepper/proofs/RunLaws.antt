@@ -1,23 +1,9 @@
 -- A run whose process has made a turn: what is published then, and by whom.
 use Rattle.std.proofs.Common.{◌≡◌, ◌≢◌, ℕ, ◌+◌, ◌<◌, ◌≤◌, Bool, cond, false, true, List, [], ◌∷◌, ◌++◌, None, Some, length, get_or, set, refl, sym, ap, subst, ◌∙◌, arith, inl, inr, length-set}
-use Rattle.std.proofs.lemmas.Bool.{cases_eq}
-use Rattle.std.proofs.lemmas.List.{get_or-set_other, get_or-set_same, get_or_default, length_push}
-use Rattle.at_history.proofs.Laws.Counts.{count_of-push_own}
-use Rattle.at_history.proofs.Laws.Histories.{ArePublishedBy-IsHistory}
-use Rattle.at_history.proofs.Laws.Prefixes.{IsPrefix-trans}
-use Rattle.at_history.specs.Publications.{ArePublishedBy, IsPrefix, count_of}
-use Rattle.at_history.specs.declared.publication.Publication.{Publication}
-use Rattle.at_board.specs.Knowledge.Overviews.{IsOverviewOf, OverviewTerms, TakesIn}
-use Rattle.at_board.specs.Knowledge.Seats.{BoardTerms, IsOf}
-use Rattle.at_object.specs.Passes.{IsPassOf, Stands, seat_of}
-use Rattle.at_calling.specs.Calling.{length_loaded, publishes_of}
+use Rattle.at_stepper.proofs.Prelude.{cases_eq, get_or-set_other, get_or-set_same, get_or_default, length_push, count_of-push_own, ArePublishedBy-IsHistory, IsPrefix-trans, ArePublishedBy, IsPrefix, count_of, Publication, IsOverviewOf, OverviewTerms, TakesIn, BoardTerms, IsOf, IsPassOf, Stands, seat_of, length_loaded, publishes_of, CallerTerms, IsTurned, own_seen, AreAllIn, AreCallersOn, HaveJustTheirOwn, IsCallerOn, IsAllPublished, PublishesAtMostOne, SeesPublished, TurnsOne, Turned}
 use Rattle.at_stepper.proofs.PublishedLaws.{IsPrefix-antisym, PublishesAtMostOne-counts, longer-same}
 use Rattle.at_stepper.proofs.StepLaws.{length_loaded-told, publishes_of-le, publishes_of-loaded}
 use Rattle.at_stepper.proofs.SteppingLaws.{AreCallersOn-set, TurnsOne-set}
-use Rattle.at_stepper.specs.Callers.{CallerTerms, IsTurned, own_seen}
-use Rattle.at_stepper.specs.KeptStepping.{AreAllIn, AreCallersOn, HaveJustTheirOwn, IsCallerOn, IsAllPublished}
-use Rattle.at_stepper.specs.Stepping.{PublishesAtMostOne, SeesPublished, TurnsOne}
-use Rattle.at_stepper.specs.declared.turned.Turned.{Turned}
 
 -- where nothing more of a process is published, nothing is
 none_published : (process : ℕ) (before after : List Publication) → PublishesAtMostOne process before after → count_of process after ≡ count_of process before

@@ -1,18 +1,7 @@
 -- A run's turns have published its records, and each answered call looks at what was published at one of its moments.
 use Rattle.std.proofs.Common.{◌≡◌, ◌≢◌, ℕ, ◌+◌, ◌<◌, ◌≤◌, ◌==◌, true, List, [], ◌∷◌, ◌++◌, None, length, get_or, sym, ap, subst, ◌∙◌, arith, inl, inr}
 use Rattle.std.specs.Prelude.{is_some}
-use Rattle.std.proofs.lemmas.Bool.{cases_eq, cases_lt}
-use Rattle.std.proofs.lemmas.List.{length_push}
-use Rattle.at_ledger.specs.Book.{BookTerms}
-use Rattle.at_ledger.specs.declared.call.Call.{Call}
-use Rattle.at_history.proofs.Laws.Prefixes.{IsPrefix-length}
-use Rattle.at_history.specs.declared.publication.Publication.{Publication}
-use Rattle.at_log.specs.InTime.{look_at}
-use Rattle.at_log.specs.Receipts.{receipt_at}
-use Rattle.at_log.specs.declared.receipt.At.{At}
-use Rattle.at_log.specs.declared.receipt.At.TheVariants.{Previous}
-use Rattle.at_log.specs.declared.receipt.Receipt.{Receipt}
-use Rattle.at_object.specs.Passes.{PassTerms}
+use Rattle.at_stepper.proofs.Prelude.{cases_eq, cases_lt, length_push, BookTerms, Call, IsPrefix-length, Publication, look_at, receipt_at, At, Previous, Receipt, PassTerms, CallerTerms, IsTurned, answers_in, PublishInOrder, LooksWithin, RunsTo, published_by_then, times_of, turns_of_call, goes_on, starts, answered_by, ChangesOne, IsNewStepper, StepperTerms, TurnMade, Turned}
 use Rattle.at_stepper.proofs.TurnCounts.{is_some-reply}
 use Rattle.at_stepper.proofs.CountLaws.{published-begun, published-ended}
 use Rattle.at_stepper.proofs.PublishedTurns.{PublishInOrder-none, PublishInOrder-push, moment_between, published_by_then-le, published_by_then-push}
@@ -20,13 +9,6 @@ use Rattle.at_stepper.proofs.TimedCallers.{ahead-IsTurned, begins_or_on, caller_
 use Rattle.at_stepper.proofs.TimedLaws.{AreTimedTurns-RunsTo}
 use Rattle.at_stepper.proofs.TimedTurns.{AreTimedTurns, HasMore-turned, pass_seen}
 use Rattle.at_stepper.proofs.TurnTimes.{ended-own, is_next_of, is_next_of-number, next-answered, number-is_next_of, process-is_next_of}
-use Rattle.at_stepper.specs.Callers.{CallerTerms, IsTurned, answers_in}
-use Rattle.at_stepper.specs.InTurns.{PublishInOrder, LooksWithin, RunsTo, published_by_then, times_of, turns_of_call}
-use Rattle.at_stepper.specs.InTurns.RunsTo.{goes_on, starts}
-use Rattle.at_stepper.specs.Schedules.{answered_by}
-use Rattle.at_stepper.specs.Stepping.{ChangesOne, IsNewStepper, StepperTerms}
-use Rattle.at_stepper.specs.declared.replaying.TurnMade.{TurnMade}
-use Rattle.at_stepper.specs.declared.turned.Turned.{Turned}
 
 -- a call's look counts no less than was published when it began, and no more than was when it ended
 pub record IsLookBetween (turns : List TurnMade) (q j look : ℕ) : Type 0 where

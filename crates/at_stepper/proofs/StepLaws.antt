@@ -1,30 +1,6 @@
 -- What each step of a call leaves of its seat: its process, what a load of a length has seen, and how many records are published.
 use Rattle.std.proofs.Common.{◌≡◌, ℕ, ◌<◌, ◌≤◌, Bool, true, false, cond, List, Some, refl, ap, subst, arith, inl, inr}
-use Rattle.std.proofs.lemmas.Bool.{cases_lt}
-use Rattle.at_ledger.specs.Book.{BookTerms}
-use Rattle.at_history.specs.Publications.{IsPrefix}
-use Rattle.at_history.specs.declared.publication.Publication.{Publication}
-use Rattle.at_board.specs.Knowledge.Seats.{SeatTerms}
-use Rattle.at_board.specs.Words.Addresses.{record_width}
-use Rattle.at_board.specs.declared.knowledge.Knowledge.{Knowledge}
-use Rattle.at_board.specs.declared.words.TheConstants.{REQUEST_WORDS}
-use Rattle.at_fold.specs.Sums.{TotalSums}
-use Rattle.at_machines.specs.Asking.{AnnouncesAsked, AskingTerms, StoresNextRequestWord}
-use Rattle.at_machines.specs.Deciding.{DecidingTerms, MakesStep, NextOfRound, publishes_in}
-use Rattle.at_machines.specs.LoadingRow.{MakesLoadOf, NextRowLoad}
-use Rattle.at_machines.specs.Looking.{MakesLookLoad, length_at}
-use Rattle.at_machines.specs.Snapping.{MakesLoad, NextLoad, length_in}
-use Rattle.at_machines.specs.declared.look_stage.LookStage.{LookStage}
-use Rattle.at_calling.specs.Calling.{MakesCallStep, length_loaded, publishes_of}
-use Rattle.at_calling.specs.PayingAlone.{MakesPayStep, pay_length_at, pay_publishes_at}
-use Rattle.at_calling.specs.PayingShared.{MakesShareStep, share_length_at, share_publishes_at}
-use Rattle.at_calling.specs.Starting.{MakesStartStep, start_length_at}
-use Rattle.at_calling.specs.Turning.{MakesTurnStep, help_length_at, publishes_at}
-use Rattle.at_calling.specs.declared.call_stage.CallStage.{CallStage}
-use Rattle.at_calling.specs.declared.pay_stage.PayStage.{PayStage}
-use Rattle.at_calling.specs.declared.share_stage.ShareStage.{ShareStage}
-use Rattle.at_calling.specs.declared.start_stage.StartStage.{StartStage}
-use Rattle.at_calling.specs.declared.turn_stage.TurnStage.{TurnStage}
+use Rattle.at_stepper.proofs.Prelude.{cases_lt, BookTerms, IsPrefix, Publication, SeatTerms, record_width, Knowledge, REQUEST_WORDS, TotalSums, AnnouncesAsked, AskingTerms, StoresNextRequestWord, DecidingTerms, MakesStep, NextOfRound, publishes_in, MakesLoadOf, NextRowLoad, MakesLookLoad, length_at, MakesLoad, NextLoad, length_in, LookStage, MakesCallStep, length_loaded, publishes_of, MakesPayStep, pay_length_at, pay_publishes_at, MakesShareStep, share_length_at, share_publishes_at, MakesStartStep, start_length_at, MakesTurnStep, help_length_at, publishes_at, CallStage, PayStage, ShareStage, StartStage, TurnStage}
 
 -- a step publishes one record at most
 one-cond : (t : Bool) → cond t 1 0 ≤ 1

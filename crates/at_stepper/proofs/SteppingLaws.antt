@@ -1,27 +1,8 @@
 -- The callers of a run, as they are begun, as one of them turns, and as they are split at the end.
 use Rattle.std.proofs.Common.{◌≡◌, ℕ, ◌+◌, ◌^◌, ◌<◌, ◌≤◌, suc, List, [], ◌∷◌, ◌++◌, drop, length, get_or, map, set, slice_index, take, Vec, refl, sym, ap, subst, ◌∙◌, arith, inl, inr, length-set}
-use Rattle.std.proofs.lemmas.Bool.{cases_eq, cases_lt}
-use Rattle.std.proofs.lemmas.List.{drop_more, get_or-map, get_or-set_other, get_or-set_same, get_or_append_left, get_or_past, get_or_push, length-drop, length-map, length_push, map-append, map-set, set-get_or, take_all, take_more}
-use Rattle.std.proofs.lemmas.List.Elements.{All-map, All-push}
-use Rattle.std.proofs.lemmas.List.Sums.{sum_by-set}
-use Rattle.std.specs.Global.{Global}
+use Rattle.at_stepper.proofs.Prelude.{cases_eq, cases_lt, drop_more, get_or-map, get_or-set_other, get_or-set_same, get_or_append_left, get_or_past, get_or_push, length-drop, length-map, length_push, map-append, map-set, set-get_or, take_all, take_more, All-map, All-push, sum_by-set, Global, Call, IsPrefix-refl, IsPrefix, count_of, Publication, BoardTerms, IsOf, SeatTerms, calls_of, contents_of, Receipt, AreAccountedFor, IsAccountedFor, HasMemoryFor, AreNewPasses, IsNewPass, PassTerms, Stands, CallerTerms, IsFile, IsNewCaller, IsTurned, answers_in, caller_turns_left, calls_left_of, AreCallersOn, AreSplit, AreStartsFor, HasAnsweredAll, IsCallerOn, IsAllPublished, passes_in, AreBegunCallers, ChangesOne, IsBegunCaller, PublishesAtMostOne, SeesPublished, TurnsOne, Start, Turned}
 use Rattle.std.specs.Prelude.{All}
-use Rattle.at_ledger.specs.declared.call.Call.{Call}
-use Rattle.at_history.proofs.Laws.Prefixes.{IsPrefix-refl}
-use Rattle.at_history.specs.Publications.{IsPrefix, count_of}
-use Rattle.at_history.specs.declared.publication.Publication.{Publication}
-use Rattle.at_board.specs.Knowledge.Seats.{BoardTerms, IsOf, SeatTerms}
-use Rattle.at_log.specs.Receipts.{calls_of, lists_in}
-use Rattle.at_log.specs.declared.receipt.Receipt.{Receipt}
-use Rattle.at_object.specs.Closings.{AreAccountedFor, IsAccountedFor}
-use Rattle.at_object.specs.Parted.{HasMemoryFor}
-use Rattle.at_object.specs.Passes.{AreNewPasses, IsNewPass, PassTerms, Stands}
 use Rattle.at_stepper.proofs.TurnCounts.{some_of}
-use Rattle.at_stepper.specs.Callers.{CallerTerms, IsFile, IsNewCaller, IsTurned, answers_in, caller_turns_left, calls_left_of}
-use Rattle.at_stepper.specs.KeptStepping.{AreCallersOn, AreSplit, AreStartsFor, HasAnsweredAll, IsCallerOn, IsAllPublished, passes_in}
-use Rattle.at_stepper.specs.Stepping.{AreBegunCallers, ChangesOne, IsBegunCaller, PublishesAtMostOne, SeesPublished, TurnsOne}
-use Rattle.at_stepper.specs.declared.caller.Start.{Start}
-use Rattle.at_stepper.specs.declared.turned.Turned.{Turned}
 
 -- what holds of each at its place, with one more
 pub each_push : {X : Type 0} (holds : ℕ → X → Type 0) (xs : List X) (x : X) → ((p : ℕ) (d : X) → p < length xs → holds p (get_or xs p d))
@@ -58,46 +39,46 @@ module _ (ledger : BoardTerms) (starts : List Start) (files : List (Vec Call Glo
       ∙ ap (λ (s : Start). s.pass) (get_or_next starts n start others start start_is))
       (new.each n start.pass (omega (arith, within, new.count, length-map starts (λ (s : Start). s.pass))))
 
-  pub file_next : (d : List Call) → get_or (lists_in files) n d ≡ file.items
+  pub file_next : (d : List Call) → get_or (contents_of files) n d ≡ file.items
   file_next d =
       get_or-map (λ (f : Vec Call Global). f.items) files n file d (known_next files n file left file_is)
       ∙ ap (λ (f : Vec Call Global). f.items) (get_or_next files n file left file file_is)
 
-  known_file : n < length (lists_in files)
+  known_file : n < length (contents_of files)
   known_file = omega (arith, known_next files n file left file_is, length-map files (λ (f : Vec Call Global). f.items))
 
-  pub IsFile-next : (accounts : ℕ) → All (IsFile accounts) (lists_in files) → IsFile accounts file.items
+  pub IsFile-next : (accounts : ℕ) → All (IsFile accounts) (contents_of files) → IsFile accounts file.items
   IsFile-next accounts known = subst (IsFile accounts) (file_next []) (known n [] known_file)
 
-  pub HasRoom-next : AreStartsFor (lists_in files) starts → HasMemoryFor start.receipts (length file.items)
+  pub HasRoom-next : AreStartsFor (contents_of files) starts → HasMemoryFor start.receipts (length file.items)
   HasRoom-next rooms =
       subst (λ (calls : List Call). HasMemoryFor start.receipts (length calls)) (file_next [])
-      (subst (λ (s : Start). HasMemoryFor s.receipts (length (get_or (lists_in files) n []))) (get_or_next starts n start others start start_is)
+      (subst (λ (s : Start). HasMemoryFor s.receipts (length (get_or (contents_of files) n []))) (get_or_next starts n start others start start_is)
       (rooms.room n [] start known_file))
 
   -- and the callers with that of this start and file
   module _ (callers : List CallerTerms) (caller : CallerTerms) (count : length callers ≡ n) (is_new : IsNewCaller start.pass file.items caller) where
     pub made-next : AreNewPasses ledger (passes_in starts)
-        → ((p : ℕ) (f : List Call) (d : CallerTerms) → p < length callers → IsBegunCaller ledger p (get_or (lists_in files) p f) (get_or callers p d))
+        → ((p : ℕ) (f : List Call) (d : CallerTerms) → p < length callers → IsBegunCaller ledger p (get_or (contents_of files) p f) (get_or callers p d))
         → (p : ℕ) (f : List Call) (d : CallerTerms) → p < length (callers ++ caller ∷ [])
-        → IsBegunCaller ledger p (get_or (lists_in files) p f) (get_or (callers ++ caller ∷ []) p d)
+        → IsBegunCaller ledger p (get_or (contents_of files) p f) (get_or (callers ++ caller ∷ []) p d)
     made-next new made p f d within =
         let last : IsBegunCaller ledger n file.items caller = record {
           pass = subst (IsNewPass ledger n) (sym is_new.pass_is) (IsNewPass-next new);
           is_new = subst (λ (pass : PassTerms). IsNewCaller pass file.items caller) (sym is_new.pass_is) is_new;
         } in
-        each_push (λ q c. IsBegunCaller ledger q (get_or (lists_in files) q f) c) callers caller (λ q e inside. made q f e inside)
-        (subst (λ q. IsBegunCaller ledger q (get_or (lists_in files) q f) caller) (sym count)
+        each_push (λ q c. IsBegunCaller ledger q (get_or (contents_of files) q f) c) callers caller (λ q e inside. made q f e inside)
+        (subst (λ q. IsBegunCaller ledger q (get_or (contents_of files) q f) caller) (sym count)
         (subst (λ (calls : List Call). IsBegunCaller ledger n calls caller) (sym (file_next f)) last)) p d within
 
-    pub calls-next : map (λ (c : CallerTerms). c.calls) callers ≡ take (length callers) (lists_in files)
-        → map (λ (c : CallerTerms). c.calls) (callers ++ caller ∷ []) ≡ take (length (callers ++ caller ∷ [])) (lists_in files)
+    pub calls-next : map (λ (c : CallerTerms). c.calls) callers ≡ take (length callers) (contents_of files)
+        → map (λ (c : CallerTerms). c.calls) (callers ++ caller ∷ []) ≡ take (length (callers ++ caller ∷ [])) (contents_of files)
     calls-next were =
         map-append (λ (c : CallerTerms). c.calls) callers (caller ∷ [])
-        ∙ (ap (λ (cs : List (List Call)). cs ++ caller.calls ∷ []) (were ∙ ap (λ k. take k (lists_in files)) count)
-        ∙ (ap (λ (calls : List Call). take n (lists_in files) ++ calls ∷ []) (is_new.calls_are ∙ sym (file_next []))
-        ∙ (sym (take_more (lists_in files) n [] known_file)
-        ∙ ap (λ k. take k (lists_in files)) (ap (λ k. k + 1) (sym count) ∙ sym (length_push callers caller)))))
+        ∙ (ap (λ (cs : List (List Call)). cs ++ caller.calls ∷ []) (were ∙ ap (λ k. take k (contents_of files)) count)
+        ∙ (ap (λ (calls : List Call). take n (contents_of files) ++ calls ∷ []) (is_new.calls_are ∙ sym (file_next []))
+        ∙ (sym (take_more (contents_of files) n [] known_file)
+        ∙ ap (λ k. take k (contents_of files)) (ap (λ k. k + 1) (sym count) ∙ sym (length_push callers caller)))))
 
 -- the callers of all files
 pub AreBegunCallers-all : (ledger : BoardTerms) (files : List (List Call)) (callers : List CallerTerms) → length files ≤ length callers
@@ -115,9 +96,9 @@ AreBegunCallers-all ledger files callers all calls made =
 
 -- room for a receipt of each call of a file that was read
 pub room_of_file : (files : List (Vec Call Global)) (n m calls : ℕ) (file : Vec Call Global) (capacity : ℕ) → n < length files → m ≡ n
-    → file ≡ get_or files m file → calls ≡ file.len → calls ≤ capacity → length (get_or (lists_in files) n []) ≤ capacity
+    → file ≡ get_or files m file → calls ≡ file.len → calls ≤ capacity → length (get_or (contents_of files) n []) ≤ capacity
 room_of_file files n m calls file capacity within same read count fits =
-    let is : get_or (lists_in files) n [] ≡ file.items =
+    let is : get_or (contents_of files) n [] ≡ file.items =
     get_or-map (λ (f : Vec Call Global). f.items) files n file [] within
     ∙ ap (λ (f : Vec Call Global). f.items) (ap (λ k. get_or files k file) (sym same) ∙ sym read) in
     omega (arith, ap (λ (calls : List Call). length calls) is, file.ok.0, count, fits)

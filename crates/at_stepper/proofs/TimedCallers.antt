@@ -1,25 +1,8 @@
 -- What a turn leaves of its caller, for the order of calls in time.
 use Rattle.std.proofs.Common.{◌≡◌, ◌≢◌, ◌⊎◌, ℕ, ◌+◌, ◌*◌, ◌<◌, ◌≤◌, List, [], ◌∷◌, ◌++◌, None, Option, Some, append-nil, append_assoc, length, refl, sym, ap, subst, ◌∙◌, arith, inl, inr, slice_index}
-use Rattle.std.proofs.lemmas.List.{get_or_append_left, get_or_push, length_push}
-use Rattle.at_ledger.specs.Book.{BookTerms}
-use Rattle.at_history.proofs.Laws.Prefixes.{IsPrefix-refl, IsPrefix-trans}
-use Rattle.at_history.specs.Histories.{IsHistory}
-use Rattle.at_history.specs.Publications.{IsPrefix}
-use Rattle.at_history.specs.declared.publication.Publication.{Publication}
-use Rattle.at_board.specs.Knowledge.Seats.{SeatTerms}
-use Rattle.at_log.specs.InTime.{look_at}
-use Rattle.at_log.specs.Receipts.{receipt_at}
-use Rattle.at_log.specs.Told.{keys_of}
-use Rattle.at_log.specs.declared.receipt.At.TheVariants.{Previous}
-use Rattle.at_log.specs.declared.receipt.Receipt.{Receipt}
-use Rattle.at_object.proofs.Laws.Calls.{begins-CallMade, process-CallMade}
-use Rattle.at_object.specs.Passes.{PassTerms, Stands, seat_of}
-use Rattle.at_calling.specs.declared.call_stage.CallStage.{CallStage}
+use Rattle.at_stepper.proofs.Prelude.{get_or_append_left, get_or_push, length_push, BookTerms, IsPrefix-refl, IsPrefix-trans, IsHistory, IsPrefix, Publication, SeatTerms, look_at, receipt_at, keys_of, Previous, Receipt, begins-CallMade, process-CallMade, PassTerms, Stands, seat_of, CallStage, BeginsCall, CallerTerms, IsReadyToTurn, IsReadyFrom, IsTurned, LeavesCaller, answers_in, next_call, Turned, Answer, Step}
 use Rattle.at_stepper.proofs.KeyLaws.{key-in, key-le, key-same, look-in, look-le, look-same}
 use Rattle.at_stepper.proofs.LookLaws.{RestsOnSnapshot, snapshot-CallMade}
-use Rattle.at_stepper.specs.Callers.{BeginsCall, CallerTerms, IsReadyToTurn, IsReadyFrom, IsTurned, LeavesCaller, answers_in, next_call}
-use Rattle.at_stepper.specs.declared.turned.Turned.{Turned}
-use Rattle.at_stepper.specs.declared.turned.Turned.TheVariants.{Answer, Step}
 
 -- the key and the look of a caller's receipt, in what its pass has seen
 abbrev pub caller_key : CallerTerms → ℕ → ℕ

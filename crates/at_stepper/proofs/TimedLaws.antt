@@ -1,31 +1,11 @@
 -- The calls of a run have their times, whatever turns led to it.
 use Rattle.std.proofs.Common.{◌≡◌, ◌≢◌, ℕ, ◌<◌, List, [], length, get_or, map, slice_index, refl, sym, ap, subst, ◌∙◌, arith}
-use Rattle.std.proofs.lemmas.List.{get_or-map, length-map}
-use Rattle.at_ledger.specs.Book.{BookTerms}
-use Rattle.at_ledger.specs.declared.call.Call.{Call}
-use Rattle.at_history.proofs.Laws.Prefixes.{IsPrefix-refl}
-use Rattle.at_history.specs.Publications.{IsPrefix}
-use Rattle.at_history.specs.declared.publication.Publication.{Publication}
-use Rattle.at_board.specs.Knowledge.Seats.{SeatTerms}
-use Rattle.at_journal.specs.Linearizable.{AreTimed}
-use Rattle.at_log.specs.ClosingTerms.{ClosingTerms, receipts_of}
-use Rattle.at_log.specs.InTime.{IsNotBehind, KeepsTime, look_at}
-use Rattle.at_log.specs.Receipts.{receipt_at}
-use Rattle.at_log.specs.Told.{keys_of}
-use Rattle.at_log.specs.declared.receipt.At.TheVariants.{Previous}
-use Rattle.at_log.specs.declared.receipt.Receipt.{Receipt}
-use Rattle.at_object.specs.Passes.{Stands}
+use Rattle.at_stepper.proofs.Prelude.{get_or-map, length-map, BookTerms, Call, IsPrefix-refl, IsPrefix, Publication, SeatTerms, AreTimed, ClosingTerms, receipts_of, IsNotBehind, KeepsTime, look_at, receipt_at, keys_of, Previous, Receipt, Stands, CallerTerms, RunsTo, times_of, goes_on, starts, answered_by, IsBegunCaller, IsNewStepper, StepperTerms, TurnMade}
 use Rattle.at_stepper.proofs.PublishedTurns.{grown-PublishesAtMostOne}
 use Rattle.at_stepper.proofs.TimedCallers.{IsTimedCaller, caller_key, caller_key-in, caller_look, caller_look-in}
 use Rattle.at_stepper.proofs.TimedTurns.{AreTimedTurns, AreTimedTurns-push}
 use Rattle.at_stepper.proofs.TurnCounts.{some_of, is_some-reply}
 use Rattle.at_stepper.proofs.TurnTimes.{AreTimes-none}
-use Rattle.at_stepper.specs.Callers.{CallerTerms}
-use Rattle.at_stepper.specs.InTurns.{RunsTo, times_of}
-use Rattle.at_stepper.specs.InTurns.RunsTo.{goes_on, starts}
-use Rattle.at_stepper.specs.Schedules.{answered_by}
-use Rattle.at_stepper.specs.Stepping.{IsBegunCaller, IsNewStepper, StepperTerms}
-use Rattle.at_stepper.specs.declared.replaying.TurnMade.{TurnMade}
 
 -- a caller that is begun
 IsTimedCaller-begun : (s : StepperTerms) (p : ℕ) (file : List Call) (c : CallerTerms) → IsBegunCaller s.ledger p file c → IsTimedCaller p c

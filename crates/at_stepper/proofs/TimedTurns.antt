@@ -1,25 +1,10 @@
 -- Turns one after another: each answered call rests on a look at no less than all calls before it in time had seen.
 use Rattle.std.proofs.Common.{◌≡◌, ◌≢◌, ℕ, ◌+◌, ◌*◌, ◌<◌, ◌≤◌, ◌==◌, ◌&&◌, Bool, cond, true, List, [], ◌∷◌, ◌++◌, None, length, get_or, refl, sym, ap, subst, ◌∙◌, arith, inl, inr}
 use Rattle.std.specs.Prelude.{is_some}
-use Rattle.std.proofs.lemmas.Bool.{cases_eq, cases_lt, eq-eqb, ne_eqb}
-use Rattle.std.proofs.lemmas.List.{length_push}
-use Rattle.at_ledger.specs.Book.{BookTerms}
-use Rattle.at_history.proofs.Laws.Prefixes.{IsPrefix-length, IsPrefix-trans}
-use Rattle.at_history.specs.Publications.{IsPrefix}
-use Rattle.at_history.specs.declared.publication.Publication.{Publication}
-use Rattle.at_log.specs.Receipts.{receipt_at}
-use Rattle.at_log.specs.declared.receipt.At.TheVariants.{Previous}
-use Rattle.at_log.specs.declared.receipt.Receipt.{Receipt}
-use Rattle.at_object.specs.Passes.{PassTerms}
+use Rattle.at_stepper.proofs.Prelude.{cases_eq, cases_lt, eq-eqb, ne_eqb, length_push, BookTerms, IsPrefix-length, IsPrefix-trans, IsPrefix, Publication, receipt_at, Previous, Receipt, PassTerms, BeginsCall, CallerTerms, IsTurned, answers_in, times_of, turns_of_call, answered_by, ChangesOne, TurnMade, Turned}
 use Rattle.at_stepper.proofs.TurnCounts.{answered_by-push, answers-cond}
 use Rattle.at_stepper.proofs.TimedCallers.{HasMore, HasMore-IsTurned, HasMore-refl, IsTimedCaller, IsTimedCaller-IsTurned, ahead-IsTurned, begins_or_on, caller_key, caller_key-le, caller_key-more, caller_look, caller_look-more, caller_receipt-more, count-IsTurned, still-IsTurned}
 use Rattle.at_stepper.proofs.TurnTimes.{AreTimes, AreTimes-push, begun-push, ended-other, ended-own, is_next_of, is_next_of-number, is_next_of-own, next-answered, number-is_next_of, process-is_next_of, some-own, some-push}
-use Rattle.at_stepper.specs.Callers.{BeginsCall, CallerTerms, IsTurned, answers_in}
-use Rattle.at_stepper.specs.InTurns.{times_of, turns_of_call}
-use Rattle.at_stepper.specs.Schedules.{answered_by}
-use Rattle.at_stepper.specs.Stepping.{ChangesOne}
-use Rattle.at_stepper.specs.declared.replaying.TurnMade.{TurnMade}
-use Rattle.at_stepper.specs.declared.turned.Turned.{Turned}
 
 -- the keys of all answered calls that ended before this one begins are at most twice this length
 abbrev pub LooksBack : List TurnMade → List CallerTerms → ℕ → ℕ → ℕ → Type 0

@@ -1,12 +1,7 @@
 -- Counts of turns: those that a process's turns have answered.
 use Rattle.std.proofs.Common.{◌≡◌, ℕ, ◌+◌, ◌<◌, ◌==◌, ◌&&◌, Bool, cond, List, [], ◌∷◌, ◌++◌, length, sym, ap, arith}
 use Rattle.std.specs.Prelude.{is_some}
-use Rattle.std.proofs.lemmas.List.Sums.{sum_by_push}
-use Rattle.at_stepper.specs.Callers.{answers_in, reply_in}
-use Rattle.at_stepper.specs.Schedules.{answered_by}
-use Rattle.at_stepper.specs.declared.replaying.TurnMade.{TurnMade}
-use Rattle.at_stepper.specs.declared.turned.Turned.{Turned}
-use Rattle.at_stepper.specs.declared.turned.Turned.TheVariants.{Answer, Step}
+use Rattle.at_stepper.proofs.Prelude.{sum_by_push, answers_in, reply_in, answered_by, TurnMade, Turned, Answer, Step}
 
 -- an element of a list that has one
 pub some_of : {X : Type 0} (xs : List X) (p : ℕ) → p < length xs → X

@@ -1,17 +1,8 @@
 -- The turns of each call, with one turn more: a call begins with its first, and ends with its last.
 use Rattle.std.proofs.Common.{◌≡◌, ◌≢◌, ℕ, zero, suc, ◌-◌, ◌<◌, ◌≤◌, ◌==◌, ◌&&◌, Bool, true, false, cond, List, [], ◌∷◌, ◌++◌, filter, length, get_or, slice_index, refl, sym, ap, ◌∙◌, append-nil, arith, inl, inr, zero-add}
 use Rattle.std.specs.Prelude.{is_some}
-use Rattle.std.proofs.Math.Seq.{take-append_seam}
-use Rattle.std.proofs.lemmas.Bool.{and_from, and_left, and_parts, and_right, cases_Bool, cases_eq, cases_lt, eq-eqb, ne_eqb}
-use Rattle.std.proofs.lemmas.List.{get_or_append_left, get_or_push, length_push, take-append-le}
-use Rattle.std.proofs.lemmas.List.Elements.{filter-append}
-use Rattle.std.proofs.lemmas.List.FromFn.{get_or-range_with_len, length-range_with_len}
-use Rattle.std.specs.List.{range_with_len}
-use Rattle.at_log.proofs.Laws.Buckets.{range_with_len-more}
+use Rattle.at_stepper.proofs.Prelude.{take-append_seam, and_from, and_left, and_parts, and_right, cases_Bool, cases_eq, cases_lt, eq-eqb, ne_eqb, get_or_append_left, get_or_push, length_push, take-append-le, filter-append, get_or-range_with_len, length-range_with_len, range_with_len, range_with_len-more, is_turn_of, times_of, turn_at, turns_of_call, answered_by, TurnMade}
 use Rattle.at_stepper.proofs.TurnCounts.{answered_by-push}
-use Rattle.at_stepper.specs.InTurns.{is_turn_of, times_of, turn_at, turns_of_call}
-use Rattle.at_stepper.specs.Schedules.{answered_by}
-use Rattle.at_stepper.specs.declared.replaying.TurnMade.{TurnMade}
 
 -- two tests that agree on a list's elements pass the same ones
 filter-same : {X : Type 0} (test other : X → Bool) (xs : List X) → ((i : ℕ) (d : X) → i < length xs → test (get_or xs i d) ≡ other (get_or xs i d))

@@ -1,28 +1,6 @@
 -- Callers: processes that make their calls one after another, a step a turn.
 use Rattle.std.specs.Prelude.{◌≡◌, ◌≢◌, ℕ, ◌+◌, ◌-◌, ◌*◌, ◌^◌, ◌<◌, ◌≤◌, ◌++◌, Bool, true, false, List, [], ◌∷◌, All, Option, Some, None, drop, length, slice_index_or, sum_by, if◌then◌else◌, refl}
-use Rattle.at_ledger.specs.Book.{BookTerms}
-use Rattle.at_ledger.specs.Call.{IsCallOn}
-use Rattle.at_ledger.specs.declared.call.Call.{Call}
-use Rattle.at_ledger.specs.declared.call.Reply.{Reply}
-use Rattle.at_ledger.specs.declared.call.Reply.TheVariants.{Balance, Done, Full, NotOwner, Short}
-use Rattle.at_history.specs.Fronts.{places_max}
-use Rattle.at_history.specs.Histories.{IsHistory}
-use Rattle.at_history.specs.Publications.{IsPrefix, count_of}
-use Rattle.at_history.specs.declared.publication.Publication.{Publication}
-use Rattle.at_board.specs.Counting.{raised}
-use Rattle.at_board.specs.Knowledge.Seats.{SeatTerms}
-use Rattle.at_board.specs.Steps.Made.{MakesOnly}
-use Rattle.at_board.specs.declared.step.BoardStep.{BoardStep}
-use Rattle.at_board.specs.declared.words.TheConstants.{RECORD_WORDS}
-use Rattle.at_fold.specs.Sums.{TotalSums}
-use Rattle.at_log.specs.InTime.{look_at}
-use Rattle.at_log.specs.declared.receipt.At.{At}
-use Rattle.at_log.specs.declared.receipt.Receipt.{Receipt}
-use Rattle.at_object.specs.BoundNumbers.{three_processes}
-use Rattle.at_object.specs.Passes.{PassTerms, Stands, seat_of, sent_by}
-use Rattle.at_calling.specs.Calling.{IsCallWithin, IsWay, MakesCallStep, StartsFrom, exchanges_made, exchanges_of, first_step, next_step, publishes_of, refusal_in, steps_made, steps_of}
-use Rattle.at_object.specs.Calls.{CallMade, StaysWithin, call_steps}
-use Rattle.at_calling.specs.declared.call_stage.CallStage.{CallStage}
+use Rattle.at_stepper.specs.Prelude.{BookTerms, IsCallOn, Call, Reply, Balance, Done, Full, NotOwner, Short, places_max, IsHistory, IsPrefix, count_of, Publication, raised, SeatTerms, MakesOnly, BoardStep, RECORD_WORDS, TotalSums, look_at, At, Receipt, three_processes, PassTerms, Stands, seat_of, sent_by, IsCallWithin, IsWay, MakesCallStep, StartsFrom, exchanges_made, exchanges_of, first_step, next_step, publishes_of, refusal_in, steps_made, steps_of, CallMade, StaysWithin, call_steps, CallStage}
 use Rattle.at_stepper.specs.declared.turned.Turned.{Turned}
 use Rattle.at_stepper.specs.declared.turned.Turned.TheVariants.{Answer, Step}
 

@@ -1,23 +1,6 @@
 -- Runs by turns: which turns lead to a run, when its calls begin and end, and what its journal is.
 use Rattle.std.specs.Prelude.{◌≡◌, ◌≢◌, ◌⊎◌, ℕ, ◌+◌, ◌-◌, ◌<◌, ◌≤◌, ◌==◌, ◌&&◌, ◌++◌, Bool, false, true, List, Option, None, Some, [], ◌∷◌, count_by, filter, filter_map, if◌then◌else◌, length, map, slice_index, slice_index_or, take}
-use Rattle.std.specs.List.{range_with_len}
-use Rattle.at_journal.specs.Linearizable.{AreTimed, CallTimes, IsLinearizable}
-use Rattle.at_ledger.specs.Book.{BookTerms}
-use Rattle.at_ledger.specs.declared.call.Call.{Call}
-use Rattle.at_ledger.specs.declared.call.Line.{Line}
-use Rattle.at_ledger.specs.declared.call.Reply.{Reply}
-use Rattle.at_ledger.specs.Run.{lines_of}
-use Rattle.at_history.specs.BoardState.{publication_at}
-use Rattle.at_history.specs.Publications.{count_of, publications_of}
-use Rattle.at_history.specs.declared.publication.Publication.{Publication}
-use Rattle.at_log.specs.ClosingTerms.{ClosingTerms, log_published, receipts_of}
-use Rattle.at_log.specs.Coherent.{Coherent}
-use Rattle.at_log.specs.InTime.{KeepsTime, look_at}
-use Rattle.at_log.specs.JournalOrder.{journal_lines}
-use Rattle.at_log.specs.Receipts.{receipt_at}
-use Rattle.at_log.specs.declared.receipt.At.{At}
-use Rattle.at_log.specs.declared.receipt.At.TheVariants.{Front, Own, Round, Previous}
-use Rattle.at_calling.specs.Calling.{length_loaded, next_step}
+use Rattle.at_stepper.specs.Prelude.{range_with_len, AreTimed, CallTimes, IsLinearizable, BookTerms, Call, Line, Reply, lines_of, publication_at, count_of, publications_of, Publication, ClosingTerms, log_published, receipts_of, Coherent, KeepsTime, look_at, journal_lines, receipt_at, At, Cut, Own, Round, Previous, length_loaded, next_step}
 use Rattle.at_stepper.specs.Callers.{CallerTerms, reply_in}
 use Rattle.at_stepper.specs.Schedules.{AreTurnsOf, answered_by}
 use Rattle.at_stepper.specs.Stepping.{IsNewStepper, IsOver, StepperTerms, TurnsOne}
@@ -106,9 +89,9 @@ pub record AreBorrowed (turns : List TurnMade) (published : List Publication) (p
 abbrev pub AreLoadedOrBorrowed : List TurnMade → (ℕ → Option ℕ) → List Publication → ℕ → ℕ → List ℕ → Type 0
 AreLoadedOrBorrowed turns loaded published p i counts = AreLoaded turns loaded published p i counts ⊎ AreBorrowed turns published p i counts
 
--- so it is of the front of a receipt, or of the view of its own record
+-- so it is of the cut of a receipt, or of the view of its own record
 abbrev pub CountsLoads : List TurnMade → (ℕ → Option ℕ) → List Publication → ℕ → ℕ → At → Type 0
-CountsLoads turns loaded published p i (Front view) = AreLoadedOrBorrowed turns loaded published p i view
+CountsLoads turns loaded published p i (Cut view) = AreLoadedOrBorrowed turns loaded published p i view
 CountsLoads turns loaded published p i (Own number) =
     AreLoadedOrBorrowed turns loaded published p i (publication_at (publications_of p published) number).view
 CountsLoads turns loaded published p i (Round round place) = Unit {0}

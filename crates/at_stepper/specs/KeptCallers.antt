@@ -1,21 +1,8 @@
 -- What the type of a caller keeps of its fields, which no other sees.
 use Rattle.std.specs.Prelude.{◌≡◌, ℕ, ◌+◌, ◌<◌, ◌≤◌, List, Option, Some, None, length, take}
-use Rattle.at_ledger.specs.Book.{BookTerms}
-use Rattle.at_ledger.specs.declared.call.Call.{Call}
-use Rattle.at_board.specs.Knowledge.Seats.{SeatTerms}
-use Rattle.at_history.specs.Histories.{IsHistory}
-use Rattle.at_history.specs.Publications.{IsPrefix}
-use Rattle.at_history.specs.declared.publication.Publication.{Publication}
-use Rattle.at_log.specs.Receipts.{calls_of}
-use Rattle.at_log.specs.declared.receipt.Receipt.{Receipt}
-use Rattle.at_object.specs.Parted.{IsOfOnePass, pass_of}
-use Rattle.at_object.specs.Passes.{PassTerms, Stands, seat_of}
-use Rattle.at_board.specs.Counting.{raised}
-use Rattle.at_object.specs.declared.parts.Rest.{Rest}
+use Rattle.at_stepper.specs.Prelude.{BookTerms, Call, SeatTerms, IsHistory, IsPrefix, Publication, calls_of, Receipt, IsOfOnePass, pass_of, PassTerms, Stands, seat_of, raised, Rest, CallingTerms, IsWay, MakesCallStep, StartsFrom, call_turns_left, exchanges_made, exchanges_of, first_step, next_step, pass_before, publishes_of, refusal_in, steps_made, steps_of, CallStage}
 use Rattle.at_stepper.specs.Callers.{CallerTerms, IsFile, LeavesCaller, answers_in, caller_turns_left, calls_left_of, next_call, own_seen, steps_in}
 use Rattle.at_stepper.specs.declared.turned.Turned.{Turned}
-use Rattle.at_calling.specs.Calling.{CallingTerms, IsWay, MakesCallStep, StartsFrom, call_turns_left, exchanges_made, exchanges_of, first_step, next_step, pass_before, publishes_of, refusal_in, steps_made, steps_of}
-use Rattle.at_calling.specs.declared.call_stage.CallStage.{CallStage}
 
 -- the pass between calls, or with which the call in the making began, and what the next turn of that goes on with
 abbrev pub pass_in : SeatTerms → Rest → Option CallingTerms → PassTerms

@@ -1,16 +1,6 @@
 -- What the type of a run keeps of its fields, which no caller sees.
 use Rattle.std.specs.Prelude.{◌≡◌, ℕ, ◌^◌, ◌<◌, List, All, None, length, map, slice_index_or}
-use Rattle.at_ledger.specs.Book.{BookTerms}
-use Rattle.at_ledger.specs.declared.call.Call.{Call}
-use Rattle.at_history.specs.Publications.{ArePublishedBy, IsPrefix, count_of}
-use Rattle.at_history.specs.declared.publication.Publication.{Publication}
-use Rattle.at_board.specs.Knowledge.Overviews.{IsOverviewOf}
-use Rattle.at_board.specs.Knowledge.Seats.{BoardTerms, IsOf}
-use Rattle.at_log.specs.Receipts.{calls_of, lists_in}
-use Rattle.at_log.specs.declared.receipt.Receipt.{Receipt}
-use Rattle.at_object.specs.Closings.{AreAccountedFor, HasAllLogs}
-use Rattle.at_object.specs.Parted.{HasMemoryFor}
-use Rattle.at_object.specs.Passes.{IsPassOf, PassTerms, Stands, seat_of}
+use Rattle.at_stepper.specs.Prelude.{BookTerms, Call, ArePublishedBy, IsPrefix, count_of, Publication, IsOverviewOf, BoardTerms, IsOf, calls_of, contents_of, Receipt, AreAccountedFor, HasAllLogs, HasMemoryFor, IsPassOf, PassTerms, Stands, seat_of}
 use Rattle.at_stepper.specs.Callers.{CallerTerms}
 use Rattle.at_stepper.specs.Stepping.{IsOver, StepperTerms, files_of}
 use Rattle.at_stepper.specs.declared.caller.Start.{Start}
@@ -86,9 +76,9 @@ caller_passes callers = map (λ caller. caller.pass) callers
 
 -- what is kept of a run whose passes and receipts are put together
 pub record IsEndedSo (ended : EndedRun) : Type 0 where
-  pub answered : IsAnsweredBy ended.run.value (lists_in ended.receipts.items)
+  pub answered : IsAnsweredBy ended.run.value (contents_of ended.receipts.items)
   pub passes_are : ended.passes.items ≡ caller_passes ended.run.value.callers.items
-  pub accounted : AreAccountedFor ended.ledger ended.passes.items (lists_in ended.receipts.items)
+  pub accounted : AreAccountedFor ended.ledger ended.passes.items (contents_of ended.receipts.items)
   pub ledger_is : ended.ledger ≡ ended.run.value.ledger
 
 -- and of one whose ledger is closed

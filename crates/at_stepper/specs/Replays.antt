@@ -1,7 +1,6 @@
 -- What the turns of a schedule leave of a run.
 use Rattle.std.specs.Prelude.{◌≡◌, ℕ, ◌+◌, ◌++◌, List, [], length, slice_index, slice_index_or}
-use Rattle.at_ledger.specs.Book.{BookTerms}
-use Rattle.at_ledger.specs.declared.call.Call.{Call}
+use Rattle.at_stepper.specs.Prelude.{BookTerms, Call}
 use Rattle.at_stepper.specs.InTurns.{IsMadeAs, RunsTo}
 use Rattle.at_stepper.specs.Schedules.{AreTurnsBy, AreTurnsOf, answered_by, rounds_of_turns}
 use Rattle.at_stepper.specs.Stepping.{IsNewStepper, StepperTerms, TurnsOne, calls_left, files_of}

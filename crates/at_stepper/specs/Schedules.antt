@@ -1,7 +1,6 @@
 -- The turns of a schedule.
 use Rattle.std.specs.Prelude.{◌≡◌, ℕ, zero, suc, ◌<◌, ◌++◌, ◌==◌, ◌&&◌, List, [], ◌∷◌, count_by, is_some, length, slice_index_or}
-use Rattle.std.specs.List.{range_with_len}
-use Rattle.at_ledger.specs.declared.call.Call.{Call}
+use Rattle.at_stepper.specs.Prelude.{range_with_len, Call}
 use Rattle.at_stepper.specs.declared.replaying.TurnMade.{TurnMade}
 
 -- how many turns of a process are answered

@@ -1,14 +1,6 @@
 -- Runs of the calls of all processes by turns.
 use Rattle.std.specs.Prelude.{◌≡◌, ◌≢◌, ◌⊎◌, ℕ, ◌+◌, ◌<◌, ◌++◌, List, [], ◌∷◌, Option, Some, length, map, slice_index, slice_index_or, sum_by}
-use Rattle.at_ledger.specs.Book.{BookTerms}
-use Rattle.at_ledger.specs.declared.call.Call.{Call}
-use Rattle.at_history.specs.Publications.{IsPrefix, count_of}
-use Rattle.at_history.specs.declared.publication.Publication.{Publication}
-use Rattle.at_board.specs.Knowledge.Seats.{BoardTerms}
-use Rattle.at_board.specs.declared.step.BoardStep.{BoardStep}
-use Rattle.at_calling.specs.Calling.{length_loaded, next_step}
-use Rattle.at_calling.specs.declared.call_stage.CallStage.{CallStage}
-use Rattle.at_object.specs.Passes.{IsNewPass}
+use Rattle.at_stepper.specs.Prelude.{BookTerms, Call, IsPrefix, count_of, Publication, BoardTerms, BoardStep, length_loaded, next_step, CallStage, IsNewPass}
 use Rattle.at_stepper.specs.Callers.{CallerTerms, IsNewCaller, IsTurned, answers_in, calls_left_of, caller_turns_left}
 use Rattle.at_stepper.specs.declared.turned.Turned.{Turned}
 

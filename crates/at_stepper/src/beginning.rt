@@ -1,11 +1,7 @@
 //! What a run starts with.
 
 ghost use Rattle.std.specs.Prelude.{◌≡◌, ℕ, ◌<◌, All, IfOk, [], length, slice_index_or};
-ghost use Rattle.at_board.specs.Knowledge.Overviews.{IsOverviewOf};
-ghost use Rattle.at_board.specs.Knowledge.Seats.{IsOf};
-ghost use Rattle.at_log.specs.Receipts.{lists_in};
-ghost use Rattle.at_object.specs.Parted.{HasMemoryFor};
-ghost use Rattle.at_object.specs.Passes.{AreNewPasses};
+ghost use Rattle.at_stepper.specs.Prelude.{IsOverviewOf, IsOf, contents_of, HasMemoryFor, AreNewPasses};
 ghost use Rattle.at_stepper.specs.Callers.{CallerTerms, IsFile};
 ghost use Rattle.at_stepper.specs.KeptStepping.{AreStartsFor, passes_in};
 ghost use Rattle.at_stepper.specs.Stepping.{AreBegunCallers};
@@ -14,8 +10,8 @@ use crate::caller::{Caller, Start};
 use crate::run::Run;
 use at_board::Overview;
 use at_ledger::{Book, Call};
-use at_object::{Ledger, NoMemory, Pass};
-use std::alloc::Global;
+use at_object::{Ledger, Pass};
+use std::alloc::{AllocError, Global};
 
 /// What a run takes memory for: the ledger, what each caller starts with, and the list of the callers.
 #[derive(Drop)]
@@ -30,11 +26,11 @@ pub(crate) fn memory_for(
     alloc: Global,
     book: &Book,
     files: &[Vec<Call>],
-) -> Result<Memory, NoMemory>
+) -> Result<Memory, AllocError>
     requires count { length files.now ≡ book.now.processes }
     ensures book { IfOk result (λ m. m.ledger.book ≡ book.now) }
     ensures passes { IfOk result (λ m. AreNewPasses m.ledger (passes_in m.starts.items)) }
-    ensures rooms { IfOk result (λ m. AreStartsFor (lists_in files.now) m.starts.items) }
+    ensures rooms { IfOk result (λ m. AreStartsFor (contents_of files.now) m.starts.items) }
     ensures room { IfOk result (λ m. HasMemoryFor m.callers (length files.now)) }
 {
     let (ledger, passes) = Ledger::new(alloc, book)?;
@@ -46,10 +42,14 @@ pub(crate) fn memory_for(
 }
 
 /// What each caller starts with: its pass, and the memory for a receipt of each call of its file.
-fn starts_for(alloc: Global, passes: Vec<Pass>, files: &[Vec<Call>]) -> Result<Vec<Start>, NoMemory>
+fn starts_for(
+    alloc: Global,
+    passes: Vec<Pass>,
+    files: &[Vec<Call>],
+) -> Result<Vec<Start>, AllocError>
     requires count { length passes.items ≡ length files.now }
     ensures passes { IfOk result (λ starts. passes_in starts.items ≡ passes.items) }
-    ensures rooms { IfOk result (λ starts. AreStartsFor (lists_in files.now) starts.items) }
+    ensures rooms { IfOk result (λ starts. AreStartsFor (contents_of files.now) starts.items) }
 {
     let mut starts = Vec::with_capacity(alloc, files.len())?;
     for pass in passes {
@@ -65,12 +65,12 @@ fn starts_for(alloc: Global, passes: Vec<Pass>, files: &[Vec<Call>]) -> Result<V
 /// The run of the files, in memory that was taken before. No turn of it is made.
 pub(crate) fn run_of(memory: Memory, files: Vec<Vec<Call>>) -> Run
     requires passes { AreNewPasses memory.ledger (passes_in memory.starts.items) }
-    requires rooms { AreStartsFor (lists_in files.items) memory.starts.items }
-    requires known { All (IsFile (length memory.ledger.book.accounts)) (lists_in files.items) }
+    requires rooms { AreStartsFor (contents_of files.items) memory.starts.items }
+    requires known { All (IsFile (length memory.ledger.book.accounts)) (contents_of files.items) }
     requires room { HasMemoryFor memory.callers (length files.items) }
     requires some { 0 < length files.items }
     ensures ledger { result.ledger ≡ memory.ledger }
-    ensures callers { AreBegunCallers memory.ledger (lists_in files.items) result.callers.items }
+    ensures callers { AreBegunCallers memory.ledger (contents_of files.items) result.callers.items }
     ensures overview { IsOverviewOf result.overview memory.ledger }
     ensures unpublished { result.overview.seen ≡ [] }
 {

@@ -1,14 +1,7 @@
 //! A process that makes its calls one after another, a step a turn.
 
 ghost use Rattle.std.specs.Prelude.{◌≡◌, ◌^◌, ◌<◌, ◌==◌, [], IfSome, IsSome, None, length};
-ghost use Rattle.at_history.specs.Publications.{IsPrefix};
-ghost use Rattle.at_board.specs.Knowledge.Overviews.{IsOverviewOf, TakesIn};
-ghost use Rattle.at_board.specs.Knowledge.Seats.{IsOf};
-ghost use Rattle.at_calling.specs.Calling.{first_step, refusal_in};
-ghost use Rattle.at_ledger.specs.Call.{IsCallOn};
-ghost use Rattle.at_log.specs.Receipts.{calls_of};
-ghost use Rattle.at_object.specs.Parted.{HasMemoryFor, IsOfOnePass, pass_of};
-ghost use Rattle.at_object.specs.Passes.{IsPassOf, Stands, seat_of};
+ghost use Rattle.at_stepper.specs.Prelude.{IsPrefix, IsOverviewOf, TakesIn, IsOf, first_step, refusal_in, IsCallOn, calls_of, HasMemoryFor, IsOfOnePass, pass_of, IsPassOf, Stands, seat_of};
 ghost use Rattle.at_stepper.specs.Callers.{HasLearned, IsFile, IsNewCaller, IsNextOf, IsTurned, calls_left_of, own_seen};
 ghost use Rattle.at_stepper.specs.KeptCallers.{StartsNext, TakesTurn};
 
@@ -51,7 +44,7 @@ pub(crate) struct Caller {
 }
 
 impl Model for Caller {
-    ghost use Rattle.std.specs.Vec.{vec_capacity};
+    ghost use Rattle.at_stepper.specs.Prelude.{vec_capacity};
     ghost use Rattle.at_stepper.specs.Callers.{CallerTerms};
     ghost use Rattle.at_stepper.specs.KeptCallers.{IsCallerOf, caller_of};
 
@@ -264,7 +257,7 @@ fn copy_of_place(at: &At) -> At
     ensures { result ≡ at.now }
 {
     match at {
-        At::Front(counts) => At::Front(counts.copy()),
+        At::Cut(counts) => At::Cut(counts.copy()),
         At::Own(number) => At::Own(*number),
         At::Round { round, place } => At::Round {
             round: *round,

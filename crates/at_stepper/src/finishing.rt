@@ -1,9 +1,7 @@
 //! The journal of a run.
 
 ghost use Rattle.std.specs.Prelude.{◌≡◌, All, IfErr, IfOk, length};
-ghost use Rattle.at_ledger.specs.Run.{Legal, Whole};
-ghost use Rattle.at_log.specs.Receipts.{lists_in};
-ghost use Rattle.at_object.specs.Parted.{HasMemoryFor};
+ghost use Rattle.at_stepper.specs.Prelude.{Legal, Whole, contents_of, HasMemoryFor};
 ghost use Rattle.at_stepper.specs.Callers.{CallerTerms, calls_left_of};
 ghost use Rattle.at_stepper.specs.InTurns.{IsJournalOf};
 ghost use Rattle.at_stepper.specs.KeptStepping.{AreSplit, IsClosedSo, IsEndedSo, IsProgressSo, IsRunSo, run_in, stepper_terms};
@@ -16,8 +14,8 @@ use crate::stepper::Stepper;
 use at_journal::journal;
 use at_ledger::Line;
 use at_log::Receipt;
-use at_object::{NoMemory, Pass};
-use std::alloc::Global;
+use at_object::Pass;
+use std::alloc::{AllocError, Global};
 use std::snapshot::Snapshot;
 
 /// There was no memory for the journal. The run comes back as it was, and may be finished again.
@@ -118,7 +116,7 @@ fn ended(alloc: Global, run: Run) -> Result<EndedRun, Run>
 }
 
 /// Two empty lists, with the memory for so many passes and so many lists of receipts.
-fn rooms(alloc: Global, count: usize) -> Result<(Vec<Pass>, Vec<Vec<Receipt>>), NoMemory>
+fn rooms(alloc: Global, count: usize) -> Result<(Vec<Pass>, Vec<Vec<Receipt>>), AllocError>
     ensures passes { IfOk result (λ r. HasMemoryFor r.0 count) }
     ensures receipts { IfOk result (λ r. HasMemoryFor r.1 count) }
 {
@@ -137,7 +135,7 @@ fn parts(
     requires idle { All (λ (caller : CallerTerms). calls_left_of caller ≡ 0) callers.items }
     requires passes { HasMemoryFor passes (length callers.items) }
     requires receipts { HasMemoryFor receipts (length callers.items) }
-    ensures { AreSplit callers.items result.0.items (lists_in result.1.items) }
+    ensures { AreSplit callers.items result.0.items (contents_of result.1.items) }
 {
     for caller in callers {
         let (pass, list) = caller.split();

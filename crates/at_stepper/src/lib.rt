@@ -25,4 +25,3 @@ pub use crate::replaying::{Replayed, TurnMade, replay};
 pub use crate::stepper::{Stepper, StepperRefused};
 pub use crate::turned::Turned;
 pub use at_board::{BoardStep, BoardWord};
-pub use at_object::NoMemory;

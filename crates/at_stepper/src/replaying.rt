@@ -1,9 +1,7 @@
 //! Runs by a schedule.
 
 ghost use Rattle.std.specs.Prelude.{◌≡◌, ◌⊎◌, ◌<◌, [], ◌∷◌, All, IfOk, IsTrue, OnOk, length, slice_index};
-ghost use Rattle.std.specs.List.{range_with_len};
-ghost use Rattle.at_ledger.specs.Run.{Legal, Whole};
-ghost use Rattle.at_log.specs.Receipts.{lists_in};
+ghost use Rattle.at_stepper.specs.Prelude.{range_with_len, Legal, Whole, contents_of};
 ghost use Rattle.at_stepper.specs.Callers.{IsFile};
 ghost use Rattle.at_stepper.specs.InTurns.{IsReplayBy};
 ghost use Rattle.at_stepper.specs.Replays.{IsSameRun, TurnAll, TurnBy, TurnInRounds};
@@ -12,7 +10,6 @@ ghost use Rattle.at_stepper.specs.Stepping.{IsOver, all_turns_left, calls_left};
 use crate::stepper::Stepper;
 use at_board::BoardStep;
 use at_ledger::{Book, Call, Line, Reply};
-use at_object::NoMemory;
 use std::alloc::{AllocError, Global};
 
 /// A turn of a process: the step that it made, which is none where its call was answered not-owner or full, the reply of the call that it
@@ -40,16 +37,16 @@ pub fn replay(
     book: &Book,
     files: Vec<Vec<Call>>,
     schedule: &[u32],
-) -> Result<Replayed, NoMemory>
+) -> Result<Replayed, AllocError>
     requires count { length files.items ≡ book.now.processes }
-    requires known { All (IsFile (length book.now.accounts)) (lists_in files.items) }
+    requires known { All (IsFile (length book.now.accounts)) (contents_of files.items) }
     requires schedule { All (λ process. process < book.now.processes) schedule.now }
     ensures replay { IfOk result
-        (IsReplayBy book.now (lists_in files.items) schedule.now) }
+        (IsReplayBy book.now (contents_of files.items) schedule.now) }
     ensures processes { IfOk result
         (λ r. All (λ t. t.process < book.now.processes) r.turns.items) }
     ensures legal { IfOk result (λ r. Legal book.now r.lines.items) }
-    ensures whole { IfOk result (λ r. Whole (lists_in files.items) r.lines.items) }
+    ensures whole { IfOk result (λ r. Whole (contents_of files.items) r.lines.items) }
 {
     let Ok(mut stepper) = Stepper::new(alloc, book, files) else {
         return Err(AllocError);
@@ -68,7 +65,7 @@ fn make_turns(
     processes: u32,
     schedule: &[u32],
     turns: &mut Vec<TurnMade>,
-) -> Result<(), NoMemory>
+) -> Result<(), AllocError>
     requires count { length stepper.old.callers ≡ processes }
     requires schedule { All (λ process. process < processes) schedule.now }
     requires none { turns.old.items ≡ [] }
@@ -84,7 +81,11 @@ fn make_turns(
 }
 
 /// Makes turns of processes 0, 1 and so on in turn, again and again, until all are idle.
-fn run_out(stepper: &mut Stepper, processes: u32, turns: &mut Vec<TurnMade>) -> Result<(), NoMemory>
+fn run_out(
+    stepper: &mut Stepper,
+    processes: u32,
+    turns: &mut Vec<TurnMade>,
+) -> Result<(), AllocError>
     requires count { length stepper.old.callers ≡ processes }
     ensures turned { OnOk result (TurnInRounds processes turns.old.items stepper.old
         turns.new.items stepper.new) }
@@ -116,7 +117,7 @@ fn make_round(
     stepper: &mut Stepper,
     processes: u32,
     turns: &mut Vec<TurnMade>,
-) -> Result<(), NoMemory>
+) -> Result<(), AllocError>
     requires count { length stepper.old.callers ≡ processes }
     ensures turned { OnOk result (TurnBy (range_with_len 0 processes) turns.old.items stepper.old
         turns.new.items stepper.new) }
@@ -135,7 +136,7 @@ fn turn_unless_idle(
     stepper: &mut Stepper,
     process: u32,
     turns: &mut Vec<TurnMade>,
-) -> Result<(), NoMemory>
+) -> Result<(), AllocError>
     requires { process < length stepper.old.callers }
     ensures turned { OnOk result (TurnBy (process ∷ []) turns.old.items stepper.old
         turns.new.items stepper.new) }

@@ -1,7 +1,7 @@
 //! What a run is made with.
 
 ghost use Rattle.std.specs.Prelude.{◌≡◌, ◌<◌, ◌==◌, length, slice_index};
-ghost use Rattle.at_board.specs.Knowledge.Overviews.{IsOverviewOf};
+ghost use Rattle.at_stepper.specs.Prelude.{IsOverviewOf};
 ghost use Rattle.at_stepper.specs.KeptStepping.{AreAllIn, AreCallersOn, HaveJustTheirOwn, IsRunSo, stepper_terms};
 ghost use Rattle.at_stepper.specs.Replays.{MakesTurn};
 ghost use Rattle.at_stepper.specs.Stepping.{IsNextStep, TurnsOne, calls_left};

@@ -1,7 +1,7 @@
 //! Runs of the calls of all processes by turns.
 
 ghost use Rattle.std.specs.Prelude.{◌≡◌, ◌<◌, ◌==◌, All, IfErr, IfOk, length, slice_index};
-ghost use Rattle.at_log.specs.Receipts.{lists_in};
+ghost use Rattle.at_stepper.specs.Prelude.{contents_of};
 ghost use Rattle.at_stepper.specs.Callers.{IsFile};
 ghost use Rattle.at_stepper.specs.Replays.{MakesTurn};
 ghost use Rattle.at_stepper.specs.Stepping.{IsNewStepper, IsNextStep, TurnsOne, calls_left};
@@ -44,8 +44,8 @@ impl Stepper {
     /// for the receipts of all calls. What it takes grows with the book and the calls.
     pub fn new(alloc: Global, book: &Book, files: Vec<Vec<Call>>) -> Result<Stepper, StepperRefused>
         requires count { length files.items ≡ book.now.processes }
-        requires known { All (IsFile (length book.now.accounts)) (lists_in files.items) }
-        ensures ok { IfOk result (IsNewStepper book.now (lists_in files.items)) }
+        requires known { All (IsFile (length book.now.accounts)) (contents_of files.items) }
+        ensures ok { IfOk result (IsNewStepper book.now (contents_of files.items)) }
         ensures refused { IfErr result (λ r. r.files.items ≡ files.items) }
     {
         book.known();

@@ -1,9 +1,6 @@
 -- The first lines of texts that have their first bytes in common.
 use Rattle.std.proofs.Common.{◌≡◌, ℕ, zero, suc, ◌+◌, ◌≤◌, ◌==◌, Bool, true, false, cond, List, [], ◌∷◌, ◌++◌, take, refl, sym, ap, ◌∙◌, arith}
-use Rattle.std.proofs.lemmas.Bool.{ne_eqb}
-use Rattle.std.proofs.lemmas.List.Sums.{sum_by-cons}
-use Rattle.at_report.specs.Lines.{IsFirstWord, IsWord}
-use Rattle.at_verify.specs.Right.{first_lines, newlines}
+use Rattle.at_verify.proofs.Prelude.{ne_eqb, sum_by-cons, IsFirstWord, IsWord, first_lines, newlines}
 
 -- no line, and no text
 first_lines-zero : (text : List ℕ) → first_lines zero text ≡ []

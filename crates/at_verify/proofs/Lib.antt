@@ -1,2 +1,3 @@
+pub mod Prelude
 pub mod FirstLines
 pub mod Walking

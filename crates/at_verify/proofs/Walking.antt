@@ -1,27 +1,8 @@
 -- The walk over a text: what every report goes on with, and where the text does otherwise.
 use Rattle.std.proofs.Common.{◌≡◌, ◌==◌, cond, inl, inr, ℕ, suc, ◌+◌, ◌<◌, ◌≤◌, ◌⊎◌, ⊎_elim, List, [], ◌∷◌, ◌++◌, length, take, drop, get_or, map, sum, sum_by, Some, decimal, refl, sym, ap, subst, ◌∙◌, arith, append_assoc, zero-add}
 use Rattle.std.specs.Prelude.{slice_get}
-use Rattle.std.specs.List.{join_with_byte}
-use Rattle.std.proofs.lemmas.Bool.{cases_lt}
-use Rattle.std.proofs.lemmas.Grind.{flat_map-append}
-use Rattle.std.proofs.lemmas.List.{append_cancel_left, get_or_append_left, length-append, length-drop, length-take-le, take-append-drop, take-append-le, take_all, drop_all}
-use Rattle.std.proofs.lemmas.List.Sums.{sum_by-append}
-use Rattle.std.proofs.Math.Seq.{drop-cons, take-add, take-append-add}
-use Rattle.at_ledger.specs.Book.{BookTerms}
-use Rattle.at_ledger.specs.State.{LedgerState, opening_state, step}
-use Rattle.at_ledger.specs.Run.{Run, asked_in, last_state, run_from}
-use Rattle.at_ledger.specs.declared.call.Call.{Call}
-use Rattle.at_ledger.specs.declared.call.Line.{Line}
-use Rattle.at_ledger.proofs.Run.{run_from-cons, run_from-nil}
-use Rattle.at_files.specs.Names.{NameList, process_name}
-use Rattle.at_report.specs.Lines.{IsFirstWord, IsWord, call_words, journal_words, line_text, lines_text, reply_word}
-use Rattle.at_report.specs.Report.{audit_lines, heading_words, report_text}
-use Rattle.at_verify.specs.Right.{IsReport, IsFirstWrong, first_lines, newlines}
-use Rattle.at_verify.specs.Walk.{ArePartedAt, DifferAt, PartsAt}
-use Rattle.at_ledger.specs.NextCalls.{AreWithinFiles, IsNextOfProcess, with_made}
-use Rattle.at_ledger.proofs.Continuing.{AreWithinFiles-none, Continues, completes, continues-cons, continues-from_cons, continues-from_nil, continues-whole, length-continues, none_made, sum-none, whole-continues}
+use Rattle.at_verify.proofs.Prelude.{join_with_byte, cases_lt, flat_map-append, append_cancel_left, get_or_append_left, length-append, length-drop, length-take-le, take-append-drop, take-append-le, take_all, drop_all, sum_by-append, drop-cons, take-add, take-append-add, BookTerms, LedgerState, opening_state, step, Run, asked_in, last_state, run_from, Call, Line, run_from-cons, run_from-nil, NameList, process_name, IsFirstWord, IsWord, call_words, journal_words, line_text, lines_text, reply_word, audit_lines, heading_words, report_text, IsReport, IsFirstWrong, first_lines, newlines, ArePartedAt, DifferAt, PartsAt, AreWithinFiles, IsNextOfProcess, with_made, AreWithinFiles-none, Continues, completes, continues-cons, continues-from_cons, continues-from_nil, continues-whole, length-continues, none_made, sum-none, whole-continues, AreWithinFiles-next, all_made}
 use Rattle.at_verify.proofs.FirstLines.{first_byte, first_lines-after, first_lines-fewer, first_lines-within, first_word}
-use Rattle.at_ledger.proofs.Made.{AreWithinFiles-next, all_made}
 
 -- two next lines of one process are the same
 
@@ -135,15 +116,15 @@ parts b names files text at n within few report is goes only =
     let c : List ℕ = take at text in
     let rest : List ℕ = drop at text in
     let len : length (take at text) ≡ at = length-take-le at text within in
-    let front : take (at + n) text ≡ take at text ++ take n (drop at text) = take-add at n text in
+    let cut : take (at + n) text ≡ take at text ++ take n (drop at text) = take-add at n text in
     record {
       within = let most = length-drop at text in omega arith;
       report = report;
       is = is;
       same =
           ap (take (at + n)) goes.is ∙ ap (λ (k : ℕ). take (k + n) (take at text ++ goes.after)) (sym len) ∙ take-append-add (take at text) goes.after n
-          ∙ ap (λ (t : List ℕ). take at text ++ t) goes.same ∙ sym front;
-      only = λ other is_other agrees. differs b names files text at n only (take at text ++ take n (drop at text)) refl other is_other (rw front at agrees);
+          ∙ ap (λ (t : List ℕ). take at text ++ t) goes.same ∙ sym cut;
+      only = λ other is_other agrees. differs b names files text at n only (take at text ++ take n (drop at text)) refl other is_other (rw cut at agrees);
     }
   where
     differs : (b : BookTerms) (names : NameList) (files : List (List Call)) (text : List ℕ) (at n : ℕ)
@@ -241,12 +222,12 @@ heading-parts b names files text heading total n total_is heading_is are short =
 pub heading-walked : (b : BookTerms) (names : NameList) (files : List (List Call)) (text heading : List ℕ) (total n : ℕ) → total ≡ sum_by (length {A = Call}) files
     → heading ≡ line_text (heading_words total) → ArePartedAt text heading n → length heading ≤ n → IsWalked b names files text n (opening_state b) (none_made files)
 heading-walked b names files text heading total n total_is heading_is are all =
-    let front : take n text ≡ heading = are.same ∙ take_all n heading all in
+    let cut : take n text ≡ heading = are.same ∙ take_all n heading all in
     record {
       within = are.left;
       are = AreWithinFiles-none files;
-      reports = λ more continues. rw front (reports_begin b names files heading total total_is heading_is more continues);
-      only = λ other is same. rw front (begins_report b names files heading total total_is heading_is other is);
+      reports = λ more continues. rw cut (reports_begin b names files heading total total_is heading_is more continues);
+      only = λ other is same. rw cut (begins_report b names files heading total total_is heading_is other is);
     }
 
 -- a report whose next line is the text's goes on with a line whose process the text names
@@ -358,23 +339,23 @@ pub line-walked : (b : BookTerms) (names : NameList) (files : List (List Call)) 
     → expected ≡ line_text (journal_words names l) → ArePartedAt (drop at text) expected n → length expected ≤ n
     → IsWalked b names files text (at + n) (step s l.process l.call).ledger (with_made made l.process)
 line-walked b names files text expected at n s made l walked left words next only expected_is are all =
-    let front : take (at + n) text ≡ take at text ++ line_text (journal_words names l) = took text expected at n walked.within are all ∙ ap (λ (t : List ℕ). take at text ++ t) expected_is in
+    let cut : take (at + n) text ≡ take at text ++ line_text (journal_words names l) = took text expected at n walked.within are all ∙ ap (λ (t : List ℕ). take at text ++ t) expected_is in
     let counts = sum_by-append (λ (byte : ℕ). cond (byte == 10) 1 0) (take at text) (line_text (journal_words names l)) in
     let line : List ℕ = line_text (journal_words names l) in
     record {
       within = fits text expected at n walked.within are;
       are = AreWithinFiles-next files s made l walked.are next;
       reports = λ more continues.
-          subst (IsReport b names files) (whole front more) (walked.reports (l ∷ more) (continues-from_cons files s made l more next continues));
-      only = λ other is agrees. rw front (tail other is (rw front at agrees));
+          subst (IsReport b names files) (whole cut more) (walked.reports (l ∷ more) (continues-from_cons files s made l more next continues));
+      only = λ other is agrees. rw cut (tail other is (rw cut at agrees));
     }
   where
     whole : take (at + n) text ≡ take at text ++ line_text (journal_words names l) → (more : List Line)
         → take at text ++ tail_text names s (l ∷ more) ≡ take (at + n) text ++ tail_text names (step s l.process l.call).ledger more
-    whole front more =
+    whole cut more =
         ap (λ (t : List ℕ). take at text ++ t) (tail-cons names s l more)
         ∙ sym (append_assoc (take at text) (line_text (journal_words names l)) (tail_text names (step s l.process l.call).ledger more))
-        ∙ ap (λ (t : List ℕ). t ++ tail_text names (step s l.process l.call).ledger more) (sym front)
+        ∙ ap (λ (t : List ℕ). t ++ tail_text names (step s l.process l.call).ledger more) (sym cut)
 
     tail : (other : List ℕ) → IsReport b names files other
         → first_lines (newlines (take at text ++ line_text (journal_words names l)) + 1) text ≡ first_lines (newlines (take at text ++ line_text (journal_words names l)) + 1) other

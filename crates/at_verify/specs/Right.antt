@@ -1,12 +1,6 @@
 -- Which texts are reports of a run of some files, and up to which line another text is right.
 use Rattle.std.specs.Prelude.{◌≡◌, ℕ, zero, suc, ◌<◌, ◌==◌, List, [], ◌++◌, length, count_by}
-use Rattle.std.specs.Io.BufRead.{drop_through, take_through}
-use Rattle.at_ledger.specs.Book.{BookTerms}
-use Rattle.at_ledger.specs.Run.{Legal, Whole}
-use Rattle.at_ledger.specs.declared.call.Call.{Call}
-use Rattle.at_ledger.specs.declared.call.Line.{Line}
-use Rattle.at_files.specs.Names.{NameList}
-use Rattle.at_report.specs.Report.{report_text}
+use Rattle.at_verify.specs.Prelude.{drop_through, take_through, BookTerms, Legal, Whole, Call, Line, NameList, report_text}
 
 -- the first lines of a text: a line is its bytes up to and with a newline, and the bytes after the last one are a line too
 unfoldable pub first_lines : ℕ → List ℕ → List ℕ

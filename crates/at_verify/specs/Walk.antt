@@ -1,10 +1,6 @@
 -- The walk over a text: where no report goes on as the text does.
 use Rattle.std.specs.Prelude.{◌≡◌, ℕ, ◌+◌, ◌<◌, ◌≤◌, ◌≢◌, List, [], length, max, take, Some, slice_get, slice_index, slice_index_or, slice_set}
-use Rattle.at_ledger.specs.Book.{BookTerms}
-use Rattle.at_ledger.specs.State.{LedgerState, step}
-use Rattle.at_ledger.specs.declared.call.Call.{Call}
-use Rattle.at_ledger.specs.declared.call.Line.{Line}
-use Rattle.at_files.specs.Names.{NameList}
+use Rattle.at_verify.specs.Prelude.{BookTerms, LedgerState, step, Call, Line, NameList}
 use Rattle.at_verify.specs.Right.{IsReport, first_lines, newlines}
 
 -- the two texts have the first bytes in common, and there they part

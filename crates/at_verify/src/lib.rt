@@ -9,4 +9,3 @@ mod stepping;
 mod verifying;
 
 pub use crate::verifying::{TEXT_MAX, Verdict, verify};
-pub use at_base::NoMemory;

@@ -1,12 +1,7 @@
 //! The line of the journal that can come next.
 
 ghost use Rattle.std.specs.Prelude.{◌≡◌, ℕ, ◌<◌, ◌≤◌, All, IfSome, Some, length, sum_by};
-ghost use Rattle.at_ledger.specs.State.{step};
-ghost use Rattle.at_ledger.specs.declared.call.Line.{Line};
-ghost use Rattle.at_ledger.specs.Files.{IsPlayable, contents_of};
-ghost use Rattle.at_files.specs.Names.{AreNamesOf, process_name};
-ghost use Rattle.at_report.specs.Lines.{IsFirstWord, IsWord};
-ghost use Rattle.at_ledger.specs.NextCalls.{AreWithinFiles, IsNextOfProcess, with_made};
+ghost use Rattle.at_verify.specs.Prelude.{step, Line, IsPlayable, contents_of, AreNamesOf, process_name, IsFirstWord, IsWord, AreWithinFiles, IsNextOfProcess, with_made};
 
 use at_base::Counts;
 use at_files::Names;

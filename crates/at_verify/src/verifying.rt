@@ -1,21 +1,17 @@
 //! Whether a text is the report of a run.
 
 ghost use Rattle.std.specs.Prelude.{◌≡◌, ◌≤◌, ℕ, All, IfOk, Ok, Some, None, [], length, replicate, sum_by};
-ghost use Rattle.at_ledger.specs.State.{opening_state};
-ghost use Rattle.at_ledger.specs.Files.{IsPlayable, contents_of};
-ghost use Rattle.at_files.specs.Names.{AreNamesOf};
+ghost use Rattle.at_verify.specs.Prelude.{opening_state, IsPlayable, contents_of, AreNamesOf, AreWithinFiles};
 ghost use Rattle.at_verify.specs.Right.{IsFirstWrong, IsReport, IsReportOf};
 ghost use Rattle.at_verify.specs.Walk.{PartsAt};
-ghost use Rattle.at_ledger.specs.NextCalls.{AreWithinFiles};
 
-use crate::NoMemory;
 use crate::comparing::{common, difference, newlines};
 use crate::stepping::next_line;
 use at_base::Counts;
 use at_files::{Names, count_calls};
 use at_ledger::{Book, Call, State};
 use at_report::{push_audit, push_heading, push_line};
-use std::alloc::Global;
+use std::alloc::{AllocError, Global};
 
 /// The most bytes of a text that is verified.
 pub const TEXT_MAX: usize = 8_388_608;
@@ -40,7 +36,7 @@ fn walk(
     made: &mut Counts,
     expected: &mut Vec<u8>,
     text: &[u8],
-) -> Result<Option<usize>, NoMemory>
+) -> Result<Option<usize>, AllocError>
     requires names { AreNamesOf book.now names.now }
     requires processes { length files.now ≡ book.now.processes }
     requires files { All (IsPlayable (length book.now.accounts)) (contents_of files.now) }
@@ -85,7 +81,7 @@ fn parting(
     names: &Names,
     files: &[Vec<Call>],
     text: &[u8],
-) -> Result<Option<usize>, NoMemory>
+) -> Result<Option<usize>, AllocError>
     requires names { AreNamesOf book.now names.now }
     requires processes { length files.now ≡ book.now.processes }
     requires files { All (IsPlayable (length book.now.accounts)) (contents_of files.now) }
@@ -116,7 +112,7 @@ pub fn verify(
     names: &Names,
     files: &[Vec<Call>],
     text: &[u8],
-) -> Result<Verdict, NoMemory>
+) -> Result<Verdict, AllocError>
     requires names { AreNamesOf book.now names.now }
     requires processes { length files.now ≡ book.now.processes }
     requires files { All (IsPlayable (length book.now.accounts)) (contents_of files.now) }

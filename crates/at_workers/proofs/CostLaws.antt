@@ -1,11 +1,7 @@
 -- Calls one after another, and one more.
 use Rattle.std.proofs.Common.{◌≡◌, ◌++◌, List, [], ◌∷◌, length, refl, sym, subst, arith, Option, None, Some}
 use Rattle.std.specs.Prelude.{IfSome}
-use Rattle.std.specs.Option.{is_some}
-use Rattle.at_ledger.specs.Book.{BookTerms}
-use Rattle.at_log.specs.declared.receipt.Receipt.{Receipt}
-use Rattle.at_object.specs.Passes.{PassTerms}
-use Rattle.at_workers.specs.Costs.{CostTerms, TakeCalls, TakesCall, cost_of, costs_with}
+use Rattle.at_workers.proofs.Prelude.{is_some, BookTerms, Receipt, PassTerms, CostTerms, TakeCalls, TakesCall, cost_of, costs_with}
 
 -- none takes the pass nowhere
 pub TakeCalls-none : (b : BookTerms) (pass : PassTerms) (receipts : List Receipt) (costs : List CostTerms) → receipts ≡ []

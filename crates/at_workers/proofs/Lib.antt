@@ -1,3 +1,4 @@
+pub mod Prelude
 -- calls one after another, and what they cost
 pub mod CostLaws
 -- a job whose first calls were made, and one call more

@@ -1,25 +1,7 @@
 -- A job whose first calls were made: how one call more keeps it, and what stands when all were made.
 use Rattle.std.proofs.Common.{◌≡◌, ℕ, ◌+◌, ◌<◌, List, ◌∷◌, [], ◌++◌, length, get_or, set, take, refl, sym, ap, subst, ◌∙◌, arith, length-append, Option, Vec}
-use Rattle.std.proofs.lemmas.List.{get_or-map, length-map, length-take, map-append, take_all, take_more, take_more_set}
-use Rattle.std.specs.Global.{Global}
-use Rattle.std.specs.Option.{is_some}
-use Rattle.std.proofs.Math.Seq.{map-set_same}
-use Rattle.std.specs.Vec.{vec_capacity}
+use Rattle.at_workers.proofs.Prelude.{get_or-map, length-map, length-take, map-append, take_all, take_more, take_more_set, Global, is_some, map-set_same, vec_capacity, BookTerms, IsCallOn, Call, Read, IsPrefix-refl, IsPrefix-trans, IsPrefix, BoardTerms, calls_of, Receipt, begins-CallMade, call-CallMade, process-CallMade, stands-CallMade, CallMade, StaysWithin, IsPassOf, PassTerms, Stands, CostTerms, IsCalled, TakesCall, cost_of, costs_with, HasCosts, IsJob, IsReady, JobTerms, MakesNext, Ran}
 use Rattle.std.specs.Prelude.{◌^◌, slice_index_or, All, IfSome}
-use Rattle.at_ledger.specs.Book.{BookTerms}
-use Rattle.at_ledger.specs.Call.{IsCallOn}
-use Rattle.at_ledger.specs.declared.call.Call.{Call}
-use Rattle.at_ledger.specs.declared.call.Call.TheVariants.{Read}
-use Rattle.at_history.proofs.Laws.Prefixes.{IsPrefix-refl, IsPrefix-trans}
-use Rattle.at_history.specs.Publications.{IsPrefix}
-use Rattle.at_board.specs.Knowledge.Seats.{BoardTerms}
-use Rattle.at_log.specs.Receipts.{calls_of}
-use Rattle.at_log.specs.declared.receipt.Receipt.{Receipt}
-use Rattle.at_object.proofs.Laws.Calls.{begins-CallMade, call-CallMade, process-CallMade, stands-CallMade}
-use Rattle.at_object.specs.Calls.{CallMade, StaysWithin}
-use Rattle.at_object.specs.Passes.{IsPassOf, PassTerms, Stands}
-use Rattle.at_workers.specs.Costs.{CostTerms, IsCalled, TakesCall, cost_of, costs_with}
-use Rattle.at_workers.specs.Jobs.{HasCosts, IsJob, IsReady, JobTerms, MakesNext, Ran}
 use Rattle.at_workers.proofs.CostLaws.{AreCosted, AreCosted-more, AreCosted-none, is_some-costs_with}
 
 -- the receipts stand with the pass still, with that of one more call

@@ -1,9 +1,5 @@
 -- A job may be moved to another thread: each part of it by itself, since one search over all of them meets its limit.
-use denote.Param.Send.{IsSend, sendable, view_send}
-use denote.Param.SendFields.{declared_send}
-use Rattle.std.proofs.Crossing.{crosses}
-use Rattle.at_log.proofs.Sharing.{receipt_send}
-use Rattle.at_object.proofs.Sharing.{pass_send}
+use Rattle.at_workers.proofs.Prelude.{IsSend, sendable, view_send, declared_send, crosses, receipt_send, pass_send}
 use Rattle.at_workers.specs.contracts.cost.CallCost as cost
 use Rattle.at_workers.specs.contracts.job.Job as job
 

@@ -1,6 +1,6 @@
 -- Two lists that are related place by place.
 use Rattle.std.proofs.Common.{◌≡◌, ℕ, suc, ◌<◌, List, [], ◌∷◌, length, get_or, arith}
-use Rattle.std.specs.List.{AllZip}
+use Rattle.at_workers.proofs.Prelude.{AllZip}
 
 pub AllZip-each : {X : Type 0} (R : X → X → Type 0) (xs ys : List X) → length ys ≡ length xs
     → ((i : ℕ) (d : X) → i < length xs → R (get_or xs i d) (get_or ys i d)) → AllZip R xs ys

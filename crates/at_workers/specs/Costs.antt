@@ -1,12 +1,6 @@
 -- What calls cost, and the way that they take a pass.
 use Rattle.std.specs.Prelude.{◌≡◌, ℕ, ◌-◌, ◌++◌, List, [], ◌∷◌, Option}
-use Rattle.std.specs.Option.{option_map}
-use Rattle.at_ledger.specs.Book.{BookTerms}
-use Rattle.at_ledger.specs.declared.call.Call.{Call}
-use Rattle.at_board.specs.Knowledge.Seats.{BoardTerms}
-use Rattle.at_log.specs.declared.receipt.Receipt.{Receipt}
-use Rattle.at_object.specs.Calls.{CallMade, StaysWithin}
-use Rattle.at_object.specs.Passes.{IsPassOf, PassTerms, one_more_call, others_counted}
+use Rattle.at_workers.specs.Prelude.{option_map, BookTerms, Call, BoardTerms, Receipt, CallMade, StaysWithin, IsPassOf, PassTerms, one_more_call, others_counted}
 
 -- steps, how many of them were exchanges, and records of others that were counted anew
 pub record CostTerms : Type 0 where

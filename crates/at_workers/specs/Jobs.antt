@@ -1,16 +1,6 @@
 -- Jobs as callers see them, what the type of a job keeps, and what running it leaves.
 use Rattle.std.specs.Prelude.{◌≡◌, ℕ, ◌^◌, ◌<◌, ◌≤◌, ◌++◌, List, [], ◌∷◌, length, slice_index_or, All, IfSome, Option, Vec}
-use Rattle.std.specs.Global.{Global}
-use Rattle.std.specs.Option.{is_some}
-use Rattle.std.specs.Vec.{vec_capacity}
-use Rattle.at_ledger.specs.Call.{IsCallOn}
-use Rattle.at_ledger.specs.declared.call.Call.{Call}
-use Rattle.at_history.specs.Publications.{IsPrefix}
-use Rattle.at_board.specs.Knowledge.Seats.{BoardTerms}
-use Rattle.at_log.specs.Receipts.{calls_of}
-use Rattle.at_log.specs.declared.receipt.Receipt.{Receipt}
-use Rattle.at_object.specs.Calls.{CallMade, StaysWithin}
-use Rattle.at_object.specs.Passes.{IsPassOf, PassTerms, Stands}
+use Rattle.at_workers.specs.Prelude.{Global, is_some, vec_capacity, IsCallOn, Call, IsPrefix, BoardTerms, calls_of, Receipt, CallMade, StaysWithin, IsPassOf, PassTerms, Stands}
 use Rattle.at_workers.specs.Costs.{CostTerms, TakeCalls, cost_of, costs_with}
 
 -- a job by its pass, its calls, the receipts of those that were made, and what these cost, where that is noted

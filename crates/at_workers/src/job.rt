@@ -1,11 +1,7 @@
 //! Jobs: a pass with the calls to make and their receipts.
 
 ghost use Rattle.std.specs.Prelude.{◌≡◌, ◌^◌, ◌<◌, ◌≤◌, ◌++◌, [], ◌∷◌, IfErr, IfOk, IfSome, length, All, None, Some};
-ghost use Rattle.std.specs.Option.{option_map};
-ghost use Rattle.std.specs.Vec.{vec_capacity};
-ghost use Rattle.at_ledger.specs.Call.{IsCallOn};
-ghost use Rattle.at_log.specs.Receipts.{calls_of};
-ghost use Rattle.at_object.specs.Passes.{IsPassOf, Stands};
+ghost use Rattle.at_workers.specs.Prelude.{option_map, vec_capacity, IsCallOn, calls_of, IsPassOf, Stands};
 ghost use Rattle.at_workers.specs.Costs.{IsCalled, cost_of};
 ghost use Rattle.at_workers.specs.Jobs.{MakesNext};
 
@@ -33,8 +29,7 @@ pub struct Job {
 
 impl Model for Job {
     ghost use Rattle.std.specs.Prelude.{take};
-    ghost use Rattle.std.specs.Option.{option_map};
-    ghost use Rattle.at_log.specs.Receipts.{calls_of};
+    ghost use Rattle.at_workers.specs.Prelude.{option_map, calls_of};
     ghost use Rattle.at_workers.specs.Jobs.{IsJob, JobTerms};
 
     ghost Value = { JobTerms };

@@ -1,7 +1,7 @@
 //! The calls of all jobs, made by threads.
 
 ghost use Rattle.std.specs.Prelude.{All};
-ghost use Rattle.std.specs.List.{AllZip};
+ghost use Rattle.at_workers.specs.Prelude.{AllZip};
 ghost use Rattle.at_workers.specs.Jobs.{IsReady, Ran};
 
 use crate::gate::Gate;

@@ -1,34 +1,7 @@
 -- The last state of a closed board.
 use Rattle.std.proofs.Common.{ap, ◌≡◌, ℕ, ◌+◌, ◌-◌, ◌<◌, List, [], ◌∷◌, ◌++◌, length, get_or, map, take, None, refl, sym, subst, ◌∙◌, arith, inl, inr}
-use Rattle.std.proofs.Math.Seq.{get_or-append_seam}
-use Rattle.std.proofs.lemmas.Bool.{cases_lt}
-use Rattle.std.proofs.lemmas.Grind.{same_number_lists}
-use Rattle.std.proofs.lemmas.List.{get_or-append_right, get_or-map, get_or_append_left, get_or_default, length-append, length-map, length_push, same_lists}
-use Rattle.std.proofs.lemmas.List.Elements.{All-append, All-cons, All-nil, Contains-append_left, Contains-append_right}
-use Rattle.std.proofs.lemmas.List.FromFn.{get_or-map-range_with_len, length-map-range_with_len}
-use Rattle.std.specs.List.{All, Contains, range_with_len}
-use Rattle.atomic_table.specs.Table.{Final, Seen}
-use Rattle.at_ledger.specs.Book.{BookTerms, IsBook}
-use Rattle.at_history.proofs.Laws.Counts.{get_or-publications_of, position_of}
-use Rattle.at_history.proofs.Laws.Fronts.{length-IsFront}
-use Rattle.at_history.proofs.Laws.Prefixes.{IsPrefix-refl, IsPrefix-trans}
-use Rattle.at_history.proofs.Laws.Histories.{IsHistory-Sound}
-use Rattle.at_history.proofs.Laws.Sums.{All-Contains}
-use Rattle.at_history.specs.BoardState.{BoardState, publication_at}
-use Rattle.at_history.specs.Publications.{IsPrefix, count_of, no_publication, publications_of}
-use Rattle.at_history.specs.Sound.{Sound}
-use Rattle.at_history.specs.declared.publication.Publication.{Publication}
+use Rattle.at_board.proofs.Prelude.{get_or-append_seam, cases_lt, same_number_lists, get_or-append_right, get_or-map, get_or_append_left, get_or_default, length-append, length-map, length_push, same_lists, All-append, All-cons, All-nil, Contains-append_left, Contains-append_right, get_or-map-range_with_len, length-map-range_with_len, All, Contains, range_with_len, Final, Seen, BookTerms, IsBook, get_or-publications_of, position_of, length-IsCut, IsPrefix-refl, IsPrefix-trans, IsHistory-Sound, All-Contains, BoardState, publication_at, IsPrefix, count_of, no_publication, publications_of, Sound, Publication, Gathers, IsEnd, IsFreeSeat, end_of, gathered, records_in, records_of, HasPart, IsAnnounced, IsDecided, Knows, asking_on, no_part, own_part, part_at, BoardTerms, SeatTerms, Ruled, length_of, record_width, record_word, word_at, record_words, Shown, Part, Knowledge}
 use Rattle.at_board.proofs.StepLaws.Forms.{IsForm-publications_of}
-use Rattle.at_board.specs.Ends.Closing.{Gathers, IsEnd, IsFreeSeat, end_of, gathered, records_in, records_of}
-use Rattle.at_board.specs.Knowledge.Knows.{HasPart, IsAnnounced, IsDecided, Knows}
-use Rattle.at_board.specs.Knowledge.Parts.{asking_on, no_part, own_part, part_at}
-use Rattle.at_board.specs.Knowledge.Seats.{BoardTerms, SeatTerms}
-use Rattle.at_board.specs.Rule.{Ruled}
-use Rattle.at_board.specs.Words.Addresses.{length_of, record_width, record_word, word_at}
-use Rattle.at_board.specs.Words.Packed.{record_words}
-use Rattle.at_board.specs.Words.Shown.{Shown}
-use Rattle.at_board.specs.declared.knowledge.Part.{Part}
-use Rattle.at_board.specs.declared.knowledge.Knowledge.{Knowledge}
 
 -- a list has all elements of another
 abbrev pub HasAll : {X : Type 0} → List X → List X → Type 0
@@ -123,7 +96,7 @@ length-record_words b s p i sound within =
     let here : publication_at (publications_of p s.published) i ≡ x =
     ap (publication_at (publications_of p s.published)) (sym at.1.before)
     ∙ get_or-publications_of p m s.published no_publication at.1.within (at.1.own no_publication) in
-    let view : length x.view ≡ b.processes = length-IsFront b.processes x.view (take m s.published) (sound.views m at.1.within).front in
+    let view : length x.view ≡ b.processes = length-IsCut b.processes x.view (take m s.published) (sound.views m at.1.within).cut in
     ap (λ (y : Publication). length (record_words y)) here ∙ omega (arith, view)
 
 pub records_of-end_of : (b : BookTerms) (words : List ℕ) (p : ℕ) → p < b.processes → records_of (end_of b words) p ≡ records_in b words p

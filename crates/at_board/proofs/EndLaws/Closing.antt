@@ -1,24 +1,9 @@
 -- Gathering all seats into one keeps the rule.
 use Rattle.std.proofs.Common.{◌≡◌, ◌≢◌, ℕ, ◌+◌, ◌-◌, ◌<◌, ◌==◌, Bool, cond, List, ◌++◌, length, get_or, set, refl, sym, ap, subst, ◌∙◌, arith, inl, inr, ◌⊎◌}
-use lib.ListN.{get_elem?}
-use mathlib.Core.Option.{some, some-injective}
-use Rattle.std.proofs.lemmas.Bool.{cases_eq, cases_lt, eq-eqb, ne_eqb}
-use Rattle.std.proofs.lemmas.List.{get_or_append_left, get_or-append_right, length-append}
-use Rattle.std.proofs.lemmas.List.Elements.{All-append, Contains-append_left, Contains-append_right}
-use Rattle.atomic_table.proofs.Lists.{at_set, set_else, set_here}
-use Rattle.atomic_table.specs.Table.{Joins}
-use Rattle.at_ledger.specs.Book.{BookTerms}
-use Rattle.at_history.proofs.Laws.Prefixes.{IsLonger-longer}
-use Rattle.at_history.specs.BoardState.{BoardState}
+use Rattle.at_board.proofs.Prelude.{get_elem?, some, some-injective, cases_eq, cases_lt, eq-eqb, ne_eqb, get_or_append_left, get_or-append_right, length-append, All-append, Contains-append_left, Contains-append_right, at_set, set_else, set_here, Joins, BookTerms, IsLonger-longer, BoardState, gathered, HasPart, IsAnnounced, IsDecided, Knows, no_part, part_at, AreSeated, Holds, Ruled, spent_knowledge, Knowledge}
 use Rattle.at_board.proofs.KnowledgeLaws.Asking.{HasPart-more, HasRequests}
 use Rattle.at_board.proofs.KnowledgeLaws.Seats.{knows_after, within_found}
 use Rattle.at_board.proofs.StepLaws.Learn.{Knows-spent_knowledge}
-use Rattle.at_board.specs.Ends.Closing.{gathered}
-use Rattle.at_board.specs.Knowledge.Knows.{HasPart, IsAnnounced, IsDecided, Knows}
-use Rattle.at_board.specs.Knowledge.Parts.{no_part, part_at}
-use Rattle.at_board.specs.Rule.{AreSeated, Holds, Ruled}
-use Rattle.at_board.specs.Steps.Learn.{spent_knowledge}
-use Rattle.at_board.specs.declared.knowledge.Knowledge.{Knowledge}
 
 Knows-gathered : (b : BookTerms) (words : List ℕ) (s : BoardState) (v w : Knowledge) → w.first ≡ v.first + length v.parts
     → Knows b words s v → Knows b words s w → Knows b words s (gathered v w)

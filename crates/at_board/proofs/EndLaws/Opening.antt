@@ -1,25 +1,6 @@
 -- The rule holds of a new board.
 use Rattle.std.proofs.Common.{◌≡◌, ℕ, ◌+◌, ◌<◌, zero, suc, cond, List, [], ◌∷◌, length, replicate, refl, sym, ap, subst, ◌∙◌, arith}
-use lib.ListN.{get_elem?}
-use mathlib.Core.Option.{some, some-injective, some-ne-none}
-use Rattle.std.proofs.lemmas.Bool.{le-ltb}
-use Rattle.std.proofs.lemmas.List.{get_or-replicate, length-replicate}
-use Rattle.std.proofs.lemmas.List.Elements.{All-nil}
-use Rattle.at_base.specs.Decision.{word_of}
-use Rattle.at_ledger.specs.Book.{BookTerms}
-use Rattle.at_history.proofs.Laws.Counts.{count_of-nil}
-use Rattle.at_history.proofs.Laws.Prefixes.{IsPrefix-refl}
-use Rattle.at_history.proofs.Laws.Sums.{get_or-zeros}
-use Rattle.at_history.proofs.Steps.Overtaking.{Overtaking-starting}
-use Rattle.at_history.proofs.Steps.Start.{starting_state, Sound-starting}
-use Rattle.at_history.specs.BoardState.{decision_at}
-use Rattle.at_board.specs.Knowledge.Knows.{HasAsking, HasPart, IsAnnounced, IsDecided, Knows}
-use Rattle.at_board.specs.Knowledge.Parts.{no_asking, no_part, starting_asking, starting_part, starting_knowledge}
-use Rattle.at_board.specs.Rule.{Ruled}
-use Rattle.at_board.specs.Words.Addresses.{Address, announced_of, cell_of, length_of, index_of, record_width, record_word, request_word, word_at, word_count}
-use Rattle.at_board.specs.Words.Shown.{Shown}
-use Rattle.at_board.specs.declared.knowledge.LoadedWord.{LoadedWord}
-use Rattle.at_board.specs.declared.knowledge.Knowledge.{Knowledge}
+use Rattle.at_board.proofs.Prelude.{get_elem?, some, some-injective, some-ne-none, le-ltb, get_or-replicate, length-replicate, All-nil, word_of, BookTerms, count_of-nil, IsPrefix-refl, get_or-zeros, Overtaking-starting, starting_state, Sound-starting, decision_at, HasAsking, HasPart, IsAnnounced, IsDecided, Knows, no_asking, no_part, starting_asking, starting_part, starting_knowledge, Ruled, Address, announced_of, cell_of, length_of, index_of, record_width, record_word, request_word, word_at, word_count, Shown, LoadedWord, Knowledge}
 
 -- all words are 0
 abbrev pub starting_words : BookTerms → List ℕ

@@ -1,7 +1,6 @@
 -- Reading the words of a closed table.
 use Rattle.std.proofs.Common.{◌≡◌, ℕ, zero, suc, List, [], ◌∷◌, get_or, sym}
-use lib.ListN.{get_elem?}
-use mathlib.Core.Option.{some, some-injective, some-ne-none}
+use Rattle.at_board.proofs.Prelude.{get_elem?, some, some-injective, some-ne-none}
 
 -- the word that a closed table gives is the one that stands there
 pub get_or-get_elem : (words : List ℕ) (i word d : ℕ) → get_elem? words i ≡ some word → get_or words i d ≡ word

@@ -1,24 +1,6 @@
 -- What a seat has seen is so on the board, and agrees, since one sound state has it all.
 use Rattle.std.proofs.Common.{List, subst, ◌≡◌, ℕ, ◌<◌, ◌≤◌, length, sym, ap, ◌∙◌}
-use Rattle.std.proofs.lemmas.List.Elements.{All-contains}
-use Rattle.std.specs.List.{All, Contains}
-use Rattle.at_base.specs.declared.decision.Decision.{Decision}
-use Rattle.at_ledger.specs.Book.{BookTerms}
-use Rattle.at_history.proofs.Laws.DecisionNumbers.{same_round}
-use Rattle.at_history.proofs.Laws.Prefixes.{each_record}
-use Rattle.at_history.specs.BoardState.{BoardState, decision_at, publication_at, request_at}
-use Rattle.at_history.specs.Fronts.{prefix_of}
-use Rattle.at_history.specs.Sound.{IsSoundDecision, IsSoundEntry, Sound}
-use Rattle.at_history.specs.declared.publication.Entry.{Entry}
-use Rattle.at_history.specs.declared.publication.Entry.TheVariants.{Own, Round}
-use Rattle.at_history.specs.declared.publication.Publication.{Publication}
-use Rattle.at_history.specs.declared.request.Request.{Request}
-use Rattle.at_board.specs.Knowledge.Agreement.{AgreesOnDecision, AgreesOnEntry, AgreesWithSeen}
-use Rattle.at_board.specs.Knowledge.Knows.{IsAnnounced, IsDecided, Knows}
-use Rattle.at_board.specs.Knowledge.Parts.{SeesDecision, SeesRequest}
-use Rattle.at_board.specs.declared.knowledge.SeenDecision.{SeenDecision}
-use Rattle.at_board.specs.declared.knowledge.SeenRequest.{SeenRequest}
-use Rattle.at_board.specs.declared.knowledge.Knowledge.{Knowledge}
+use Rattle.at_board.proofs.Prelude.{All-contains, All, Contains, Decision, BookTerms, same_round, each_record, BoardState, decision_at, publication_at, request_at, prefix_of, IsSoundDecision, IsSoundEntry, Sound, Entry, Own, Round, Publication, Request, AgreesOnDecision, AgreesOnEntry, AgreesWithSeen, IsAnnounced, IsDecided, Knows, SeesDecision, SeesRequest, SeenDecision, SeenRequest, Knowledge}
 
 -- what a seat has seen is so on the board
 pub seen_decision : (s : BoardState) (ds : List SeenDecision) (x : SeenDecision) → All (IsDecided s) ds → Contains ds x → IsDecided s x

@@ -1,23 +1,7 @@
 -- What stays of the parts of processes when a seat learns more, when rows of requests grow, or when words of requests change.
 use Rattle.std.proofs.Common.{◌≡◌, ◌≢◌, ℕ, ◌+◌, ◌<◌, List, length, get_or, set, refl, sym, subst, ◌∙◌, arith, inl, inr, ap, Some}
-use Rattle.std.proofs.lemmas.Bool.{cases_eq}
-use Rattle.std.proofs.lemmas.List.{get_or-set_other, get_or-set_same, length-set}
-use Rattle.std.proofs.lemmas.List.Elements.{All-weaker}
-use Rattle.std.specs.List.{All, Contains}
-use Rattle.at_ledger.specs.Book.{BookTerms, HasSlot}
-use Rattle.at_history.proofs.Laws.Prefixes.{IsPrefix-refl, IsPrefix-count_of}
-use Rattle.at_history.proofs.Steps.Announce.{Asked, Grows, SameAsked, SameAsked-refl, asked_of, length-Grows, request_at-Grows, with_asked}
-use Rattle.at_history.specs.BoardState.{BoardState, request_at}
-use Rattle.at_history.specs.Publications.{IsPrefix, count_of}
+use Rattle.at_board.proofs.Prelude.{cases_eq, get_or-set_other, get_or-set_same, length-set, All-weaker, All, Contains, BookTerms, HasSlot, IsPrefix-refl, IsPrefix-count_of, Asked, Grows, SameAsked, SameAsked-refl, asked_of, length-Grows, request_at-Grows, with_asked, BoardState, request_at, IsPrefix, count_of, HasAsking, HasPart, IsAnnounced, Knows, part_asking, asking_on, no_asking, own_part, part_at, with_part, IsAddress, request_word, word_at, Asking, LoadedWord, Part, SeenRequest, Knowledge}
 use Rattle.at_board.proofs.WordLaws.Same.{SameRecordWords}
-use Rattle.at_board.specs.Knowledge.Knows.{HasAsking, HasPart, IsAnnounced, Knows}
-use Rattle.at_board.specs.Knowledge.Parts.{part_asking, asking_on, no_asking, own_part, part_at, with_part}
-use Rattle.at_board.specs.Words.Addresses.{IsAddress, request_word, word_at}
-use Rattle.at_board.specs.declared.knowledge.Asking.{Asking}
-use Rattle.at_board.specs.declared.knowledge.LoadedWord.{LoadedWord}
-use Rattle.at_board.specs.declared.knowledge.Part.{Part}
-use Rattle.at_board.specs.declared.knowledge.SeenRequest.{SeenRequest}
-use Rattle.at_board.specs.declared.knowledge.Knowledge.{Knowledge}
 
 pub IsAnnounced-Grows : (s : BoardState) (t : Asked) (x : SeenRequest) → Grows s.rows t.rows → IsAnnounced s x → IsAnnounced (with_asked s t) x
 IsAnnounced-Grows s t x grows is =

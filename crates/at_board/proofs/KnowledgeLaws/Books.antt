@@ -1,7 +1,6 @@
 -- What callers know by the board's book, by the book that the seat knows.
 use Rattle.std.proofs.Common.{◌≡◌, sym, subst}
-use Rattle.at_ledger.specs.Book.{BookTerms}
-use Rattle.at_board.specs.declared.knowledge.Knowledge.{Knowledge}
+use Rattle.at_board.proofs.Prelude.{BookTerms, Knowledge}
 
 -- from the board's book and what callers see of the seat to the seat's own
 pub to_seat : (P : BookTerms → Knowledge → Type 0) (b : BookTerms) (v u : Knowledge) → v.book ≡ b → u ≡ v → P b v → P u.book u

@@ -1,27 +1,7 @@
 -- What a seat that proposes knows of the requests of the board.
 use Rattle.std.proofs.Common.{◌≡◌, ◌⊎◌, ℕ, ◌-◌, ◌<◌, ◌≤◌, List, false, length, take, refl, sym, ap, subst, ◌∙◌, arith, inl, inr}
-use Rattle.std.proofs.lemmas.Bool.{cases_lt}
-use Rattle.std.proofs.lemmas.List.Elements.{All-contains}
-use Rattle.std.specs.List.{Contains}
-use Rattle.at_base.specs.declared.decision.Decision.{Decision}
-use Rattle.at_ledger.specs.Book.{BookTerms}
-use Rattle.at_history.proofs.Laws.Prefixes.{take-IsPrefix-le}
-use Rattle.at_history.proofs.Steps.Overtaking.{IsOldestRequest}
-use Rattle.at_history.specs.BoardState.{BoardState, request_at}
-use Rattle.at_history.specs.Overtaking.{HasLoadedBefore, IsLastRequest}
-use Rattle.at_history.specs.Rounds.{is_settled}
-use Rattle.at_history.specs.Sound.{Sound}
-use Rattle.at_history.specs.declared.request.Request.{Request}
-use Rattle.at_history.specs.declared.request.SeenRow.{SeenRow}
+use Rattle.at_board.proofs.Prelude.{cases_lt, All-contains, Contains, Decision, BookTerms, take-IsPrefix-le, IsOldestRequest, BoardState, request_at, HasLoadedBefore, IsLastRequest, is_settled, Sound, Request, SeenRow, ComesFirst, HasLoadedRow, HasAsking, HasPart, IsAnnounced, Knows, HasLoadedRequest, asking_on, own_part, seen_as, MayPropose, Asking, Knowledge, LoadedWord, SeenRequest}
 use Rattle.at_board.proofs.KnowledgeLaws.Agreement.{seen_request}
-use Rattle.at_board.specs.Knowledge.Candidates.{ComesFirst, HasLoadedRow}
-use Rattle.at_board.specs.Knowledge.Knows.{HasAsking, HasPart, IsAnnounced, Knows}
-use Rattle.at_board.specs.Knowledge.Parts.{HasLoadedRequest, asking_on, own_part, seen_as}
-use Rattle.at_board.specs.Steps.Decide.{MayPropose}
-use Rattle.at_board.specs.declared.knowledge.Asking.{Asking}
-use Rattle.at_board.specs.declared.knowledge.Knowledge.{Knowledge}
-use Rattle.at_board.specs.declared.knowledge.LoadedWord.{LoadedWord}
-use Rattle.at_board.specs.declared.knowledge.SeenRequest.{SeenRequest}
 
 since-ComesFirst : (slot : ℕ) (r : Request) (other : ℕ) (q : Request) → ComesFirst slot r other q → r.since ≤ q.since
 since-ComesFirst slot r other q (inl older) = omega (arith, older)

@@ -1,21 +1,7 @@
 -- The counts of requests that a seat keeps, over each kind of step.
 use Rattle.std.proofs.Common.{◌≡◌, ℕ, ◌<◌, List, length, get_or, replicate, set, refl, sym, ap, subst, ◌∙◌, arith, inl, inr}
-use Rattle.std.proofs.lemmas.Bool.{cases_eq}
-use Rattle.std.proofs.lemmas.List.{get_or-replicate, get_or-set_other, get_or-set_same, length-replicate, length-set}
-use Rattle.at_ledger.specs.Book.{BookTerms}
-use Rattle.at_history.proofs.Laws.Sums.{get_or-zeros}
-use Rattle.at_history.specs.declared.publication.Publication.{Publication}
+use Rattle.at_board.proofs.Prelude.{cases_eq, get_or-replicate, get_or-set_other, get_or-set_same, length-replicate, length-set, BookTerms, get_or-zeros, Publication, starting_seat, part_asking, with_asking, with_part, asking_on, no_asking, own_part, starting_asking, HasCounts, LoadsLength, with_load, Publishes, with_record, StoresWord, with_word, Asking, Part, SeenRequest, Knowledge}
 use Rattle.at_board.proofs.KnowledgeLaws.Asking.{own_part-with_part}
-use Rattle.at_board.specs.Ends.Opening.{starting_seat}
-use Rattle.at_board.specs.Knowledge.Parts.{part_asking, with_asking, with_part, asking_on, no_asking, own_part, starting_asking}
-use Rattle.at_board.specs.Knowledge.Seats.{HasCounts}
-use Rattle.at_board.specs.Steps.LoadLength.{LoadsLength, with_load}
-use Rattle.at_board.specs.Steps.Publish.{Publishes, with_record}
-use Rattle.at_board.specs.Steps.StoreRecordWord.{StoresWord, with_word}
-use Rattle.at_board.specs.declared.knowledge.Asking.{Asking}
-use Rattle.at_board.specs.declared.knowledge.Part.{Part}
-use Rattle.at_board.specs.declared.knowledge.SeenRequest.{SeenRequest}
-use Rattle.at_board.specs.declared.knowledge.Knowledge.{Knowledge}
 
 -- a seat with another part, in which as many requests are announced
 pub HasCounts-with_part : (v : Knowledge) (q : Part) (counts : List ℕ) → 0 < length v.parts

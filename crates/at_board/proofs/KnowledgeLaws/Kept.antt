@@ -1,41 +1,9 @@
 -- What the type of a seat keeps follows from the rule, whatever step was made.
 use Rattle.std.proofs.Common.{◌≡◌, ℕ, ◌+◌, ◌<◌, ◌≤◌, ◌^◌, List, [], true, false, length, take, set, refl, sym, ap, subst, ◌∙◌, arith, inl, inr}
-use lib.ListN.{get_elem?}
-use mathlib.Core.Option.{some}
-use Rattle.std.proofs.lemmas.Bool.{cases_lt}
-use Rattle.std.proofs.lemmas.List.{append-nil, get_or_past}
-use Rattle.std.proofs.lemmas.List.Elements.{All-weaker}
-use Rattle.atomic_table.proofs.Lists.{set_here}
-use Rattle.at_base.specs.declared.decision.Decision.{Decision}
-use Rattle.at_ledger.specs.Account.{no_account, slots_of}
-use Rattle.at_ledger.specs.Book.{BookTerms, IsBegun, IsBook, account_of}
-use Rattle.at_history.proofs.Laws.DecisionNumbers.{named-is_settled}
-use Rattle.at_history.proofs.Laws.Histories.{IsHistory-Sound, is_settled-named}
-use Rattle.at_history.proofs.Laws.Overtaking.{rounds-Overtaking}
-use Rattle.at_history.proofs.Laws.Prefixes.{IsPrefix-length, take-IsPrefix, take-IsPrefix-le}
-use Rattle.at_history.proofs.Laws.Rooms.{log_room_of-le}
-use Rattle.at_history.specs.BoardState.{BoardState, decision_at}
-use Rattle.at_history.specs.Fronts.{places_max}
-use Rattle.at_history.specs.Histories.{IsHistory}
-use Rattle.at_history.specs.Overtaking.{IsLastRequest, Overtaking}
-use Rattle.at_history.specs.Publications.{count_of}
-use Rattle.at_history.specs.Rounds.{is_settled, named, rounds}
-use Rattle.at_history.specs.Sound.{AreTargets, IsSoundDecision, Sound}
-use Rattle.at_history.specs.declared.publication.Publication.{Publication}
-use Rattle.at_history.specs.declared.request.Request.{Request}
+use Rattle.at_board.proofs.Prelude.{get_elem?, some, cases_lt, append-nil, get_or_past, All-weaker, set_here, Decision, no_account, slots_of, BookTerms, IsBegun, IsBook, account_of, named-is_settled, IsHistory-Sound, is_settled-named, rounds-Overtaking, IsPrefix-length, take-IsPrefix, take-IsPrefix-le, log_room_of-le, BoardState, decision_at, places_max, IsHistory, IsLastRequest, Overtaking, count_of, is_settled, named, rounds, AreTargets, IsSoundDecision, Sound, Publication, Request, DecisionInRange, RequestInRange, SeesInRange, HasPart, IsAnnounced, IsDecided, Knows, own_part, with_part, FewOvertake, IsKept, IsSeat, NamesOnlyAnnounced, Ruled, record_word, Knowledge, Part, SeenDecision, SeenRequest}
 use Rattle.at_board.proofs.KnowledgeLaws.Agreement.{AgreesWithSeen-Knows, seen_decision}
 use Rattle.at_board.proofs.KnowledgeLaws.Asking.{own_part-with_part}
 use Rattle.at_board.proofs.KnowledgeLaws.Seats.{within_found}
-use Rattle.at_board.specs.Knowledge.Agreement.{DecisionInRange, RequestInRange, SeesInRange}
-use Rattle.at_board.specs.Knowledge.Knows.{HasPart, IsAnnounced, IsDecided, Knows}
-use Rattle.at_board.specs.Knowledge.Parts.{own_part, with_part}
-use Rattle.at_board.specs.Knowledge.Seats.{FewOvertake, IsKept, IsSeat, NamesOnlyAnnounced}
-use Rattle.at_board.specs.Rule.{Ruled}
-use Rattle.at_board.specs.Words.Addresses.{record_word}
-use Rattle.at_board.specs.declared.knowledge.Knowledge.{Knowledge}
-use Rattle.at_board.specs.declared.knowledge.Part.{Part}
-use Rattle.at_board.specs.declared.knowledge.SeenDecision.{SeenDecision}
-use Rattle.at_board.specs.declared.knowledge.SeenRequest.{SeenRequest}
 
 -- an account that has slots is one of the book's
 account-slots_of : (b : BookTerms) (a slot : ℕ) → slot < slots_of (account_of b a) → a < length b.accounts

@@ -1,19 +1,6 @@
 -- The words of the records that a seat has seen.
 use Rattle.std.proofs.Common.{ℕ, ◌<◌, List, get_or, ap, ◌∙◌, arith}
-use Rattle.at_ledger.specs.Book.{BookTerms}
-use Rattle.at_history.proofs.Laws.Histories.{process-IsHistory}
-use Rattle.at_history.proofs.Laws.Prefixes.{IsPrefix-count_of, publications_of-IsPrefix}
-use Rattle.at_history.specs.BoardState.{BoardState}
-use Rattle.at_history.specs.Publications.{count_of}
-use Rattle.at_history.specs.declared.publication.Publication.{Publication}
-use Rattle.at_board.specs.Knowledge.Knows.{Knows}
-use Rattle.at_board.specs.Knowledge.Records.{IsRecordWord}
-use Rattle.at_board.specs.Knowledge.Seats.{IsKept}
-use Rattle.at_board.specs.Steps.LoadRecordWord.{MayLoadWord}
-use Rattle.at_board.specs.Words.Addresses.{IsAddress, record_width, record_word, word_at}
-use Rattle.at_board.specs.Words.Packed.{record_words}
-use Rattle.at_board.specs.Words.Shown.{Shown}
-use Rattle.at_board.specs.declared.knowledge.Knowledge.{Knowledge}
+use Rattle.at_board.proofs.Prelude.{BookTerms, process-IsHistory, IsPrefix-count_of, publications_of-IsPrefix, BoardState, count_of, Publication, Knows, IsRecordWord, IsKept, MayLoadWord, IsAddress, record_width, record_word, word_at, record_words, Shown, Knowledge}
 
 -- the board has the word
 pub IsAddress-MayLoadWord : (v : Knowledge) (p i j : ℕ) → IsKept v → MayLoadWord v.book v p i j → IsAddress v.book (record_word p i j)

@@ -1,14 +1,6 @@
 -- The seats of a table, when one of them makes a step.
 use Rattle.std.proofs.Common.{◌≡◌, ◌≢◌, ℕ, ◌<◌, zero, suc, List, [], ◌∷◌, length, set, sym, ap, subst, ◌∙◌, arith, inl, inr}
-use lib.ListN.{get_elem?}
-use mathlib.Core.Option.{some, some-injective, some-ne-none}
-use Rattle.std.proofs.lemmas.Bool.{cases_eq}
-use Rattle.atomic_table.proofs.Lists.{at_set, set_else, set_here}
-use Rattle.at_ledger.specs.Book.{BookTerms}
-use Rattle.at_history.specs.BoardState.{BoardState}
-use Rattle.at_board.specs.Knowledge.Knows.{Knows}
-use Rattle.at_board.specs.Rule.{AreSeated, Holds}
-use Rattle.at_board.specs.declared.knowledge.Knowledge.{Knowledge}
+use Rattle.at_board.proofs.Prelude.{get_elem?, some, some-injective, some-ne-none, cases_eq, at_set, set_else, set_here, BookTerms, BoardState, Knows, AreSeated, Holds, Knowledge}
 
 pub within_found : (knowledge : List Knowledge) (id : ℕ) (v : Knowledge) → get_elem? knowledge id ≡ some v → id < length knowledge
 within_found [] id v found = absurd (some-ne-none v (sym found))

@@ -1,22 +1,6 @@
 -- Announcing keeps the rule.
 use Rattle.std.proofs.Common.{◌≡◌, ◌≢◌, ℕ, ◌+◌, ◌<◌, ◌≤◌, zero, List, [], ◌∷◌, ◌++◌, length, get_or, set, true, refl, sym, ap, subst, ◌∙◌, arith, inl, inr}
-use lib.ListN.{get_elem?}
-use mathlib.Core.Option.{some, none}
-use Rattle.std.proofs.lemmas.Bool.{cases_lt}
-use Rattle.std.proofs.lemmas.List.{get_or_append_left, get_or_push, length-replicate, length-set, length_push}
-use Rattle.std.proofs.lemmas.List.Elements.{All-nil, All-push, Contains-append_left, Contains-push}
-use Rattle.std.specs.List.{Contains}
-use Rattle.atomic_table.specs.Table.{Allows, Me, keeps, step}
-use Rattle.at_ledger.specs.Book.{BookTerms, IsBegun, HasSlot}
-use Rattle.at_history.proofs.Laws.Prefixes.{IsPrefix-length, IsPrefix-refl, take-IsPrefix-le}
-use Rattle.at_history.proofs.Laws.Histories.{IsHistory-Sound}
-use Rattle.at_history.proofs.Laws.Slots.{other_slot}
-use Rattle.at_history.proofs.Laws.Sums.{get_or-zeros}
-use Rattle.at_history.proofs.Steps.Announce.{Asked, Grows-announced, IsNextRequest, SameAsked-announced, Sound-announced, announced, announced_rows, announced_rows-here, announced_rows-other, asked_of, at_slot-here, length-Grows, slot_cases, with_asked}
-use Rattle.at_history.proofs.Steps.Overtaking.{Overtaking-announced}
-use Rattle.at_history.specs.BoardState.{BoardState, request_at}
-use Rattle.at_history.specs.Rounds.{is_settled, rounds}
-use Rattle.at_history.specs.declared.request.Request.{Request}
+use Rattle.at_board.proofs.Prelude.{get_elem?, some, none, cases_lt, get_or_append_left, get_or_push, length-replicate, length-set, length_push, All-nil, All-push, Contains-append_left, Contains-push, Contains, Allows, Me, keeps, step, BookTerms, IsBegun, HasSlot, IsPrefix-length, IsPrefix-refl, take-IsPrefix-le, IsHistory-Sound, other_slot, get_or-zeros, Asked, Grows-announced, IsNextRequest, SameAsked-announced, Sound-announced, announced, announced_rows, announced_rows-here, announced_rows-other, asked_of, at_slot-here, length-Grows, slot_cases, with_asked, Overtaking-announced, BoardState, request_at, is_settled, rounds, Request, HasAsking, HasPart, IsAnnounced, Knows, part_asking, seen_as, with_asking, asking_on, own_part, part_at, HasCounts, IsKept, Ruled, MayAnnounce, Announces, with_request, announced_request, IsAddress, Address, announced_of, cell_of, length_of, index_of, record_word, request_word, word_at, request_words, Shown, Asking, LoadedWord, Part, SeenRequest, Knowledge}
 use Rattle.at_board.proofs.KnowledgeLaws.Agreement.{AgreesWithSeen-Knows}
 use Rattle.at_board.proofs.KnowledgeLaws.Asking.{HasPart-asking, HasPart-kept, IsLeft, Knows-kept, SameRequest, SeesMore, all_announced}
 use Rattle.at_board.proofs.KnowledgeLaws.Counts.{HasCounts-counted}
@@ -30,20 +14,6 @@ use Rattle.at_board.proofs.KnowledgeLaws.Kept.{IsKept-step}
 use Rattle.at_board.proofs.StepLaws.Table.{allowed_at}
 use Rattle.at_board.proofs.WordLaws.Addresses.{word_at-set_other, word_at-set_same, index_of-injective}
 use Rattle.at_board.proofs.WordLaws.Packed.{ArePacked-AreTargets, request_words-injective}
-use Rattle.at_board.specs.Knowledge.Knows.{HasAsking, HasPart, IsAnnounced, Knows}
-use Rattle.at_board.specs.Knowledge.Parts.{part_asking, seen_as, with_asking, asking_on, own_part, part_at}
-use Rattle.at_board.specs.Knowledge.Seats.{HasCounts, IsKept}
-use Rattle.at_board.specs.Rule.{Ruled}
-use Rattle.at_board.specs.Steps.Announce.{MayAnnounce, Announces, with_request}
-use Rattle.at_board.specs.Steps.Plays.{announced_request}
-use Rattle.at_board.specs.Words.Addresses.{IsAddress, Address, announced_of, cell_of, length_of, index_of, record_word, request_word, word_at}
-use Rattle.at_board.specs.Words.Packed.{request_words}
-use Rattle.at_board.specs.Words.Shown.{Shown}
-use Rattle.at_board.specs.declared.knowledge.Asking.{Asking}
-use Rattle.at_board.specs.declared.knowledge.LoadedWord.{LoadedWord}
-use Rattle.at_board.specs.declared.knowledge.Part.{Part}
-use Rattle.at_board.specs.declared.knowledge.SeenRequest.{SeenRequest}
-use Rattle.at_board.specs.declared.knowledge.Knowledge.{Knowledge}
 
 -- the words after an announcing step
 abbrev pub announced_words : BookTerms → List ℕ → ℕ → ℕ → ℕ → List ℕ

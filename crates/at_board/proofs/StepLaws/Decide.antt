@@ -1,33 +1,6 @@
 -- An exchange on a cell keeps the rule.
 use Rattle.std.proofs.Common.{◌≡◌, ℕ, ◌+◌, ◌<◌, ◌==◌, List, [], ◌∷◌, length, get_or, set, Option, Some, None, refl, sym, ap, subst, ◌∙◌, arith, inl, inr, ◌≢◌, ◌≤◌, Bool, cond, zero, ◌++◌, ◌↔◌, true, false, take}
-use lib.ListN.{get_elem?}
-use mathlib.Core.Option.{none, some}
-use prog.Atomic.{either}
-use Rattle.std.proofs.lemmas.Bool.{cases_eq, cases_lt, eq-eqb, ne_eqb, le-ltb, lt-ltb}
-use Rattle.std.proofs.lemmas.List.{get_or-set_other, get_or-set_same, length-set, set-get_or, get_or_push, length_push}
-use Rattle.std.proofs.lemmas.List.Elements.{All-append, All-cons, All-nil, All-contains}
-use Rattle.std.specs.List.{All, Contains}
-use Rattle.at_base.proofs.DecisionLaws.{same_decision}
-use Rattle.at_base.specs.Decision.{word_of}
-use Rattle.at_base.specs.declared.decision.Decision.{Decision}
-use Rattle.atomic_table.specs.Table.{Allows, Me, keeps, step}
-use Rattle.at_ledger.specs.Book.{BookTerms, IsBegun}
-use Rattle.at_ledger.specs.Call.{amount_of}
-use Rattle.at_history.proofs.Laws.DecisionNumbers.{no_decision}
-use Rattle.at_history.proofs.Laws.HasRuns.{HasRuns-Sound}
-use Rattle.at_history.proofs.Laws.Histories.{rounds-unsettled, IsHistory-Sound, named-decided}
-use Rattle.at_history.proofs.Laws.Prefixes.{IsPrefix-refl, IsPrefix-length, take-IsPrefix-le}
-use Rattle.at_history.proofs.Laws.RoundsDecided.{AreDecided-take}
-use Rattle.at_history.proofs.Steps.Decide.{cell, decided, Sound-decided, cells-own, cells-other, KeptCells-push, KeptCells-decided, held-other, held-own, IsNextDecision}
-use Rattle.at_history.proofs.Steps.Overtaking.{Overtaking-decided}
-use Rattle.at_history.specs.Balances.{IsCovered}
-use Rattle.at_history.specs.BoardState.{BoardState, decision_at, request_at}
-use Rattle.at_history.specs.Histories.{IsHistory}
-use Rattle.at_history.specs.Publications.{IsPrefix, count_of}
-use Rattle.at_history.specs.Rounds.{is_settled, named, rounds}
-use Rattle.at_history.specs.Sound.{IsSoundDecision, Sound}
-use Rattle.at_history.specs.declared.cell.Cell.{Cell}
-use Rattle.at_history.specs.declared.request.Request.{Request}
+use Rattle.at_board.proofs.Prelude.{get_elem?, none, some, either, cases_eq, cases_lt, eq-eqb, ne_eqb, le-ltb, lt-ltb, get_or-set_other, get_or-set_same, length-set, set-get_or, get_or_push, length_push, All-append, All-cons, All-nil, All-contains, All, Contains, same_decision, word_of, Decision, Allows, Me, keeps, step, BookTerms, IsBegun, amount_of, no_decision, HasRuns-Sound, rounds-unsettled, IsHistory-Sound, named-decided, IsPrefix-refl, IsPrefix-length, take-IsPrefix-le, AreDecided-take, cell, decided, Sound-decided, cells-own, cells-other, KeptCells-push, KeptCells-decided, held-other, held-own, IsNextDecision, Overtaking-decided, IsCovered, BoardState, decision_at, request_at, IsHistory, IsPrefix, count_of, is_settled, named, rounds, IsSoundDecision, Sound, Cell, Request, SeesInRange, RequestInRange, HasPart, Knows, HasAsking, IsDecided, IsAnnounced, with_part, asking_on, no_asking, own_part, SeesDecision, part_at, HasCounts, IsKept, Ruled, MayPropose, Decides, decided_round, with_decide, with_decision, word_after, with_count, IsAddress, cell_of, index_of, record_word, request_word, word_at, Address, announced_of, length_of, cell_word, Shown, Asking, Knowledge, Part, SeenDecision, SeenRequest}
 use Rattle.at_board.proofs.StepLaws.Table.{allowed_at}
 use Rattle.at_board.proofs.KnowledgeLaws.Agreement.{seen_decision, AgreesWithSeen-Knows, seen_request}
 use Rattle.at_board.proofs.KnowledgeLaws.Asking.{HasPart-all}
@@ -39,20 +12,6 @@ use Rattle.at_board.proofs.StepLaws.StoreRecordWord.{other_process}
 use Rattle.at_board.proofs.KnowledgeLaws.Kept.{IsKept-step}
 use Rattle.at_board.proofs.WordLaws.Addresses.{index_of-injective, word_at-set_other, word_at-set_same}
 use Rattle.at_board.proofs.WordLaws.Same.{SameRecordWords, SameRequestWords}
-use Rattle.at_board.specs.Knowledge.Agreement.{SeesInRange, RequestInRange}
-use Rattle.at_board.specs.Knowledge.Knows.{HasPart, Knows, HasAsking, IsDecided, IsAnnounced}
-use Rattle.at_board.specs.Knowledge.Parts.{with_part, asking_on, no_asking, own_part, SeesDecision, part_at}
-use Rattle.at_board.specs.Knowledge.Seats.{HasCounts, IsKept}
-use Rattle.at_board.specs.Rule.{Ruled}
-use Rattle.at_board.specs.Steps.Decide.{MayPropose, Decides, decided_round, with_decide, with_decision, word_after, with_count}
-use Rattle.at_board.specs.Words.Addresses.{IsAddress, cell_of, index_of, record_word, request_word, word_at, Address, announced_of, length_of}
-use Rattle.at_board.specs.Words.Packed.{cell_word}
-use Rattle.at_board.specs.Words.Shown.{Shown}
-use Rattle.at_board.specs.declared.knowledge.Asking.{Asking}
-use Rattle.at_board.specs.declared.knowledge.Knowledge.{Knowledge}
-use Rattle.at_board.specs.declared.knowledge.Part.{Part}
-use Rattle.at_board.specs.declared.knowledge.SeenDecision.{SeenDecision}
-use Rattle.at_board.specs.declared.knowledge.SeenRequest.{SeenRequest}
 
 -- the cell of a round for which the seat may propose
 pub IsAddress-MayPropose : (v : Knowledge) (a round : ℕ) (d : Decision) (r : Request) → IsHistory v.book v.seen

@@ -1,31 +1,8 @@
 -- The numbers of entries that a seat may publish, or has seen, fit their words.
 use Rattle.std.proofs.Common.{◌≡◌, ℕ, ◌<◌, ◌≤◌, List, length, refl, sym, ap, subst, ◌∙◌, arith, inl, inr}
-use Rattle.std.proofs.lemmas.List.{length-take}
-use Rattle.std.proofs.lemmas.List.Elements.{All-from_get_or}
-use Rattle.std.proofs.lemmas.List.Sums.{get_or-le-sum_by}
-use Rattle.at_ledger.specs.Account.{no_account, rounds_room}
-use Rattle.at_ledger.specs.Book.{BookTerms, IsBegun}
-use Rattle.at_history.proofs.Laws.Counts.{get_or-publications_of, position_of}
-use Rattle.at_history.proofs.Laws.RoundSums.{rounds-le-length}
-use Rattle.at_history.proofs.Laws.Sums.{All-Contains}
-use Rattle.at_history.specs.BoardState.{publication_at}
-use Rattle.at_history.specs.Fronts.{place, places_max, prefix_of}
-use Rattle.at_history.specs.Histories.{IsShownDecision, IsHistory, IsShownEntry}
-use Rattle.at_history.specs.Publications.{count_of, no_publication, publications_of}
-use Rattle.at_history.specs.Sound.{AreTargets}
-use Rattle.at_history.specs.declared.publication.Entry.{Entry}
-use Rattle.at_history.specs.declared.publication.Entry.TheVariants.{Own, Round}
-use Rattle.at_history.specs.declared.publication.Publication.{Publication}
+use Rattle.at_board.proofs.Prelude.{length-take, All-from_get_or, get_or-le-sum_by, no_account, rounds_room, BookTerms, IsBegun, get_or-publications_of, position_of, rounds-le-length, All-Contains, publication_at, place, places_max, prefix_of, IsShownDecision, IsHistory, IsShownEntry, count_of, no_publication, publications_of, AreTargets, Entry, Own, Round, Publication, DecisionInRange, RequestInRange, SeesInRange, SeesForms, IsSeat, MayEnter, FitsNext, IsForm, Knowledge, SeenDecision, SeenRequest}
 use Rattle.at_board.proofs.StepLaws.LogRoom.{published-MayEnter}
 use Rattle.at_board.proofs.WordLaws.Packed.{ArePacked-AreTargets}
-use Rattle.at_board.specs.Knowledge.Agreement.{DecisionInRange, RequestInRange, SeesInRange}
-use Rattle.at_board.specs.Knowledge.Records.{SeesForms}
-use Rattle.at_board.specs.Knowledge.Seats.{IsSeat}
-use Rattle.at_board.specs.Steps.Publish.{MayEnter, FitsNext}
-use Rattle.at_board.specs.Words.Packed.{IsForm}
-use Rattle.at_board.specs.declared.knowledge.Knowledge.{Knowledge}
-use Rattle.at_board.specs.declared.knowledge.SeenDecision.{SeenDecision}
-use Rattle.at_board.specs.declared.knowledge.SeenRequest.{SeenRequest}
 
 -- an entry of a history
 IsForm-IsShownEntry : (b : BookTerms) (p : ℕ) (prefix list : List Publication) (e : Entry) → IsBegun b → IsShownEntry b p prefix e

@@ -1,32 +1,11 @@
 -- Learning a note keeps the rule, and tells the longer of two lists.
 use Rattle.std.proofs.Common.{◌≡◌, ℕ, ◌+◌, ◌<◌, length, subst, arith, ◌≢◌, List, set, refl, sym, ap, ◌∙◌, inl, inr}
-use lib.ListN.{get_elem?}
-use mathlib.Core.Option.{some, some-injective}
-use Rattle.std.proofs.lemmas.Bool.{cases_eq}
-use Rattle.std.proofs.lemmas.List.Elements.{All-append, All-nil, Contains-append_left}
-use Rattle.atomic_table.proofs.Lists.{at_set, set_else}
-use Rattle.atomic_table.specs.Table.{Joins}
-use Rattle.at_ledger.specs.Book.{BookTerms, IsBook}
-use Rattle.at_history.proofs.Laws.Histories.{IsHistory-Sound}
-use Rattle.at_history.proofs.Laws.Prefixes.{IsPrefix-count_of, IsLonger, IsLonger-longer, longer-either}
-use Rattle.at_history.specs.BoardState.{BoardState}
-use Rattle.at_history.specs.Histories.{IsHistory}
-use Rattle.at_history.specs.Publications.{IsPrefix, count_of, longer}
-use Rattle.at_history.specs.declared.publication.Publication.{Publication}
+use Rattle.at_board.proofs.Prelude.{get_elem?, some, some-injective, cases_eq, All-append, All-nil, Contains-append_left, at_set, set_else, Joins, BookTerms, IsBook, IsHistory-Sound, IsPrefix-count_of, IsLonger, IsLonger-longer, longer-either, BoardState, IsHistory, IsPrefix, count_of, longer, Publication, AgreesWithSeen, HasPart, IsAnnounced, IsDecided, Knows, part_at, HasCounts, IsSeat, Ruled, AreSeated, Holds, Learns, learned, spent_knowledge, AreSeen, IsNote, Knowledge}
 use Rattle.at_board.proofs.KnowledgeLaws.Agreement.{AgreesWithSeen-Knows}
 use Rattle.at_board.proofs.KnowledgeLaws.Asking.{HasPart-more, HasRequests}
 use Rattle.at_board.proofs.KnowledgeLaws.Kept.{IsKept-state, IsSeat-IsKept}
 use Rattle.at_board.proofs.KnowledgeLaws.Seats.{AreSeated-set, knows_after}
 use Rattle.at_board.proofs.StepLaws.Note.{Holds-nothing}
-use Rattle.at_board.specs.Knowledge.Agreement.{AgreesWithSeen}
-use Rattle.at_board.specs.Knowledge.Knows.{HasPart, IsAnnounced, IsDecided, Knows}
-use Rattle.at_board.specs.Knowledge.Parts.{part_at}
-use Rattle.at_board.specs.Knowledge.Seats.{HasCounts, IsSeat}
-use Rattle.at_board.specs.Rule.{Ruled, AreSeated, Holds}
-use Rattle.at_board.specs.Steps.Learn.{Learns, learned, spent_knowledge}
-use Rattle.at_board.specs.Steps.Meetings.{AreSeen}
-use Rattle.at_board.specs.Steps.Note.{IsNote}
-use Rattle.at_board.specs.declared.knowledge.Knowledge.{Knowledge}
 
 -- a seat has seen all of its own process, so there is no more of it in a longer list that is a prefix of what was published
 pub count_of-between : (b : BookTerms) (words : List ℕ) (s : BoardState) (v : Knowledge) (list : List Publication) → 0 < length v.parts → Knows b words s v

@@ -1,26 +1,6 @@
 -- A load of an announced word keeps the rule.
 use Rattle.std.proofs.Common.{◌≡◌, ◌≢◌, ℕ, ◌+◌, ◌<◌, ◌≤◌, List, [], ◌∷◌, ◌++◌, length, get_or, set, Option, Some, None, refl, sym, ap, subst, ◌∙◌, arith}
-use lib.ListN.{get_elem?}
-use mathlib.Core.Option.{some, none}
-use Rattle.std.proofs.lemmas.List.{length-set, set-get_or}
-use Rattle.std.proofs.lemmas.List.Elements.{All-append, All-contains, All-from_get_or, All-map, Contains-append_left}
-use Rattle.std.proofs.lemmas.List.FromFn.{get_or-range_with_len, length-range_with_len}
-use Rattle.std.specs.List.{All, range_with_len}
-use Rattle.atomic_table.specs.Table.{Allows, Me, keeps, step}
-use Rattle.at_ledger.specs.Account.{slot_in}
-use Rattle.at_ledger.specs.Book.{BookTerms, HasSlot, IsBegun, account_of}
-use Rattle.at_history.proofs.Laws.Prefixes.{IsPrefix-refl}
-use Rattle.at_history.proofs.Laws.Histories.{IsHistory-Sound}
-use Rattle.at_history.proofs.Laws.Slots.{slot_in-injective}
-use Rattle.at_history.proofs.Steps.Announce.{Asked, Grows-refl, Sound-row_loaded, asked_of, at_slot, at_slot-here, at_slot-other, with_asked}
-use Rattle.at_history.proofs.Steps.Overtaking.{Overtaking-row_loaded}
-use Rattle.at_history.specs.BoardState.{BoardState, request_at}
-use Rattle.at_history.specs.Overtaking.{Overtaking}
-use Rattle.at_history.specs.Publications.{IsPrefix, count_of}
-use Rattle.at_history.specs.Sound.{AreTargets, Sound}
-use Rattle.at_history.specs.declared.publication.Publication.{Publication}
-use Rattle.at_history.specs.declared.request.Request.{Request}
-use Rattle.at_history.specs.declared.request.SeenRow.{SeenRow}
+use Rattle.at_board.proofs.Prelude.{get_elem?, some, none, length-set, set-get_or, All-append, All-contains, All-from_get_or, All-map, Contains-append_left, get_or-range_with_len, length-range_with_len, All, range_with_len, Allows, Me, keeps, step, slot_in, BookTerms, HasSlot, IsBegun, account_of, IsPrefix-refl, IsHistory-Sound, slot_in-injective, Asked, Grows-refl, Sound-row_loaded, asked_of, at_slot, at_slot-here, at_slot-other, with_asked, Overtaking-row_loaded, BoardState, request_at, Overtaking, IsPrefix, count_of, AreTargets, Sound, Publication, Request, SeenRow, HasAsking, HasPart, IsAnnounced, Knows, part_asking, seen_as, with_asking, asking_on, own_part, part_at, HasCounts, IsKept, Ruled, LoadsAnnounced, all_of, with_row, loaded_announced, IsAddress, announced_of, word_at, index_of, Shown, Asking, Part, SeenRequest, Knowledge}
 use Rattle.at_board.proofs.KnowledgeLaws.Agreement.{AgreesWithSeen-Knows}
 use Rattle.at_board.proofs.KnowledgeLaws.Asking.{HasPart-asking, HasPart-kept, IsAnnounced-Grows, IsLeft, Knows-kept, SeesMore, all_announced, loaded-Grows}
 use Rattle.at_board.proofs.KnowledgeLaws.Counts.{HasCounts-asking}
@@ -30,18 +10,6 @@ use Rattle.at_board.proofs.StepLaws.StoreRecordWord.{other_process}
 use Rattle.at_board.proofs.KnowledgeLaws.Kept.{IsKept-step}
 use Rattle.at_board.proofs.StepLaws.Table.{allowed_at}
 use Rattle.at_board.proofs.WordLaws.Addresses.{index_of-injective}
-use Rattle.at_board.specs.Knowledge.Knows.{HasAsking, HasPart, IsAnnounced, Knows}
-use Rattle.at_board.specs.Knowledge.Parts.{part_asking, seen_as, with_asking, asking_on, own_part, part_at}
-use Rattle.at_board.specs.Knowledge.Seats.{HasCounts, IsKept}
-use Rattle.at_board.specs.Rule.{Ruled}
-use Rattle.at_board.specs.Steps.LoadAnnounced.{LoadsAnnounced, all_of, with_row}
-use Rattle.at_board.specs.Steps.Plays.{loaded_announced}
-use Rattle.at_board.specs.Words.Addresses.{IsAddress, announced_of, word_at, index_of}
-use Rattle.at_board.specs.Words.Shown.{Shown}
-use Rattle.at_board.specs.declared.knowledge.Asking.{Asking}
-use Rattle.at_board.specs.declared.knowledge.Part.{Part}
-use Rattle.at_board.specs.declared.knowledge.SeenRequest.{SeenRequest}
-use Rattle.at_board.specs.declared.knowledge.Knowledge.{Knowledge}
 
 -- what holds of each request of a row by its number
 pub All-all_of : (P : SeenRequest → Type 0) (a slot : ℕ) (row : List Request) → ((i : ℕ) → i < length row → P (seen_as a slot i (request_at row i)))

@@ -1,24 +1,9 @@
 -- A load of a length keeps the rule.
 use Rattle.std.proofs.Common.{◌≡◌, ◌≢◌, ℕ, ◌+◌, ◌<◌, zero, suc, List, length, get_or, set, refl, sym, ap, subst, ◌∙◌, arith}
-use lib.ListN.{get_elem?}
-use mathlib.Core.Option.{some}
-use Rattle.std.proofs.lemmas.List.{get_or-set_other, get_or-set_same, length-set}
-use Rattle.at_ledger.specs.Book.{BookTerms, IsBegun}
-use Rattle.at_history.proofs.Laws.Prefixes.{IsPrefix-refl}
-use Rattle.at_history.proofs.Laws.Histories.{IsHistory-Sound}
-use Rattle.at_history.specs.BoardState.{BoardState}
-use Rattle.at_history.specs.Publications.{count_of}
-use Rattle.at_history.specs.declared.publication.Publication.{Publication}
+use Rattle.at_board.proofs.Prelude.{get_elem?, some, get_or-set_other, get_or-set_same, length-set, BookTerms, IsBegun, IsPrefix-refl, IsHistory-Sound, BoardState, count_of, Publication, HasPart, Knows, with_part, no_part, own_part, part_at, Ruled, LoadsLength, with_load, length_of, word_at, Part, Knowledge}
 use Rattle.at_board.proofs.KnowledgeLaws.Agreement.{AgreesWithSeen-Knows}
 use Rattle.at_board.proofs.KnowledgeLaws.Asking.{HasPart-all}
 use Rattle.at_board.proofs.KnowledgeLaws.Seats.{AreSeated-set, knows_after}
-use Rattle.at_board.specs.Knowledge.Knows.{HasPart, Knows}
-use Rattle.at_board.specs.Knowledge.Parts.{with_part, no_part, own_part, part_at}
-use Rattle.at_board.specs.Rule.{Ruled}
-use Rattle.at_board.specs.Steps.LoadLength.{LoadsLength, with_load}
-use Rattle.at_board.specs.Words.Addresses.{length_of, word_at}
-use Rattle.at_board.specs.declared.knowledge.Part.{Part}
-use Rattle.at_board.specs.declared.knowledge.Knowledge.{Knowledge}
 
 -- what is known after a load of a length, when these are all publications
 abbrev pub loaded : Knowledge → List Publication → ℕ → ℕ → Knowledge

@@ -1,16 +1,8 @@
 -- A load of a record's word keeps the rule.
 use Rattle.std.proofs.Common.{◌≡◌, ℕ, get_or, set, refl, sym, ap, subst}
-use mathlib.Core.Option.{none}
-use Rattle.std.proofs.lemmas.List.{set-get_or}
-use Rattle.atomic_table.proofs.Lists.{set_again}
-use Rattle.atomic_table.specs.Table.{Allows, Me, keeps, step}
-use Rattle.at_ledger.specs.Book.{BookTerms}
+use Rattle.at_board.proofs.Prelude.{none, set-get_or, set_again, Allows, Me, keeps, step, BookTerms, IsRecordWord, Ruled, loaded_word, Knowledge}
 use Rattle.at_board.proofs.StepLaws.Table.{allowed_at}
 use Rattle.at_board.proofs.KnowledgeLaws.Records.{IsRecordWord-Shown}
-use Rattle.at_board.specs.Knowledge.Records.{IsRecordWord}
-use Rattle.at_board.specs.Rule.{Ruled}
-use Rattle.at_board.specs.Steps.Plays.{loaded_word}
-use Rattle.at_board.specs.declared.knowledge.Knowledge.{Knowledge}
 
 module _ {S : Type 0} where
   -- a load changes nothing, and tells what the rule gives of the word that it found

@@ -1,19 +1,6 @@
 -- A load of a request's word keeps the rule.
 use Rattle.std.proofs.Common.{◌∙◌, ◌≡◌, ℕ, ◌+◌, ◌<◌, List, [], ◌∷◌, ◌++◌, length, set, refl, sym, ap, subst, arith, inl, inr, get_or}
-use lib.ListN.{get_elem?}
-use mathlib.Core.Option.{some, none}
-use Rattle.std.proofs.lemmas.List.{length-set, set-get_or}
-use Rattle.std.proofs.lemmas.List.Elements.{All-contains, All-push, Contains-append_left}
-use Rattle.at_base.specs.declared.decision.Decision.{Decision}
-use Rattle.atomic_table.specs.Table.{Allows, Me, keeps, step}
-use Rattle.at_ledger.specs.Book.{BookTerms, IsBegun}
-use Rattle.at_history.proofs.Laws.Prefixes.{IsPrefix-refl}
-use Rattle.at_history.proofs.Laws.Histories.{IsHistory-Sound}
-use Rattle.at_history.proofs.Steps.Announce.{Grows-refl, SameAsked-refl, asked_of}
-use Rattle.at_history.specs.Histories.{IsHistory}
-use Rattle.at_history.specs.BoardState.{BoardState, request_at}
-use Rattle.at_history.specs.Sound.{Sound}
-use Rattle.at_history.specs.declared.request.Request.{Request}
+use Rattle.at_board.proofs.Prelude.{get_elem?, some, none, length-set, set-get_or, All-contains, All-push, Contains-append_left, Decision, Allows, Me, keeps, step, BookTerms, IsBegun, IsPrefix-refl, IsHistory-Sound, Grows-refl, SameAsked-refl, asked_of, IsHistory, BoardState, request_at, Sound, Request, DecisionInRange, RequestInRange, SeesInRange, HasAsking, HasPart, IsAnnounced, IsDecided, Knows, part_asking, seen_as, with_asking, asking_on, own_part, part_at, HasCounts, IsKept, Ruled, KnowsOf, MayLoadRequest, LoadsRequestWord, with_loaded, loaded_request_word, IsAddress, request_word, word_at, index_of, Asking, LoadedWord, Part, SeenDecision, SeenRequest, Knowledge}
 use Rattle.at_board.proofs.KnowledgeLaws.Agreement.{AgreesWithSeen-Knows}
 use Rattle.at_board.proofs.KnowledgeLaws.Asking.{HasAsking-kept, HasPart-asking, HasPart-kept, IsLeft-refl, SeesMore}
 use Rattle.at_board.proofs.KnowledgeLaws.Counts.{HasCounts-asking}
@@ -22,20 +9,6 @@ use Rattle.at_board.proofs.StepLaws.LoadLength.{parts_after}
 use Rattle.at_board.proofs.KnowledgeLaws.Kept.{IsKept-step}
 use Rattle.at_board.proofs.StepLaws.Table.{allowed_at}
 use Rattle.at_board.proofs.WordLaws.Addresses.{index_of-injective}
-use Rattle.at_board.specs.Knowledge.Agreement.{DecisionInRange, RequestInRange, SeesInRange}
-use Rattle.at_board.specs.Knowledge.Knows.{HasAsking, HasPart, IsAnnounced, IsDecided, Knows}
-use Rattle.at_board.specs.Knowledge.Parts.{part_asking, seen_as, with_asking, asking_on, own_part, part_at}
-use Rattle.at_board.specs.Knowledge.Seats.{HasCounts, IsKept}
-use Rattle.at_board.specs.Rule.{Ruled}
-use Rattle.at_board.specs.Steps.LoadRequestWord.{KnowsOf, MayLoadRequest, LoadsRequestWord, with_loaded}
-use Rattle.at_board.specs.Steps.Plays.{loaded_request_word}
-use Rattle.at_board.specs.Words.Addresses.{IsAddress, request_word, word_at, index_of}
-use Rattle.at_board.specs.declared.knowledge.Asking.{Asking}
-use Rattle.at_board.specs.declared.knowledge.LoadedWord.{LoadedWord}
-use Rattle.at_board.specs.declared.knowledge.Part.{Part}
-use Rattle.at_board.specs.declared.knowledge.SeenDecision.{SeenDecision}
-use Rattle.at_board.specs.declared.knowledge.SeenRequest.{SeenRequest}
-use Rattle.at_board.specs.declared.knowledge.Knowledge.{Knowledge}
 
 -- a request that the seat knows of is announced
 pub announced-KnowsOf : (b : BookTerms) (words : List ℕ) (s : BoardState) (v : Knowledge) (a slot number : ℕ) → Sound b s → Knows b words s v

@@ -1,24 +1,6 @@
 -- A record that may be published next has room in its log.
 use Rattle.std.proofs.Common.{◌≡◌, ℕ, ◌<◌, List, sym, subst, arith, inl, inr}
-use Rattle.std.proofs.lemmas.List.Elements.{All-contains, All-from_get_or}
-use Rattle.at_base.specs.declared.decision.Decision.{Decision}
-use Rattle.at_ledger.specs.Account.{rounds_room}
-use Rattle.at_ledger.specs.Book.{BookTerms, account_of, log_room_of}
-use Rattle.at_ledger.specs.Call.{TargetPair}
-use Rattle.at_history.proofs.Laws.Lengths.{count_of-own_room, count_of-round_room}
-use Rattle.at_history.proofs.Laws.Rounds.{published}
-use Rattle.at_history.specs.Fronts.{prefix_of}
-use Rattle.at_history.specs.Histories.{IsShownDecision, IsHistory}
-use Rattle.at_history.specs.Publications.{count_of, no_publication}
-use Rattle.at_history.specs.Sound.{HasView, IsSoundRound}
-use Rattle.at_history.specs.declared.publication.Entry.{Entry}
-use Rattle.at_history.specs.declared.publication.Entry.TheVariants.{Own, Round}
-use Rattle.at_history.specs.declared.publication.Publication.{Publication}
-use Rattle.at_board.specs.Knowledge.Agreement.{DecisionInRange, SeesInRange}
-use Rattle.at_board.specs.Knowledge.Parts.{own_part}
-use Rattle.at_board.specs.Knowledge.Seats.{IsSeat}
-use Rattle.at_board.specs.Steps.Publish.{KnowsRound, MayEnter}
-use Rattle.at_board.specs.declared.knowledge.Knowledge.{Knowledge}
+use Rattle.at_board.proofs.Prelude.{All-contains, All-from_get_or, Decision, rounds_room, BookTerms, account_of, log_room_of, TargetPair, count_of-own_room, count_of-round_room, published, prefix_of, IsShownDecision, IsHistory, count_of, no_publication, HasView, IsSoundRound, Entry, Own, Round, Publication, DecisionInRange, SeesInRange, own_part, IsSeat, KnowsRound, MayEnter, Knowledge}
 
 -- an account has room for a round that a seat knows
 round-KnowsRound : (v : Knowledge) (a r : ℕ) (d : Decision) (targets : List TargetPair) → IsHistory v.book v.seen → SeesInRange v

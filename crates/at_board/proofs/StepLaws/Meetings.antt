@@ -1,24 +1,8 @@
 -- What the rule says of two seats at once.
 use Rattle.std.proofs.Common.{◌≡◌, ℕ, zero, suc, List, [], ◌∷◌, length, set, sym, refl, ap, arith}
-use base.Fml.{Lft, Share, Fml, ftrue, fsep, fbor, fnamed, flft}
-use base.Logic.{SProp, ent, sep, wand, ex, guard, upd, all, all_e, ex_i, upd_i}
-use base.Share.{three_quarters}
-use base.Stored.{Coded}
-use denote.RattleType.{RattleType}
-use denote.RawPtr.{Ptr, block_ptr}
-use denote.Steps.{nothing}
-use lib.ListN.{get_elem?}
-use mathlib.Core.List.{Mem, not-mem-nil}
-use mathlib.Core.Option.{some-injective}
+use Rattle.at_board.proofs.Prelude.{Lft, Share, Fml, ftrue, fsep, fbor, fnamed, flft, SProp, ent, sep, wand, ex, guard, upd, all, all_e, ex_i, upd_i, three_quarters, Coded, RattleType, Ptr, block_ptr, nothing, get_elem?, Mem, not-mem-nil, some-injective, Ura, ‵, raw, given, !, qed, move, drop, split, join, fsplit, fsplit3, fjoin, fjoin3, fpick, fpack, pick, learn, show, check, frame, each, assume, suffices, settle, done, use1, use2, rewrite, Logic, sem, Shift, rests, opens, shuts, enters, leaves, word, along, back, found, if_none, asks, always, Moved, moves, apart, fact, seen, roster, TableId, age, standing, inner, common, mine, State, Me, AreSeen}
 use mathlib.Core.Option as maybe
-use seplogic.Ra.Ura.{Ura}
-use types.Kit.{‵, raw, ◌⊛◌, some, given, ◌$◌, ◌∵◌, !, qed, move, drop, split, join, fsplit, fsplit3, fjoin, fjoin3, fpick, fpack, pick, learn, show, check, frame, each, assume, suffices, settle, done, use1, use2, rewrite}
-use types.Logic.{Logic, sem}
-use Rattle.std.specs.Sync.RawAtomic.{Shift, rests, opens, shuts, enters, leaves, word, along, back, found, if_none, asks, always}
-use Rattle.atomic_table.proofs.Roster.{Moved, moves, apart}
-use Rattle.atomic_table.specs.Seated.{fact, seen, roster, TableId, age, standing, inner, common, mine}
-use Rattle.atomic_table.specs.Table.{State, Me}
-use Rattle.at_board.specs.Steps.Meetings.{AreSeen}
+use types.Kit.{◌⊛◌, some, ◌$◌, ◌∵◌}
 
 -- what is known is set to what it was
 set_as_it_was : {V : Type 0} (views : List V) (id : ℕ) (v : V) → get_elem? views id ≡ maybe.some v → set views id v ≡ views

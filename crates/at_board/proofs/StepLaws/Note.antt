@@ -1,16 +1,7 @@
 -- Making a note keeps the rule.
 use Rattle.std.proofs.Common.{◌≡◌, ℕ, ◌<◌, List, [], ◌∷◌, ◌++◌, length, refl, sym, subst, arith, inl, inr}
-use Rattle.atomic_table.proofs.Lists.{at_longer, at_snoc, set_again}
-use Rattle.atomic_table.specs.Table.{Splits}
-use Rattle.at_ledger.specs.Book.{BookTerms, IsBook}
-use Rattle.at_history.specs.BoardState.{BoardState}
+use Rattle.at_board.proofs.Prelude.{at_longer, at_snoc, set_again, Splits, BookTerms, IsBook, BoardState, Knows, IsSeat, Holds, Ruled, IsNote, noted, length_of, word_count, Knowledge}
 use Rattle.at_board.proofs.WordLaws.Addresses.{index_of-below}
-use Rattle.at_board.specs.Knowledge.Knows.{Knows}
-use Rattle.at_board.specs.Knowledge.Seats.{IsSeat}
-use Rattle.at_board.specs.Rule.{Holds, Ruled}
-use Rattle.at_board.specs.Steps.Note.{IsNote, noted}
-use Rattle.at_board.specs.Words.Addresses.{length_of, word_count}
-use Rattle.at_board.specs.declared.knowledge.Knowledge.{Knowledge}
 
 Knows-noted : (b : BookTerms) (words : List ℕ) (s : BoardState) (v : Knowledge) → Knows b words s v → Knows b words s (noted v)
 Knows-noted b words s v knows = record {
@@ -49,7 +40,7 @@ Ruled-more b words knowledge w ruled none knows = record {
 }
 
 module _ {S : Type 0} where
-  -- a seat may be cut into itself and a note
+  -- a seat may be split into itself and a note
   pub notes : (key : BookTerms) (id : ℕ) (v : Knowledge) → Splits {S = S} (λ s. Ruled key s.words s.views) id v v (noted v)
   notes key id v s holds found =
       subst (λ t. Ruled key s.words (t ++ noted v ∷ [])) (sym (set_again s.views id v found))

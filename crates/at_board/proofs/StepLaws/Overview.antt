@@ -1,24 +1,8 @@
--- An overview: what is cut of a seat for it, what it takes in, and what a seat learns of it.
+-- An overview: what is split off a seat for it, what it takes in, and what a seat learns of it.
 use Rattle.std.proofs.Common.{◌≡◌, ℕ, ◌<◌, List, [], ◌∷◌, ◌++◌, length, refl, sym, subst, ◌∙◌, arith}
-use Rattle.std.proofs.lemmas.List.{append-nil}
-use Rattle.std.proofs.lemmas.List.Elements.{All-nil}
-use Rattle.std.specs.List.{All}
-use Rattle.atomic_table.proofs.Lists.{set_again}
-use Rattle.atomic_table.specs.Table.{Splits}
-use Rattle.at_ledger.specs.Book.{BookTerms, IsBook}
-use Rattle.at_history.proofs.Laws.Prefixes.{longer-either}
-use Rattle.at_history.specs.BoardState.{BoardState}
-use Rattle.at_history.specs.Histories.{IsHistory}
-use Rattle.at_history.specs.Publications.{longer}
+use Rattle.at_board.proofs.Prelude.{append-nil, All-nil, All, set_again, Splits, BookTerms, IsBook, longer-either, BoardState, IsHistory, longer, DecisionInRange, RequestInRange, IsAnnounced, IsDecided, Knows, IsOverview, LearnsOverview, TakesIn, seen_alone, Ruled, Learns, learned, AreSeen, Knowledge}
 use Rattle.at_board.proofs.StepLaws.Learn.{IsLonger-seen, count_of-between}
 use Rattle.at_board.proofs.StepLaws.Note.{Ruled-more}
-use Rattle.at_board.specs.Knowledge.Agreement.{DecisionInRange, RequestInRange}
-use Rattle.at_board.specs.Knowledge.Knows.{IsAnnounced, IsDecided, Knows}
-use Rattle.at_board.specs.Knowledge.Overviews.{IsOverview, LearnsOverview, TakesIn, seen_alone}
-use Rattle.at_board.specs.Rule.{Ruled}
-use Rattle.at_board.specs.Steps.Learn.{Learns, learned}
-use Rattle.at_board.specs.Steps.Meetings.{AreSeen}
-use Rattle.at_board.specs.declared.knowledge.Knowledge.{Knowledge}
 
 Knows-seen_alone : (b : BookTerms) (words : List ℕ) (s : BoardState) (v : Knowledge) → Knows b words s v → Knows b words s (seen_alone v)
 Knows-seen_alone b words s v knows = record {
@@ -29,13 +13,13 @@ Knows-seen_alone b words s v knows = record {
 }
 
 module _ {S : Type 0} where
-  -- what a seat or an overview has seen may be cut off it
+  -- what a seat or an overview has seen may be split off it
   pub sees_alone : (key : BookTerms) (id : ℕ) (v : Knowledge) → Splits {S = S} (λ s. Ruled key s.words s.views) id v v (seen_alone v)
   sees_alone key id v s holds found =
       subst (λ t. Ruled key s.words (t ++ seen_alone v ∷ [])) (sym (set_again s.views id v found))
       (Ruled-more key s.words s.views (seen_alone v) holds refl (Knows-seen_alone key s.words holds.state v (holds.knows id v found)))
 
--- what was cut off is an overview
+-- what was split off is an overview
 pub IsOverview-seen_alone : (v : Knowledge) → IsBook v.book → IsHistory v.book v.seen → IsOverview (seen_alone v)
 IsOverview-seen_alone v book history = record {
   note = record {

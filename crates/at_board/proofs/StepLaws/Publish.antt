@@ -1,58 +1,15 @@
 -- Publishing keeps the rule.
 use Rattle.std.proofs.Common.{◌≡◌, ◌≢◌, ℕ, true, ◌+◌, ◌<◌, ◌≤◌, zero, Bool, cond, List, [], ◌∷◌, ◌++◌, length, get_or, set, refl, sym, ap, subst, ◌∙◌, arith, inl, inr}
-use lib.ListN.{get_elem?}
-use mathlib.Core.Option.{some, none}
-use Rattle.std.proofs.lemmas.Bool.{cases_eq, cases_lt, eq-eqb, ne_eqb}
-use Rattle.std.proofs.lemmas.List.{get_or_append_left, get_or_push, length-replicate, length-set}
-use Rattle.std.proofs.lemmas.List.Elements.{All-contains}
-use Rattle.std.specs.List.{Contains}
-use Rattle.at_base.specs.declared.decision.Decision.{Decision}
-use Rattle.atomic_table.specs.Table.{Allows, Me, keeps, step}
-use Rattle.at_ledger.specs.Book.{BookTerms, IsBegun, log_room_of}
-use Rattle.at_ledger.specs.Call.{TargetPair}
-use Rattle.at_history.proofs.Laws.Counts.{count_of-push_other, count_of-push_own, publications_of-push_own, publications_of-push_other}
-use Rattle.at_history.proofs.Laws.RoundsDecided.{ArePublishedBy-HasRuns}
-use Rattle.at_history.proofs.Laws.Fronts.{IsFront-IsPrefix, prefix_of-IsPrefix}
-use Rattle.at_history.proofs.Laws.Prefixes.{IsPrefix-append, IsPrefix-refl, IsPrefix-trans, ArePublishedBy-IsPrefix, each_record}
-use Rattle.at_history.proofs.Laws.Rounds.{owns_of-IsPrefix}
-use Rattle.at_history.proofs.Laws.HasRuns.{HasRuns-Sound}
-use Rattle.at_history.proofs.Laws.Histories.{IsHistory-Sound}
-use Rattle.at_history.proofs.Laws.Sums.{get_or-zeros}
-use Rattle.at_history.proofs.Steps.Overtaking.{Overtaking-pushed}
-use Rattle.at_history.proofs.Steps.Publish.{IsNextPublication, Sound-pushed, pushed}
-use Rattle.at_history.specs.BoardState.{BoardState, publication_at, request_at}
-use Rattle.at_history.specs.Fronts.{prefix_of}
-use Rattle.at_history.specs.HeldCells.{held_after}
-use Rattle.at_history.specs.Publications.{IsPrefix, count_of, no_publication, publications_of}
-use Rattle.at_history.specs.Sound.{Sound, IsDecidedSo, IsSoundEntry}
-use Rattle.at_history.specs.declared.publication.Entry.{Entry}
-use Rattle.at_history.specs.declared.publication.Entry.TheVariants.{Own, Round}
-use Rattle.at_history.specs.declared.publication.Publication.{Publication}
-use Rattle.at_history.specs.declared.request.Request.{Request}
+use Rattle.at_board.proofs.Prelude.{get_elem?, some, none, cases_eq, cases_lt, eq-eqb, ne_eqb, get_or_append_left, get_or_push, length-replicate, length-set, All-contains, Contains, Decision, Allows, Me, keeps, step, BookTerms, IsBegun, log_room_of, TargetPair, count_of-push_other, count_of-push_own, publications_of-push_own, publications_of-push_other, ArePublishedBy-HasRuns, IsCut-IsPrefix, prefix_of-IsPrefix, IsPrefix-append, IsPrefix-refl, IsPrefix-trans, ArePublishedBy-IsPrefix, each_record, owns_of-IsPrefix, HasRuns-Sound, IsHistory-Sound, get_or-zeros, Overtaking-pushed, IsNextPublication, Sound-pushed, pushed, BoardState, publication_at, request_at, prefix_of, held_after, IsPrefix, count_of, no_publication, publications_of, Sound, IsDecidedSo, IsSoundEntry, Entry, Own, Round, Publication, Request, IsKept, HasAsking, HasPart, Knows, with_part, asking_on, own_part, part_at, Ruled, published_record, MayPublish, Publishes, with_record, KnowsRound, MayEnter, IsAddress, Address, announced_of, cell_of, length_of, index_of, record_width, record_word, request_word, word_at, record_words, IsForm, Shown, Asking, Part, SeenRequest, Knowledge, is_own, owns_of}
 use Rattle.at_board.proofs.KnowledgeLaws.Agreement.{AgreesWithSeen-Knows, seen_decision, seen_request}
 use Rattle.at_board.proofs.KnowledgeLaws.Seats.{AreSeated-set, knows_after}
 use Rattle.at_board.proofs.StepLaws.LoadLength.{parts_after}
 use Rattle.at_board.proofs.StepLaws.StoreRecordWord.{other_process}
 use Rattle.at_board.proofs.WordLaws.Same.{SameRecordWords, SameRequestWords}
 use Rattle.at_board.proofs.KnowledgeLaws.Kept.{IsKept-step}
-use Rattle.at_board.specs.Knowledge.Seats.{IsKept}
 use Rattle.at_board.proofs.StepLaws.Table.{allowed_at, index_of-length_of}
 use Rattle.at_board.proofs.WordLaws.Addresses.{word_at-set_other, word_at-set_same}
 use Rattle.at_board.proofs.WordLaws.Packed.{IsForm-Sound, record_words-injective}
-use Rattle.at_board.specs.Knowledge.Knows.{HasAsking, HasPart, Knows}
-use Rattle.at_board.specs.Knowledge.Parts.{with_part, asking_on, own_part, part_at}
-use Rattle.at_board.specs.Rule.{Ruled}
-use Rattle.at_board.specs.Steps.Plays.{published_record}
-use Rattle.at_board.specs.Steps.Publish.{MayPublish, Publishes, with_record, KnowsRound, MayEnter}
-use Rattle.at_board.specs.Words.Addresses.{IsAddress, Address, announced_of, cell_of, length_of, index_of, record_width, record_word, request_word, word_at}
-use Rattle.at_board.specs.Words.Packed.{record_words, IsForm}
-use Rattle.at_board.specs.Words.Shown.{Shown}
-use Rattle.at_board.specs.declared.knowledge.Asking.{Asking}
-use Rattle.at_board.specs.declared.knowledge.Part.{Part}
-use Rattle.at_board.specs.declared.knowledge.SeenRequest.{SeenRequest}
-use Rattle.at_board.specs.declared.knowledge.Knowledge.{Knowledge}
-use Rattle.at_history.specs.Entries.{is_own}
-use Rattle.at_history.specs.Rounds.{owns_of}
 
 -- the word of a record of the process, and the last one is the new record
 record-pushed : (b : BookTerms) (words : List ℕ) (xs : List Publication) (x : Publication) (p i j : ℕ) → x.process ≡ p
@@ -241,12 +198,12 @@ IsNextPublication-MayPublish : (b : BookTerms) (words : List ℕ) (s : BoardStat
 IsNextPublication-MayPublish b words s v x sound knows own may =
     let all = ArePublishedBy-HasRuns b s (HasRuns-Sound b s sound) in
     let known = ArePublishedBy-IsPrefix b.processes v.seen s.published knows.seen all in
-    let same = prefix_of-IsPrefix b.processes x.view v.seen s.published may.view.front known knows.seen in
+    let same = prefix_of-IsPrefix b.processes x.view v.seen s.published may.view.cut known knows.seen in
     let law = IsSoundEntry-MayEnter b words s v (prefix_of x.view v.seen) x.entry sound knows may.entry in
     record {
       view = record {
         process = may.view.process;
-        front = IsFront-IsPrefix b.processes x.view v.seen s.published may.view.front known knows.seen;
+        cut = IsCut-IsPrefix b.processes x.view v.seen s.published may.view.cut known knows.seen;
         own = may.view.own ∙ subst (λ p. count_of p v.seen ≡ count_of p s.published) (sym may.process) own;
       };
       entry = subst (λ p. IsSoundEntry b s p (prefix_of x.view s.published) x.entry) (sym may.process)

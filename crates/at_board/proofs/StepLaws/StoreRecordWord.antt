@@ -1,27 +1,10 @@
 -- A store of a record's word keeps the rule.
 use Rattle.std.proofs.Common.{◌≡◌, ◌≢◌, ℕ, ◌+◌, ◌<◌, List, length, get_or, set, refl, sym, ap, subst, ◌∙◌, arith, inl, inr}
-use lib.ListN.{get_elem?}
-use mathlib.Core.Option.{some}
-use Rattle.std.proofs.lemmas.Bool.{cases_eq}
-use Rattle.std.proofs.lemmas.List.{get_or-set_other, get_or-set_same, length-set}
-use Rattle.std.specs.List.{Contains}
-use Rattle.at_ledger.specs.Book.{BookTerms, log_room_of}
-use Rattle.at_history.specs.BoardState.{BoardState, request_at}
-use Rattle.at_history.specs.Publications.{count_of}
+use Rattle.at_board.proofs.Prelude.{get_elem?, some, cases_eq, get_or-set_other, get_or-set_same, length-set, Contains, BookTerms, log_room_of, BoardState, request_at, count_of, HasAsking, HasPart, Knows, with_part, asking_on, own_part, part_at, AreSeated, Ruled, with_word, IsAddress, Address, announced_of, cell_of, length_of, index_of, record_width, record_word, request_word, word_at, word_count, Shown, Asking, Part, SeenRequest, Knowledge}
 use Rattle.at_board.proofs.KnowledgeLaws.Seats.{AreSeated-set, knows_after}
 use Rattle.at_board.proofs.StepLaws.LoadLength.{parts_after}
 use Rattle.at_board.proofs.WordLaws.Addresses.{word_at-set_other, word_at-set_same}
 use Rattle.at_board.proofs.WordLaws.Same.{SameRequestWords, SameRecordWords}
-use Rattle.at_board.specs.Knowledge.Knows.{HasAsking, HasPart, Knows}
-use Rattle.at_board.specs.Knowledge.Parts.{with_part, asking_on, own_part, part_at}
-use Rattle.at_board.specs.Rule.{AreSeated, Ruled}
-use Rattle.at_board.specs.Steps.StoreRecordWord.{with_word}
-use Rattle.at_board.specs.Words.Addresses.{IsAddress, Address, announced_of, cell_of, length_of, index_of, record_width, record_word, request_word, word_at, word_count}
-use Rattle.at_board.specs.Words.Shown.{Shown}
-use Rattle.at_board.specs.declared.knowledge.Asking.{Asking}
-use Rattle.at_board.specs.declared.knowledge.Part.{Part}
-use Rattle.at_board.specs.declared.knowledge.SeenRequest.{SeenRequest}
-use Rattle.at_board.specs.declared.knowledge.Knowledge.{Knowledge}
 
 pub HasAsking-words : (b : BookTerms) (words after : List ℕ) (s : BoardState) (v u : Knowledge) (a slot : ℕ) (w : Asking)
     → u.seen ≡ v.seen → u.requests ≡ v.requests → SameRequestWords b words after

@@ -1,16 +1,6 @@
 -- A store of a request's word keeps the rule.
 use Rattle.std.proofs.Common.{◌≡◌, ◌≢◌, ℕ, ◌+◌, ◌<◌, List, length, get_or, set, refl, sym, ap, subst, ◌∙◌, arith, inl, inr}
-use lib.ListN.{get_elem?}
-use mathlib.Core.Option.{some, none}
-use Rattle.std.proofs.lemmas.Bool.{cases_eq}
-use Rattle.std.proofs.lemmas.List.{get_or-set_other, get_or-set_same, length-set}
-use Rattle.std.specs.List.{Contains}
-use Rattle.atomic_table.specs.Table.{Allows, Me, keeps, step}
-use Rattle.at_ledger.specs.Book.{BookTerms, HasSlot}
-use Rattle.at_history.proofs.Laws.Prefixes.{IsPrefix-refl}
-use Rattle.at_history.proofs.Laws.Slots.{other_slot}
-use Rattle.at_history.proofs.Steps.Announce.{Grows-refl, SameAsked-refl, asked_of}
-use Rattle.at_history.specs.BoardState.{BoardState, request_at}
+use Rattle.at_board.proofs.Prelude.{get_elem?, some, none, cases_eq, get_or-set_other, get_or-set_same, length-set, Contains, Allows, Me, keeps, step, BookTerms, HasSlot, IsPrefix-refl, other_slot, Grows-refl, SameAsked-refl, asked_of, BoardState, request_at, HasAsking, HasPart, Knows, part_asking, seen_as, with_asking, asking_on, own_part, part_at, HasCounts, IsKept, Ruled, stored_request_word, MayStoreRequest, with_request_word, StoresRequestWord, IsAddress, Address, announced_of, cell_of, length_of, index_of, record_word, request_word, word_at, word_count, Shown, Asking, Part, SeenRequest, Knowledge}
 use Rattle.at_board.proofs.KnowledgeLaws.Asking.{HasPart-asking, HasPart-kept, IsLeft, Knows-kept, SameRequest, same_slot}
 use Rattle.at_board.proofs.KnowledgeLaws.Counts.{HasCounts-asking}
 use Rattle.at_board.proofs.KnowledgeLaws.Seats.{AreSeated-set, knows_after}
@@ -20,18 +10,6 @@ use Rattle.at_board.proofs.KnowledgeLaws.Kept.{IsKept-step}
 use Rattle.at_board.proofs.StepLaws.Table.{allowed_at}
 use Rattle.at_board.proofs.WordLaws.Addresses.{word_at-set_other, word_at-set_same, index_of-injective}
 use Rattle.at_board.proofs.WordLaws.Same.{SameRecordWords}
-use Rattle.at_board.specs.Knowledge.Knows.{HasAsking, HasPart, Knows}
-use Rattle.at_board.specs.Knowledge.Parts.{part_asking, seen_as, with_asking, asking_on, own_part, part_at}
-use Rattle.at_board.specs.Knowledge.Seats.{HasCounts, IsKept}
-use Rattle.at_board.specs.Rule.{Ruled}
-use Rattle.at_board.specs.Steps.Plays.{stored_request_word}
-use Rattle.at_board.specs.Steps.StoreRequestWord.{MayStoreRequest, with_request_word, StoresRequestWord}
-use Rattle.at_board.specs.Words.Addresses.{IsAddress, Address, announced_of, cell_of, length_of, index_of, record_word, request_word, word_at, word_count}
-use Rattle.at_board.specs.Words.Shown.{Shown}
-use Rattle.at_board.specs.declared.knowledge.Asking.{Asking}
-use Rattle.at_board.specs.declared.knowledge.Part.{Part}
-use Rattle.at_board.specs.declared.knowledge.SeenRequest.{SeenRequest}
-use Rattle.at_board.specs.declared.knowledge.Knowledge.{Knowledge}
 
 -- the words after a store in a request
 abbrev pub request_stored : BookTerms → List ℕ → ℕ → ℕ → ℕ → ℕ → ℕ → List ℕ

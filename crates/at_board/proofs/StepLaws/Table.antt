@@ -1,21 +1,10 @@
 -- What the steps of a table ask of the rule.
 use Rattle.std.proofs.Common.{◌∙◌, ◌≡◌, ℕ, sym, subst, ◌<◌, length, get_or, set, refl, ap, arith}
-use mathlib.Core.Option.{none}
-use Rattle.std.proofs.lemmas.List.{length-set, set-get_or}
-use Rattle.atomic_table.specs.Table.{Allows, Me, keeps, step}
-use Rattle.at_ledger.specs.Book.{BookTerms}
+use Rattle.at_board.proofs.Prelude.{none, length-set, set-get_or, Allows, Me, keeps, step, BookTerms, IsKept, with_part, own_part, Ruled, LoadsLength, loaded_length, stored_word, MayStoreWord, with_word, IsAddress, length_of, index_of, record_word, Knowledge}
 use Rattle.at_board.proofs.KnowledgeLaws.Kept.{IsKept-step}
-use Rattle.at_board.specs.Knowledge.Seats.{IsKept}
 use Rattle.at_board.proofs.StepLaws.LoadLength.{LoadsLength-Ruled}
 use Rattle.at_board.proofs.StepLaws.StoreRecordWord.{StoresWord-Ruled}
 use Rattle.at_board.proofs.WordLaws.Addresses.{index_of-injective}
-use Rattle.at_board.specs.Knowledge.Parts.{with_part, own_part}
-use Rattle.at_board.specs.Rule.{Ruled}
-use Rattle.at_board.specs.Steps.LoadLength.{LoadsLength}
-use Rattle.at_board.specs.Steps.Plays.{loaded_length, stored_word}
-use Rattle.at_board.specs.Steps.StoreRecordWord.{MayStoreWord, with_word}
-use Rattle.at_board.specs.Words.Addresses.{IsAddress, length_of, index_of, record_word}
-use Rattle.at_board.specs.declared.knowledge.Knowledge.{Knowledge}
 
 module _ {S : Type 0} where
   -- a step that the rule allows, at the key and the index that the board has

@@ -1,15 +1,7 @@
 -- Addresses of words: two of them have one index only if they are one address.
 use Rattle.std.proofs.Common.{◌≡◌, ◌≢◌, ℕ, ◌+◌, ◌*◌, ◌<◌, ◌≤◌, List, [], length, get_or, set, map, sum, sym, ap, subst, ◌∙◌, arith}
-use Rattle.std.proofs.lemmas.List.{get_or-map, length-map, get_or-set_same, get_or-set_other}
-use Rattle.std.proofs.lemmas.List.FromFn.{get_or-map-range_with_len, length-map-range_with_len}
-use Rattle.std.proofs.lemmas.List.Sums.{sum_by-take-le}
-use Rattle.std.proofs.lemmas.Nat.{mul-add-lt, same_from_place}
-use Rattle.std.specs.List.{range_with_len}
-use Rattle.at_ledger.specs.Account.{no_account, slots_of}
-use Rattle.at_ledger.specs.Book.{BookTerms, account_of, log_room_of}
-use Rattle.at_history.proofs.Laws.Rooms.{rounds_room-slots_of}
+use Rattle.at_board.proofs.Prelude.{get_or-map, length-map, get_or-set_same, get_or-set_other, get_or-map-range_with_len, length-map-range_with_len, sum_by-take-le, mul-add-lt, same_from_place, range_with_len, no_account, slots_of, BookTerms, account_of, log_room_of, rounds_room-slots_of, Address, length_of, record_word, announced_of, request_word, cell_of, IsAddress, block_of, blocks_of, group_of, groups, number_in, index_of, record_width, start_of, word_at, word_count}
 use Rattle.at_board.proofs.WordLaws.Blocks.{block-inside, same_block, start_of-more}
-use Rattle.at_board.specs.Words.Addresses.{Address, length_of, record_word, announced_of, request_word, cell_of, IsAddress, block_of, blocks_of, group_of, groups, number_in, index_of, record_width, start_of, word_at, word_count}
 
 -- a word has its block, and its number is below the block's size
 record IsWord (b : BookTerms) (x : Address) : Type 0 where

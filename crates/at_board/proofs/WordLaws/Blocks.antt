@@ -1,9 +1,6 @@
 -- Blocks of words, one after another.
 use Rattle.std.proofs.Common.{◌≡◌, ℕ, ◌+◌, ◌<◌, ◌≤◌, List, length, get_or, take, sum, ap, arith, inl, inr}
-use Rattle.std.proofs.lemmas.Bool.{cases_order}
-use Rattle.std.proofs.lemmas.List.{take-take}
-use Rattle.std.proofs.lemmas.List.Sums.{sum_by_more, sum_by-take-le}
-use Rattle.at_board.specs.Words.Addresses.{start_of}
+use Rattle.at_board.proofs.Prelude.{cases_order, take-take, sum_by_more, sum_by-take-le, start_of}
 
 -- the next block begins where this one ends
 pub start_of-more : (sizes : List ℕ) (i : ℕ) → i < length sizes → start_of sizes (i + 1) ≡ start_of sizes i + get_or sizes i 0

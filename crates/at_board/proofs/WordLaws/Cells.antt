@@ -1,14 +1,9 @@
 -- Indices of cells.
 use Rattle.std.proofs.Common.{◌≡◌, ℕ, ◌+◌, ◌*◌, ◌<◌, ◌^◌, take, arith}
-use Rattle.std.proofs.lemmas.List.Sums.{sum-map}
-use Rattle.std.specs.List.{sum_by}
-use Rattle.at_ledger.specs.Account.{slots_of}
-use Rattle.at_ledger.specs.Book.{BookTerms, IsBegun}
-use Rattle.at_history.proofs.Laws.Sums.{sum_by-mul}
+use Rattle.at_board.proofs.Prelude.{sum-map, sum_by, slots_of, BookTerms, IsBegun, sum_by-mul, IsAddress, cell_of, index_of, record_word}
 use Rattle.at_board.proofs.WordLaws.Addresses.{index_of-below}
 use Rattle.at_board.proofs.WordLaws.Sizes.{word_count-le, word_count-slots}
 use Rattle.at_board.proofs.WordLaws.Slots.{logs_end, start_of-accounts}
-use Rattle.at_board.specs.Words.Addresses.{IsAddress, cell_of, index_of, record_word}
 
 index_of-cell_of : (b : BookTerms) (a r : ℕ)
     → index_of b (cell_of a r)

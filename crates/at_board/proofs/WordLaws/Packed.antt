@@ -1,22 +1,6 @@
 -- Words that are packed from two records or requests are the same only if these are.
 use Rattle.std.proofs.Common.{◌≡◌, ℕ, ◌+◌, ◌*◌, ◌/◌, ◌%◌, ◌<◌, ◌≤◌, zero, suc, List, length, get_or, sym, subst, ◌∙◌, arith, inl, inr}
-use Rattle.std.proofs.lemmas.Bool.{cases_lt}
-use Rattle.std.proofs.lemmas.List.{get_or-map, get_or_default, get_or_past, length-map, same_lists}
-use Rattle.std.proofs.lemmas.List.Elements.{All-from_get_or, All-get_or}
-use Rattle.std.proofs.lemmas.List.Sums.{get_or-le-sum_by}
-use Rattle.at_base.proofs.DecisionLaws.{same_decision}
-use Rattle.at_ledger.specs.Account.{no_account, rounds_room}
-use Rattle.at_ledger.specs.Book.{BookTerms, IsBegun}
-use Rattle.at_ledger.specs.Call.{AreTargetsOn, TargetPair}
-use Rattle.at_history.specs.BoardState.{BoardState}
-use Rattle.at_history.specs.Entries.{targets_of}
-use Rattle.at_history.specs.Sound.{AreTargets, IsSoundDecision, IsSoundEntry, Sound}
-use Rattle.at_history.specs.declared.publication.Entry.{Entry}
-use Rattle.at_history.specs.declared.publication.Entry.TheVariants.{Own, Round}
-use Rattle.at_history.specs.declared.publication.Publication.{Publication}
-use Rattle.at_history.specs.declared.request.Request.{Request}
-use Rattle.at_board.specs.Words.Packed.{IsForm, amount_words, decision_word, head_of, record_words, request_words}
-use Rattle.at_board.specs.Words.Targets.{ArePacked, account_in, accounts_of, targets_word}
+use Rattle.at_board.proofs.Prelude.{cases_lt, get_or-map, get_or_default, get_or_past, length-map, same_lists, All-from_get_or, All-get_or, get_or-le-sum_by, same_decision, no_account, rounds_room, BookTerms, IsBegun, AreTargetsOn, TargetPair, BoardState, targets_of, AreTargets, IsSoundDecision, IsSoundEntry, Sound, Entry, Own, Round, Publication, Request, IsForm, amount_words, decision_word, head_of, record_words, request_words, ArePacked, account_in, accounts_of, targets_word}
 
 pub ArePacked-AreTargets : (b : BookTerms) (targets : List TargetPair) → IsBegun b → AreTargets b targets → ArePacked (accounts_of targets)
 ArePacked-AreTargets b targets begun good = record {

@@ -1,7 +1,6 @@
 -- Words that a step leaves as they are.
 use Rattle.std.proofs.Common.{◌≡◌, ℕ, List}
-use Rattle.at_ledger.specs.Book.{BookTerms}
-use Rattle.at_board.specs.Words.Addresses.{IsAddress, record_word, request_word, word_at}
+use Rattle.at_board.proofs.Prelude.{BookTerms, IsAddress, record_word, request_word, word_at}
 
 -- the words of all requests are the same
 abbrev pub SameRequestWords : BookTerms → List ℕ → List ℕ → Type 0

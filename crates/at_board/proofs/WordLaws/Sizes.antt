@@ -1,16 +1,7 @@
 -- How many words a board has, and where its logs begin.
 use Rattle.std.proofs.Common.{◌≡◌, ℕ, ◌+◌, ◌*◌, ◌<◌, ◌≤◌, ◌^◌, map, sum, sym, ap, ◌∙◌, arith}
-use Rattle.std.proofs.lemmas.List.{take_all}
-use Rattle.std.proofs.lemmas.List.FromFn.{length-map-range_with_len}
-use Rattle.std.proofs.lemmas.List.Sums.{sum-map, sum_by-le-sum_by}
-use Rattle.std.proofs.lemmas.Nat.{mul-le}
-use Rattle.std.specs.List.{sum_by, range_with_len}
-use Rattle.at_ledger.specs.Account.{slots_of}
-use Rattle.at_ledger.specs.Book.{BookTerms, IsBegun, log_room_of, rounds_of}
-use Rattle.at_history.proofs.Laws.Rooms.{rounds_room-slots_of, sum-log_room_of}
-use Rattle.at_history.proofs.Laws.Sums.{sum_by-mul, mul-one-le}
+use Rattle.at_board.proofs.Prelude.{take_all, length-map-range_with_len, sum-map, sum_by-le-sum_by, mul-le, sum_by, range_with_len, slots_of, BookTerms, IsBegun, log_room_of, rounds_of, rounds_room-slots_of, sum-log_room_of, sum_by-mul, mul-one-le, index_of, record_width, record_word, word_count, words_max}
 use Rattle.at_board.proofs.WordLaws.Addresses.{index_of-record_word-le, index_of-record_word_next}
-use Rattle.at_board.specs.Words.Addresses.{index_of, record_width, record_word, word_count, words_max}
 
 -- the words of the largest board
 pub word_count-le : (b : BookTerms) → IsBegun b → word_count b ≤ words_max

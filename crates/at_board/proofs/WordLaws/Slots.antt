@@ -1,15 +1,8 @@
 -- Indices of the words of requests.
 use Rattle.std.proofs.Common.{◌≡◌, ℕ, ◌+◌, ◌*◌, ◌<◌, ◌^◌, List, length, map, sum, take, ap, ◌∙◌, arith}
-use Rattle.std.proofs.lemmas.List.{take-map, take_all}
-use Rattle.std.proofs.lemmas.List.FromFn.{length-map-range_with_len}
-use Rattle.std.proofs.lemmas.List.Sums.{sum-map}
-use Rattle.std.specs.List.{sum_by, range_with_len}
-use Rattle.at_ledger.specs.Account.{AccountTerms, slots_of}
-use Rattle.at_ledger.specs.Book.{BookTerms, IsBegun, log_room_of}
-use Rattle.at_history.proofs.Laws.Sums.{sum_by-mul}
+use Rattle.at_board.proofs.Prelude.{take-map, take_all, length-map-range_with_len, sum-map, sum_by, range_with_len, AccountTerms, slots_of, BookTerms, IsBegun, log_room_of, sum_by-mul, IsAddress, announced_of, index_of, record_width, record_word, request_word, start_of}
 use Rattle.at_board.proofs.WordLaws.Addresses.{index_of-below}
 use Rattle.at_board.proofs.WordLaws.Sizes.{word_count-le}
-use Rattle.at_board.specs.Words.Addresses.{IsAddress, announced_of, index_of, record_width, record_word, request_word, start_of}
 
 -- a block of a group of accounts begins after those of the accounts before
 pub start_of-accounts : (f : AccountTerms → ℕ) (accounts : List AccountTerms) (a : ℕ) → start_of (map f accounts) a ≡ sum_by f (take a accounts)

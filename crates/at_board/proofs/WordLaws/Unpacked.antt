@@ -1,9 +1,6 @@
 -- Targets from the words that they were packed into.
 use Rattle.std.proofs.Common.{◌≡◌, ℕ, ◌<◌, zero, suc, List, length, get_or, refl, ◌∙◌, arith}
-use Rattle.std.proofs.lemmas.List.{get_or-map, get_or_default, length-map, same_lists}
-use Rattle.at_ledger.specs.Call.{TargetPair}
-use Rattle.at_board.specs.Words.Targets.{ArePacked, accounts_of}
-use Rattle.at_board.specs.Words.Packed.{amount_words}
+use Rattle.at_board.proofs.Prelude.{get_or-map, get_or_default, length-map, same_lists, TargetPair, ArePacked, accounts_of, amount_words}
 
 -- an amount of a short list
 get_or-amount_words : (ts : List TargetPair) (m : ℕ) → m < 4 → get_or (amount_words ts) m 0 ≡ (get_or ts m (0, 0)).1

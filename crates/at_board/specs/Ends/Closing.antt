@@ -1,11 +1,6 @@
 -- The end of a board.
 use Rattle.std.specs.Prelude.{◌≡◌, ℕ, ◌<◌, ◌≤◌, ◌++◌, List, [], length, map, slice_index_or, All, Contains, None}
-use Rattle.std.specs.List.{range_with_len}
-use Rattle.at_ledger.specs.Book.{BookTerms, IsBook, log_room_of, HasSlot}
-use Rattle.at_history.specs.BoardState.{BoardState, publication_at}
-use Rattle.at_history.specs.Histories.{IsHistory}
-use Rattle.at_history.specs.Publications.{IsPrefix, count_of, publications_of}
-use Rattle.at_history.specs.Sound.{Sound}
+use Rattle.at_board.specs.Prelude.{range_with_len, BookTerms, IsBook, log_room_of, HasSlot, BoardState, publication_at, IsHistory, IsPrefix, count_of, publications_of, Sound}
 use Rattle.at_board.specs.Knowledge.Knows.{IsAnnounced, IsDecided}
 use Rattle.at_board.specs.Knowledge.Parts.{asking_on, own_part, part_at}
 use Rattle.at_board.specs.Knowledge.Seats.{BoardTerms, IsOf, SeatTerms}

@@ -1,7 +1,6 @@
--- The seats of a new board: the first one is cut into one for each process.
+-- The seats of a new board: the first one is dealt as one for each process.
 use Rattle.std.specs.Prelude.{◌≡◌, ℕ, ◌+◌, ◌<◌, List, [], ◌∷◌, length, slice_index_or, take, drop}
-use Rattle.atomic_table.specs.Seated.{TableId}
-use Rattle.at_ledger.specs.Book.{BookTerms}
+use Rattle.at_board.specs.Prelude.{TableId, BookTerms}
 use Rattle.at_board.specs.Knowledge.Parts.{starting_part, starting_knowledge}
 use Rattle.at_board.specs.Knowledge.Seats.{SeatTerms}
 use Rattle.at_board.specs.declared.knowledge.Knowledge.{Knowledge}

@@ -1,14 +1,6 @@
 -- What holds of all the requests, decisions and records that a seat has seen.
 use Rattle.std.specs.Prelude.{◌≡◌, ℕ, ◌<◌, ◌≤◌, All}
-use Rattle.at_base.specs.Decision.{InRange}
-use Rattle.at_base.specs.declared.decision.Decision.{Decision}
-use Rattle.at_ledger.specs.Account.{rounds_room}
-use Rattle.at_ledger.specs.Book.{BookTerms, account_of}
-use Rattle.at_history.specs.Fronts.{places_max}
-use Rattle.at_history.specs.Sound.{AreTargets}
-use Rattle.at_history.specs.declared.publication.Entry.{Entry}
-use Rattle.at_history.specs.declared.publication.Entry.TheVariants.{Own, Round}
-use Rattle.at_history.specs.declared.request.Request.{Request}
+use Rattle.at_board.specs.Prelude.{InRange, Decision, rounds_room, BookTerms, account_of, places_max, AreTargets, Entry, Own, Round, Request}
 use Rattle.at_board.specs.Knowledge.Parts.{SeesDecision, SeesRequest}
 use Rattle.at_board.specs.Words.Addresses.{IsAddress, request_word}
 use Rattle.at_board.specs.declared.knowledge.SeenDecision.{SeenDecision}

@@ -1,12 +1,6 @@
 -- Which requests on an account a process may propose, by what it has loaded since it last announced one there.
 use Rattle.std.specs.Prelude.{◌≡◌, ◌≢◌, ℕ, ◌+◌, ◌<◌, ◌≤◌, ◌⊎◌, false, List, Contains}
-use Rattle.at_ledger.specs.Account.{slots_of}
-use Rattle.at_ledger.specs.Book.{BookTerms, HasSlot, account_of}
-use Rattle.at_history.specs.BoardState.{request_at}
-use Rattle.at_history.specs.Overtaking.{IsLastRequest}
-use Rattle.at_history.specs.Rounds.{is_settled}
-use Rattle.at_history.specs.declared.publication.Publication.{Publication}
-use Rattle.at_history.specs.declared.request.Request.{Request}
+use Rattle.at_board.specs.Prelude.{slots_of, BookTerms, HasSlot, account_of, request_at, IsLastRequest, is_settled, Publication, Request}
 use Rattle.at_board.specs.Knowledge.Parts.{HasLoadedRequest, asking_on, own_part, seen_as}
 use Rattle.at_board.specs.declared.knowledge.Asking.{Asking}
 use Rattle.at_board.specs.declared.knowledge.Knowledge.{Knowledge}

@@ -1,7 +1,6 @@
 -- Fresh counts: those that a call may take for a snapshot.
 use Rattle.std.specs.Prelude.{◌≡◌, ◌≢◌, ℕ, ◌+◌, ◌<◌, ◌≤◌, ◌⊎◌, List, length, map}
-use Rattle.at_ledger.specs.Book.{BookTerms}
-use Rattle.at_history.specs.BoardState.{publication_at}
+use Rattle.at_board.specs.Prelude.{BookTerms, publication_at}
 use Rattle.at_board.specs.Knowledge.Parts.{loads_of, own_part}
 use Rattle.at_board.specs.declared.knowledge.Knowledge.{Knowledge}
 

@@ -1,9 +1,6 @@
 -- That what a seat knows is so on the board.
 use Rattle.std.specs.Prelude.{◌≡◌, ℕ, ◌+◌, ◌<◌, List, length, slice_index, All}
-use Rattle.at_ledger.specs.Book.{BookTerms, HasSlot}
-use Rattle.at_history.specs.BoardState.{BoardState, decision_at, request_at}
-use Rattle.at_history.specs.Publications.{IsPrefix, count_of}
-use Rattle.at_history.specs.Sound.{Sound}
+use Rattle.at_board.specs.Prelude.{BookTerms, HasSlot, BoardState, decision_at, request_at, IsPrefix, count_of, Sound}
 use Rattle.at_board.specs.Knowledge.Parts.{asking_on, part_at, SeesRequest}
 use Rattle.at_board.specs.Words.Addresses.{IsAddress, record_width, record_word, request_word, word_at}
 use Rattle.at_board.specs.declared.knowledge.Asking.{Asking}

@@ -1,10 +1,6 @@
 -- Overviews: what the seats of one caller have seen, put together.
 use Rattle.std.specs.Prelude.{◌≡◌, [], List}
-use Rattle.atomic_table.specs.Seated.{TableId}
-use Rattle.at_ledger.specs.Book.{BookTerms}
-use Rattle.at_history.specs.Histories.{IsHistory}
-use Rattle.at_history.specs.Publications.{IsPrefix, count_of, longer}
-use Rattle.at_history.specs.declared.publication.Publication.{Publication}
+use Rattle.at_board.specs.Prelude.{TableId, BookTerms, IsHistory, IsPrefix, count_of, longer, Publication}
 use Rattle.at_board.specs.Knowledge.Agreement.{AgreesWithSeen}
 use Rattle.at_board.specs.Knowledge.Seats.{BoardTerms}
 use Rattle.at_board.specs.Steps.Note.{IsNote}

@@ -1,8 +1,6 @@
 -- What a seat or a note knows, and the part of a process in it.
 use Rattle.std.specs.Prelude.{ℕ, slice_set, ◌<◌, [], length, slice_index_or, Contains, replicate, None}
-use Rattle.at_base.specs.declared.decision.Decision.{Decision}
-use Rattle.at_ledger.specs.Book.{BookTerms}
-use Rattle.at_history.specs.declared.request.Request.{Request}
+use Rattle.at_board.specs.Prelude.{Decision, BookTerms, Request}
 use Rattle.at_board.specs.Words.Addresses.{record_width}
 use Rattle.at_board.specs.declared.knowledge.Asking.{Asking}
 use Rattle.at_board.specs.declared.knowledge.Loads.{Loads}

@@ -1,7 +1,6 @@
 -- The records that a seat has seen, and their words.
 use Rattle.std.specs.Prelude.{◌≡◌, ℕ, ◌<◌, slice_index}
-use Rattle.at_history.specs.BoardState.{publication_at}
-use Rattle.at_history.specs.Publications.{count_of, publications_of}
+use Rattle.at_board.specs.Prelude.{publication_at, count_of, publications_of}
 use Rattle.at_board.specs.Words.Packed.{IsForm, record_words}
 use Rattle.at_board.specs.declared.knowledge.Knowledge.{Knowledge}
 

@@ -1,14 +1,6 @@
 -- Seats and boards as callers see them, and what the type of a seat keeps.
 use Rattle.std.specs.Prelude.{◌≡◌, ℕ, ◌+◌, ◌<◌, ◌≤◌, true, false, List, length, slice_index, take}
-use Rattle.atomic_table.specs.Seated.{TableId}
-use Rattle.at_base.specs.declared.decision.Decision.{Decision}
-use Rattle.at_ledger.specs.Account.{slots_of}
-use Rattle.at_ledger.specs.Book.{BookTerms, IsBook, HasSlot, account_of}
-use Rattle.at_history.specs.BoardState.{request_at}
-use Rattle.at_history.specs.Histories.{IsHistory}
-use Rattle.at_history.specs.Overtaking.{IsLastRequest}
-use Rattle.at_history.specs.Publications.{count_of}
-use Rattle.at_history.specs.Rounds.{is_settled, named, rounds}
+use Rattle.at_board.specs.Prelude.{TableId, Decision, slots_of, BookTerms, IsBook, HasSlot, account_of, request_at, IsHistory, IsLastRequest, count_of, is_settled, named, rounds}
 use Rattle.at_board.specs.Knowledge.Agreement.{AgreesWithSeen, SeesInRange}
 use Rattle.at_board.specs.Knowledge.Parts.{asking_on, own_part, SeesDecision, SeesRequest}
 use Rattle.at_board.specs.Words.Addresses.{record_width}

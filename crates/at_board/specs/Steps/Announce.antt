@@ -1,11 +1,6 @@
 -- Announcing the seat's next request on an account.
 use Rattle.std.specs.Prelude.{◌≡◌, ℕ, ◌++◌, List, [], ◌∷◌, length, replicate, ◌+◌, ◌≤◌, true, take}
-use Rattle.at_ledger.specs.Book.{BookTerms}
-use Rattle.at_history.specs.Histories.{IsHistory}
-use Rattle.at_history.specs.Publications.{IsPrefix, count_of}
-use Rattle.at_history.specs.Rounds.{rounds, is_settled}
-use Rattle.at_history.specs.Sound.{AreTargets}
-use Rattle.at_history.specs.declared.request.Request.{Request}
+use Rattle.at_board.specs.Prelude.{BookTerms, IsHistory, IsPrefix, count_of, rounds, is_settled, AreTargets, Request}
 use Rattle.at_board.specs.Knowledge.Agreement.{AgreesWithSeen}
 use Rattle.at_board.specs.Knowledge.Knows.{SeesAll}
 use Rattle.at_board.specs.Knowledge.Parts.{asking_on, own_part, with_asking, seen_as}
@@ -35,7 +30,7 @@ pub record Announces (b : BookTerms) (before after : Knowledge) (a slot : ℕ) (
       after ≡ with_asking (record before { seen = after.seen; requests = before.requests ++ seen_as a slot (length w.announced) r ∷ [] }) a
       (with_request w r (rounds a after.seen) (own_part before).loads)
 
--- the seat may announce this request: its words are stored, and it keeps the laws of requests at the front of its `since`
+-- the seat may announce this request: its words are stored, and it keeps the laws of requests at the cut of its `since`
 pub record MayAnnounce (b : BookTerms) (v : Knowledge) (a slot : ℕ) (r : Request) : Type 0 where
   pub asks : MayStoreRequest b v a slot
   pub stored : (asking_on (own_part v) a).stored ≡ request_words r

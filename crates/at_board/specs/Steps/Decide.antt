@@ -1,21 +1,6 @@
 -- An exchange on the cell of a round.
 use Rattle.std.specs.Prelude.{◌≡◌, ℕ, ◌+◌, ◌<◌, ◌≤◌, ◌==◌, ◌++◌, List, [], ◌∷◌, length, take, slice_set, All, Option, Some, None, if◌then◌else◌, ◌↔◌, true, false}
-use Rattle.at_base.specs.Decision.{InRange, word_of}
-use Rattle.at_base.specs.declared.decision.Decision.{Decision}
-use Rattle.atomic_table.specs.Table.{Me, Step}
-use Rattle.at_ledger.specs.Account.{slots_of}
-use Rattle.at_ledger.specs.Book.{BookTerms, account_of}
-use Rattle.at_ledger.specs.Call.{amount_of}
-use Rattle.at_history.specs.Balances.{IsCovered}
-use Rattle.at_history.specs.BoardState.{BoardState, decision_at}
-use Rattle.at_history.specs.Histories.{IsHistory}
-use Rattle.at_history.specs.Overtaking.{IsLastRequest}
-use Rattle.at_history.specs.Publications.{IsPrefix, count_of}
-use Rattle.at_history.specs.Rounds.{rounds, named, is_settled}
-use Rattle.at_history.specs.Sound.{Sound}
-use Rattle.at_history.specs.declared.cell.Cell.{Cell}
-use Rattle.at_history.specs.declared.publication.Publication.{Publication}
-use Rattle.at_history.specs.declared.request.Request.{Request}
+use Rattle.at_board.specs.Prelude.{InRange, word_of, Decision, Me, Step, slots_of, BookTerms, account_of, amount_of, IsCovered, BoardState, decision_at, IsHistory, IsLastRequest, IsPrefix, count_of, rounds, named, is_settled, Sound, Cell, Publication, Request}
 use Rattle.at_board.specs.Knowledge.Agreement.{AgreesWithSeen}
 use Rattle.at_board.specs.Knowledge.Candidates.{HasLoadedRows, IsOldest}
 use Rattle.at_board.specs.Knowledge.Knows.{IsAnnounced, IsDecided}

@@ -1,8 +1,6 @@
 -- What a seat knows that has learned a note.
 use Rattle.std.specs.Prelude.{◌≡◌, ◌++◌, []}
-use Rattle.at_ledger.specs.Book.{BookTerms}
-use Rattle.at_history.specs.Histories.{IsHistory}
-use Rattle.at_history.specs.Publications.{IsPrefix, count_of, longer}
+use Rattle.at_board.specs.Prelude.{BookTerms, IsHistory, IsPrefix, count_of, longer}
 use Rattle.at_board.specs.Knowledge.Agreement.{AgreesWithSeen}
 use Rattle.at_board.specs.declared.knowledge.Knowledge.{Knowledge}
 

@@ -1,12 +1,6 @@
 -- A load of an announced word.
 use Rattle.std.specs.Prelude.{◌≡◌, ℕ, ◌<◌, ◌≤◌, ◌++◌, List, [], ◌∷◌, length, map, All}
-use Rattle.std.specs.List.{range_with_len}
-use Rattle.at_ledger.specs.Book.{BookTerms}
-use Rattle.at_history.specs.BoardState.{request_at}
-use Rattle.at_history.specs.Histories.{IsHistory}
-use Rattle.at_history.specs.Publications.{IsPrefix, count_of}
-use Rattle.at_history.specs.Sound.{AreTargets}
-use Rattle.at_history.specs.declared.request.Request.{Request}
+use Rattle.at_board.specs.Prelude.{range_with_len, BookTerms, request_at, IsHistory, IsPrefix, count_of, AreTargets, Request}
 use Rattle.at_board.specs.Knowledge.Agreement.{AgreesWithSeen}
 use Rattle.at_board.specs.Knowledge.Parts.{SeesRequest, asking_on, own_part, with_asking, seen_as}
 use Rattle.at_board.specs.declared.knowledge.Asking.{Asking}

@@ -1,8 +1,6 @@
 -- A load of a length.
 use Rattle.std.specs.Prelude.{◌≡◌, ℕ, ◌+◌, length, slice_set}
-use Rattle.at_ledger.specs.Book.{BookTerms}
-use Rattle.at_history.specs.Histories.{IsHistory}
-use Rattle.at_history.specs.Publications.{IsPrefix, count_of}
+use Rattle.at_board.specs.Prelude.{BookTerms, IsHistory, IsPrefix, count_of}
 use Rattle.at_board.specs.Knowledge.Agreement.{AgreesWithSeen}
 use Rattle.at_board.specs.Knowledge.Parts.{loads_of, own_part, with_part}
 use Rattle.at_board.specs.declared.knowledge.Part.{Part}

@@ -1,6 +1,6 @@
 -- A load of a word of a record that was seen.
 use Rattle.std.specs.Prelude.{ℕ, ◌<◌}
-use Rattle.at_ledger.specs.Book.{BookTerms}
+use Rattle.at_board.specs.Prelude.{BookTerms}
 use Rattle.at_board.specs.Knowledge.Records.{SeesRecord}
 use Rattle.at_board.specs.Words.Addresses.{record_width}
 use Rattle.at_board.specs.declared.knowledge.Knowledge.{Knowledge}

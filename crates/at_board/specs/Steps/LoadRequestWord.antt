@@ -1,10 +1,6 @@
 -- A load of a word of an announced request.
 use Rattle.std.specs.Prelude.{◌≡◌, ℕ, ◌<◌, ◌⊎◌, ◌≤◌, ◌++◌, [], ◌∷◌, slice_index}
-use Rattle.at_base.specs.declared.decision.Decision.{Decision}
-use Rattle.at_ledger.specs.Book.{BookTerms}
-use Rattle.at_history.specs.Fronts.{places_max}
-use Rattle.at_history.specs.Sound.{AreTargets}
-use Rattle.at_history.specs.declared.request.Request.{Request}
+use Rattle.at_board.specs.Prelude.{Decision, BookTerms, places_max, AreTargets, Request}
 use Rattle.at_board.specs.Knowledge.Agreement.{AgreesWithSeen}
 use Rattle.at_board.specs.Knowledge.Parts.{SeesDecision, SeesRequest, asking_on, own_part, with_asking, seen_as}
 use Rattle.at_board.specs.Words.Packed.{request_words}

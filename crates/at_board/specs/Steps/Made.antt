@@ -1,9 +1,6 @@
 -- Which step was made, by what a seat knew before it and after it.
 use Rattle.std.specs.Prelude.{◌≡◌, ℕ, ◌<◌, length, Option, None, Some}
-use Rattle.at_base.specs.declared.decision.Decision.{Decision}
-use Rattle.at_ledger.specs.Book.{BookTerms, HasSlot}
-use Rattle.at_history.specs.declared.publication.Publication.{Publication}
-use Rattle.at_history.specs.declared.request.Request.{Request}
+use Rattle.at_board.specs.Prelude.{Decision, BookTerms, HasSlot, Publication, Request}
 use Rattle.at_board.specs.Knowledge.Parts.{asking_on, own_part}
 use Rattle.at_board.specs.Steps.Announce.{Announces}
 use Rattle.at_board.specs.Steps.Decide.{Decides}

@@ -1,8 +1,6 @@
 -- What a table's rule says of two seats at once.
 use Rattle.std.specs.Prelude.{◌≡◌, ℕ}
-use lib.ListN.{get_elem?}
-use mathlib.Core.Option.{some}
-use Rattle.atomic_table.specs.Table.{State}
+use Rattle.at_board.specs.Prelude.{get_elem?, some, State}
 
 -- the table has some state in which the rule holds, and two different seats know this
 abbrev pub AreSeen : {S V : Type 0} → (State S V → Type 0) → ℕ → V → ℕ → V → Type 0

@@ -1,7 +1,6 @@
 -- A note: what a seat hands out of what it has seen.
 use Rattle.std.specs.Prelude.{◌≡◌, [], length}
-use Rattle.at_ledger.specs.Book.{IsBook}
-use Rattle.at_history.specs.Histories.{IsHistory}
+use Rattle.at_board.specs.Prelude.{IsBook, IsHistory}
 use Rattle.at_board.specs.Knowledge.Agreement.{SeesInRange}
 use Rattle.at_board.specs.declared.knowledge.Knowledge.{Knowledge}
 

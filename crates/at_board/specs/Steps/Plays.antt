@@ -2,10 +2,7 @@
 -- seat before it, the number loaded or stored, and the seat after it. The seat has no other word of the table than before, and
 -- what its type keeps is so.
 use Rattle.std.specs.Prelude.{◌≡◌, ℕ, ◌<◌, length}
-use Rattle.atomic_table.specs.Table.{Me, Step}
-use Rattle.at_ledger.specs.Book.{log_room_of}
-use Rattle.at_history.specs.declared.publication.Publication.{Publication}
-use Rattle.at_history.specs.declared.request.Request.{Request}
+use Rattle.at_board.specs.Prelude.{Me, Step, log_room_of, Publication, Request}
 use Rattle.at_board.specs.Knowledge.Parts.{asking_on, own_part}
 use Rattle.at_board.specs.Knowledge.Records.{IsRecordWord, SeesRecord}
 use Rattle.at_board.specs.Knowledge.Seats.{IsKept}

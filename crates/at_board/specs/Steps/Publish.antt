@@ -1,18 +1,6 @@
 -- Publishing the seat's next record.
 use Rattle.std.specs.Prelude.{◌≡◌, ℕ, ◌<◌, ◌⊎◌, List, Contains, ◌+◌, ◌++◌, [], ◌∷◌, replicate}
-use Rattle.at_base.specs.declared.decision.Decision.{Decision}
-use Rattle.at_ledger.specs.Book.{BookTerms, log_room_of}
-use Rattle.at_ledger.specs.Call.{TargetPair}
-use Rattle.at_history.specs.Fronts.{prefix_of}
-use Rattle.at_history.specs.HeldCells.{held_after}
-use Rattle.at_history.specs.Histories.{IsHistory}
-use Rattle.at_history.specs.Publications.{count_of}
-use Rattle.at_history.specs.Rounds.{owns_of}
-use Rattle.at_history.specs.Sound.{HasView, IsSoundOwn, IsSoundRound}
-use Rattle.at_history.specs.declared.publication.Entry.{Entry}
-use Rattle.at_history.specs.declared.publication.Entry.TheVariants.{Own, Round}
-use Rattle.at_history.specs.declared.publication.Publication.{Publication}
-use Rattle.at_history.specs.declared.request.Request.{Request}
+use Rattle.at_board.specs.Prelude.{Decision, BookTerms, log_room_of, TargetPair, prefix_of, held_after, IsHistory, count_of, owns_of, HasView, IsSoundOwn, IsSoundRound, Entry, Own, Round, Publication, Request}
 use Rattle.at_board.specs.Knowledge.Agreement.{AgreesWithSeen}
 use Rattle.at_board.specs.Knowledge.Knows.{SeesAll}
 use Rattle.at_board.specs.Knowledge.Parts.{SeesDecision, SeesRequest, own_part, with_part}

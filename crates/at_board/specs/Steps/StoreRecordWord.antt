@@ -1,6 +1,6 @@
 -- A store of a word of the seat's next record.
 use Rattle.std.specs.Prelude.{ℕ, ◌<◌, ◌≡◌, slice_set}
-use Rattle.at_ledger.specs.Book.{BookTerms, log_room_of}
+use Rattle.at_board.specs.Prelude.{BookTerms, log_room_of}
 use Rattle.at_board.specs.Knowledge.Parts.{own_part, with_part}
 use Rattle.at_board.specs.Words.Addresses.{record_width}
 use Rattle.at_board.specs.declared.knowledge.Part.{Part}

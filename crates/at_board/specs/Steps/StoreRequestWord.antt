@@ -1,6 +1,6 @@
 -- A store of a word of the seat's next request on an account.
 use Rattle.std.specs.Prelude.{◌≡◌, ℕ, slice_set, ◌<◌, length}
-use Rattle.at_ledger.specs.Book.{BookTerms, HasSlot}
+use Rattle.at_board.specs.Prelude.{BookTerms, HasSlot}
 use Rattle.at_board.specs.Knowledge.Parts.{asking_on, own_part, with_asking}
 use Rattle.at_board.specs.declared.knowledge.Asking.{Asking}
 use Rattle.at_board.specs.declared.knowledge.Knowledge.{Knowledge}

@@ -1,10 +1,6 @@
 -- Where each word of the board stands.
 use Rattle.std.specs.Prelude.{◌≡◌, ℕ, ◌+◌, ◌*◌, ◌<◌, ◌≤◌, List, [], ◌∷◌, length, map, sum, sum_by, take, slice_index, slice_index_or, refl}
-use Rattle.std.specs.List.{range_with_len}
-use Rattle.at_ledger.specs.Account.{rounds_room, slots_of}
-use Rattle.at_ledger.specs.Book.{BookTerms, account_of, log_room_of}
-use Rattle.at_ledger.specs.declared.draft.TheConstants.{PROCESSES_MAX, ROUNDS_MAX}
-use Rattle.at_history.specs.Fronts.{places_max}
+use Rattle.at_board.specs.Prelude.{range_with_len, rounds_room, slots_of, BookTerms, account_of, log_room_of, PROCESSES_MAX, ROUNDS_MAX, places_max}
 use Rattle.at_board.specs.declared.layout.Layout.{Layout}
 use Rattle.at_board.specs.declared.words.TheConstants.{RECORD_WORDS, REQUEST_WORDS}
 

@@ -1,15 +1,6 @@
 -- The words of records, requests and decisions.
 use Rattle.std.specs.Prelude.{◌^◌, ◌<◌, ℕ, List, [], ◌∷◌, ◌++◌, length, nat_lt, if◌then◌else◌}
-use Rattle.at_base.specs.Decision.{InRange, word_of}
-use Rattle.at_base.specs.Head.{head_word}
-use Rattle.at_base.specs.declared.decision.Decision.{Decision}
-use Rattle.at_ledger.specs.Call.{TargetPair, target_at}
-use Rattle.at_history.specs.BoardState.{decision_at}
-use Rattle.at_history.specs.Entries.{targets_of}
-use Rattle.at_history.specs.declared.publication.Entry.{Entry}
-use Rattle.at_history.specs.declared.publication.Entry.TheVariants.{Own, Round}
-use Rattle.at_history.specs.declared.publication.Publication.{Publication}
-use Rattle.at_history.specs.declared.request.Request.{Request}
+use Rattle.at_board.specs.Prelude.{InRange, word_of, head_word, Decision, TargetPair, target_at, decision_at, targets_of, Entry, Own, Round, Publication, Request}
 use Rattle.at_board.specs.Words.Targets.{ArePacked, accounts_of, targets_word}
 
 -- the numbers of an entry fit its words

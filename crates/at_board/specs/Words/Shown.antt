@@ -1,8 +1,6 @@
 -- The words of a board that has a state.
 use Rattle.std.specs.Prelude.{◌≡◌, ℕ, ◌<◌, ◌≤◌, List, length, slice_index}
-use Rattle.at_ledger.specs.Book.{BookTerms, log_room_of}
-use Rattle.at_history.specs.BoardState.{BoardState, publication_at, request_at}
-use Rattle.at_history.specs.Publications.{count_of, publications_of}
+use Rattle.at_board.specs.Prelude.{BookTerms, log_room_of, BoardState, publication_at, request_at, count_of, publications_of}
 use Rattle.at_board.specs.Words.Addresses.{IsAddress, announced_of, cell_of, length_of, record_word, request_word, word_at, word_count}
 use Rattle.at_board.specs.Words.Packed.{cell_word, record_words, request_words}
 

@@ -1,6 +1,6 @@
 -- The word of a list of accounts.
 use Rattle.std.specs.Prelude.{ℕ, ◌+◌, ◌*◌, ◌/◌, ◌%◌, ◌^◌, ◌<◌, ◌≤◌, List, length, map, slice_index, All}
-use Rattle.at_ledger.specs.Call.{TargetPair}
+use Rattle.at_board.specs.Prelude.{TargetPair}
 
 -- the accounts of targets, in order
 abbrev pub accounts_of : List TargetPair → List ℕ

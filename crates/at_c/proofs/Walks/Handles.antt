@@ -1,36 +1,10 @@
 -- The machine values of a handle. Assumes `Logic`.
 use Rattle.std.proofs.Common.{◌≡◌, ℕ, List, [], ◌∷◌, ◌++◌, refl, subst}
-use seplogic.Ra.Ura.{Ura}
-use mir.Syntax.{impl, tnil, dnil, ty_ptr}
+use Rattle.at_c.proofs.Prelude.{Ura, impl, tnil, dnil, ty_ptr, Val, vstruct, of_list, has_ty, WT, full_share, snd∗, via, guard_i, Fml, T, lit<, fact_use, Logic, sem, Item, Goal, Seq, Step, step, ‵, move, drop, fsplit, fjoin, fpick, fpack, feq_i, feq_l, use1, learn, given, RattleType, Valss, RawPtr, lone, Ptr, block_ptr, null_ptr, ptr_val, lies_at, Testable, nothing, layout, within, shape, Al, handle_tells, Good, Ptr-Good, dealloc_token-Testable, and_tt, Option, None, Some, ghosts, box_owns, owns_held}
 use mir.Raw.{raw as bare}
-use mir.Val.{Val, vstruct, of_list, has_ty, WT}
-use base.Fraction.{full_share}
-use base.Logic.{snd∗, via, guard_i}
-use base.Fml.{Fml}
-use lib.Dec.{T, lit<}
-use contract.Monad.{fact_use}
-use types.Logic.{Logic, sem}
-use types.Kit.{Item, Goal, Seq, Step, step, ‵, ◌$◌, move, drop, fsplit, fjoin, fpick, fpack, feq_i, feq_l, use1, learn, given}
-use denote.RattleType.{RattleType, Valss}
-use denote.Builtin.{RawPtr}
-use denote.Memory.{lone}
-use denote.RawPtr.{Ptr, block_ptr, null_ptr, ptr_val, lies_at, Testable}
-use denote.Steps.{nothing}
-use denote.Param.{layout}
-use denote.Struct.Struct.{within}
-use denote.Struct.Owning.{shape}
-use Rattle.core.proofs.alloc.Calls.{Al, handle_tells}
-use Rattle.core.proofs.cell.Inside.{Good}
-use Rattle.core.proofs.atomic.Steps.{Ptr-Good}
-use Rattle.std.proofs.GlobalToken.{dealloc_token-Testable}
-use Rattle.std_alloc.proofs.ResultValues.{and_tt}
-use Rattle.std.specs.declared.option.Option.{Option}
-use Rattle.std.specs.declared.option.Option.TheVariants.{None, Some}
+use types.Kit.{◌$◌}
 use Rattle.std.specs.contracts.alloc.Global as heap
 use Rattle.std.proofs.alloc.Global.TheLaws as heap_laws
-use Rattle.std.specs.contracts.impls.GlobalAllocator.TheImpl.{ghosts}
-use Rattle.std_alloc.specs.Box.Ownership.{box_owns}
-use Rattle.at_c.specs.Handles.{owns_held}
 use Rattle.at_c.specs.contracts.handle.Handle as handle
 use Rattle.at_c.specs.contracts.held.Held as held_type
 use Rattle.at_c.proofs.Walks.Boxes.{both}

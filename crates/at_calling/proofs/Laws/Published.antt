@@ -1,39 +1,8 @@
 -- How many records each step of a call publishes: what its process has published rises by so many.
 use Rattle.std.proofs.Common.{◌≡◌, ℕ, ◌+◌, ◌<◌, ◌≤◌, List, length, if◌then◌else◌, refl, sym, ap, subst, arith, inl, inr}
-use Rattle.std.proofs.lemmas.Bool.{cases_lt, eq-eqb, ne_eqb}
-use Rattle.at_base.specs.Decision.{word_of}
-use Rattle.at_ledger.specs.Book.{BookTerms}
-use Rattle.at_history.specs.declared.publication.Publication.{Publication}
-use Rattle.at_board.specs.Knowledge.Parts.{loads_of, own_part}
-use Rattle.at_board.specs.Knowledge.Seats.{SeatTerms}
-use Rattle.at_board.specs.Steps.LoadLength.{with_load}
-use Rattle.at_board.specs.Steps.Publish.{Publishes}
-use Rattle.at_board.specs.Steps.StoreRecordWord.{StoresWord, with_word}
-use Rattle.at_board.specs.Words.Addresses.{record_width}
-use Rattle.at_board.specs.declared.knowledge.Knowledge.{Knowledge}
-use Rattle.at_board.specs.declared.knowledge.Part.{Part}
-use Rattle.at_board.specs.declared.words.TheConstants.{REQUEST_WORDS}
-use Rattle.at_fold.specs.Sums.{TotalSums}
-use Rattle.at_shared.proofs.Laws.After.{own_part-Decides, own_part-Publishes}
-use Rattle.at_machines.specs.Appending.{published_after}
-use Rattle.at_machines.specs.Asking.{AskingTerms, AnnouncesAsked, StoresNextRequestWord, request_asked}
-use Rattle.at_machines.specs.CollectingRows.{rows_after}
-use Rattle.at_machines.specs.Deciding.{DecidingTerms, MakesStep, NextOfRound, publishes_in, round_in}
-use Rattle.at_machines.specs.Looking.{MakesLookLoad}
-use Rattle.at_machines.specs.Snapping.{MakesLoad, NextLoad}
-use Rattle.at_machines.specs.declared.look_stage.LookStage.{LookStage}
+use Rattle.at_calling.proofs.Prelude.{cases_lt, eq-eqb, ne_eqb, word_of, BookTerms, Publication, loads_of, own_part, SeatTerms, with_load, Publishes, StoresWord, with_word, record_width, Knowledge, Part, REQUEST_WORDS, TotalSums, own_part-Decides, own_part-Publishes, published_after, AskingTerms, AnnouncesAsked, StoresNextRequestWord, request_asked, rows_after, DecidingTerms, MakesStep, NextOfRound, publishes_in, round_in, MakesLookLoad, MakesLoad, NextLoad, LookStage, MakesCallStep, publishes_of, MakesPayStep, pay_publishes_at, MakesShareStep, share_publishes_at, MakesStartStep, MakesTurnStep, publishes_at, CallStage, PayStage, ShareStage, StartStage, TurnStage}
 use Rattle.at_calling.proofs.PayingAloneLaws.{published-with_part}
 use Rattle.at_calling.proofs.StartingLaws.{HasSameCounts-Announces, HasSameCounts-LoadsRequestWord, HasSameCounts-MakesNextLoad, HasSameCounts-StoresRequestWord}
-use Rattle.at_calling.specs.Calling.{MakesCallStep, publishes_of}
-use Rattle.at_calling.specs.PayingAlone.{MakesPayStep, pay_publishes_at}
-use Rattle.at_calling.specs.PayingShared.{MakesShareStep, share_publishes_at}
-use Rattle.at_calling.specs.Starting.{MakesStartStep}
-use Rattle.at_calling.specs.Turning.{MakesTurnStep, publishes_at}
-use Rattle.at_calling.specs.declared.call_stage.CallStage.{CallStage}
-use Rattle.at_calling.specs.declared.pay_stage.PayStage.{PayStage}
-use Rattle.at_calling.specs.declared.share_stage.ShareStage.{ShareStage}
-use Rattle.at_calling.specs.declared.start_stage.StartStage.{StartStage}
-use Rattle.at_calling.specs.declared.turn_stage.TurnStage.{TurnStage}
 
 -- a step that publishes so many records
 abbrev PublishesSo : Knowledge → Knowledge → ℕ → Type 0

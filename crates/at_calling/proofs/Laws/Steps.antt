@@ -1,27 +1,6 @@
 -- Which step a turn of a call makes: just the one that its stage names.
 use Rattle.std.proofs.Common.{List, refl, ap, subst}
-use Rattle.at_ledger.specs.Book.{BookTerms}
-use Rattle.at_history.specs.declared.publication.Publication.{Publication}
-use Rattle.at_board.specs.Knowledge.Seats.{SeatTerms}
-use Rattle.at_board.specs.Steps.Made.{MakesOnly}
-use Rattle.at_board.specs.declared.knowledge.Knowledge.{Knowledge}
-use Rattle.at_fold.specs.Sums.{TotalSums}
-use Rattle.at_machines.proofs.Laws.Steps.{MakesOnly-MakesLookLoad, MakesOnly-MakesNextLoad, MakesOnly-MakesStep, MakesOnly-append, MakesOnly-ask}
-use Rattle.at_machines.specs.Appending.{append_step}
-use Rattle.at_machines.specs.Asking.{ask_step}
-use Rattle.at_machines.specs.CollectingRows.{rows_after}
-use Rattle.at_machines.specs.Deciding.{step_in_round}
-use Rattle.at_machines.specs.LoadingRow.{row_step}
-use Rattle.at_calling.specs.Calling.{MakesCallStep, next_step, steps_of}
-use Rattle.at_calling.specs.PayingAlone.{MakesPayStep, pay_step_at}
-use Rattle.at_calling.specs.PayingShared.{MakesShareStep, share_step_at}
-use Rattle.at_calling.specs.Starting.{MakesStartStep, start_step_at}
-use Rattle.at_calling.specs.Turning.{MakesTurnStep, help_step_at}
-use Rattle.at_calling.specs.declared.call_stage.CallStage.{CallStage}
-use Rattle.at_calling.specs.declared.pay_stage.PayStage.{PayStage}
-use Rattle.at_calling.specs.declared.share_stage.ShareStage.{ShareStage}
-use Rattle.at_calling.specs.declared.start_stage.StartStage.{StartStage}
-use Rattle.at_calling.specs.declared.turn_stage.TurnStage.{TurnStage}
+use Rattle.at_calling.proofs.Prelude.{BookTerms, Publication, SeatTerms, MakesOnly, Knowledge, TotalSums, MakesOnly-MakesLookLoad, MakesOnly-MakesNextLoad, MakesOnly-MakesStep, MakesOnly-append, MakesOnly-ask, append_step, ask_step, rows_after, step_in_round, row_step, MakesCallStep, next_step, steps_of, MakesPayStep, pay_step_at, MakesShareStep, share_step_at, MakesStartStep, start_step_at, MakesTurnStep, help_step_at, CallStage, PayStage, ShareStage, StartStage, TurnStage}
 
 module _ (b : BookTerms) (seen : List Publication) (before after : SeatTerms) (now : TotalSums) where
   MakesOnly-MakesPayStep : (stage : PayStage) → MakesPayStep b seen stage before after now → MakesOnly b before.knows after.knows 1 (pay_step_at b stage)

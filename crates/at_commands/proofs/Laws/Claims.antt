@@ -1,16 +1,8 @@
 -- When `verify` is refused, and what is answered of a claim.
 use Rattle.std.proofs.Common.{◌≡◌, ◌≢◌, ℕ, List, Bool, true, Result, Ok, Err, IfErr, ◌⊎◌, inl, inr, refl}
-use Rattle.at_io.specs.Faults.{Rose}
-use Rattle.at_report.specs.declared.status.Status.{Status}
-use Rattle.at_report.specs.declared.status.Status.TheVariants.{Done, Usage, BadBook, BadPayments, ReadFault, WriteFault, NoMemory, TooLong, BadSchedule, BadOrder, BadMessages, NotLegal, TooManyOrders}
+use Rattle.at_commands.proofs.Prelude.{Rose, Status, Usage, BadBook, BadPayments, ReadFault, WriteFault, NoMemory, TooLong, BadSchedule, BadOrder, BadMessages, NotLegal, TooManyOrders, Verifying, Files, Loaded, fetched, loaded, payments, HasFurtherNumbers, IsFaultless, MayRefuse, AnswersVerify, Claim, IsRight, IsRightClaim, IsWrongAt, MayRefuseClaim, RefusesClaim, SpellsClaim, claimed, report_number, MayRefuse-loaded, MayRefuse-whole, Rose-IsFaultless, fetched-HoldsFile, loaded-Spelled}
+use Rattle.at_report.specs.declared.status.Status.TheVariants.{Done}
 use Rattle.at_report.specs.declared.status.UsageFault.TheVariants as usage
-use Rattle.at_loading.specs.Words.{Verifying}
-use Rattle.at_loading.specs.Loading.{Files, Loaded, fetched, loaded}
-use Rattle.at_loading.specs.Faults.Kind.{payments}
-use Rattle.at_loading.specs.Faults.{HasFurtherNumbers, IsFaultless, MayRefuse}
-use Rattle.at_commands.specs.Claims.{AnswersVerify, Claim, IsRight, IsRightClaim, IsWrongAt, MayRefuseClaim, RefusesClaim, SpellsClaim, claimed, report_number}
-use Rattle.at_loading.proofs.Laws.MayRefuse.{MayRefuse-loaded, MayRefuse-whole, Rose-IsFaultless}
-use Rattle.at_loading.proofs.Laws.SpelledLoaded.{fetched-HoldsFile, loaded-Spelled}
 
 -- a report beside what was loaded, over the files as they are then
 pub claimed-fetched : (files now : Files) (asked : Verifying) (l : Loaded) (bytes : List ℕ) (number : ℕ) → now ≡ files → number ≡ report_number asked

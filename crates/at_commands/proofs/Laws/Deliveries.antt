@@ -1,20 +1,6 @@
 -- What the files of `deliver` hold, one after another.
 use Rattle.std.proofs.Common.{◌≡◌, ◌∙◌, ℕ, ◌+◌, ◌<◌, ◌≤◌, List, [], length, map, get_or, slice_set, All, Ok, Err, refl, sym, ap, arith, inl, inr, get_or-set_same, get_or-set_other}
-use Rattle.std.proofs.lemmas.Bool.{cases_eq}
-use Rattle.std.proofs.lemmas.List.{get_or-map, length-map}
-use Rattle.at_broadcast.specs.declared.message.Message.{Message}
-use Rattle.at_files.specs.BookRecords.{NamedBook}
-use Rattle.at_files.specs.Limits.{most_messages}
-use Rattle.at_files.specs.Records.{file_records}
-use Rattle.at_files.specs.declared.deliveries.Delivery.{Delivery}
-use Rattle.at_files.proofs.DeliveryLaws.{deliveries_of-Delivers}
-use Rattle.at_files.proofs.MessageLaws.{counts_of-set}
-use Rattle.at_report.specs.declared.status.Status.{Status}
-use Rattle.at_commands.specs.Delivering.{SpellsBroadcast, broadcast, order_beside, order_loaded, order_number, sent_loaded}
-use Rattle.at_loading.specs.Loading.{Files, IsSpelled, LoadedOf, SendsBytes, messages_given}
-use Rattle.at_commands.specs.Nodes.{AreSent, Broadcast, counts_of}
-use Rattle.at_loading.specs.Words.{Delivering}
-use Rattle.at_loading.proofs.Laws.SpelledLoaded.{Accepts-messages, all_loaded-SpelledOf, fetched-HoldsFile}
+use Rattle.at_commands.proofs.Prelude.{cases_eq, get_or-map, length-map, Message, NamedBook, most_messages, file_records, Delivery, deliveries_of-Delivers, counts_of-set, Status, SpellsBroadcast, broadcast, order_beside, order_loaded, order_number, sent_loaded, Files, IsSpelled, LoadedOf, SendsBytes, messages_given, AreSent, Broadcast, counts_of, Delivering, Accepts-messages, all_loaded-SpelledOf, fetched-HoldsFile}
 
 -- the deliveries beside the messages that were loaded, over the files as they are then
 pub broadcast-ordered : (files now : Files) (asked : Delivering) (l : LoadedOf Message) (deliveries : List Delivery) (number : ℕ) (counts : List ℕ)

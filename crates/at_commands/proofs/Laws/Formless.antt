@@ -1,13 +1,7 @@
 -- Words are refused exactly where they ask for nothing, and which of them leave no ledger.
 use Rattle.std.proofs.Common.{◌≡◌, ◌≢◌, ◌↔◌, ℕ, List, Option, Some, None, refl, inl, inr}
-use Rattle.at_report.specs.declared.status.Status.TheVariants.{Usage}
-use Rattle.at_report.specs.declared.status.UsageFault.TheVariants.{Words}
-use Rattle.at_loading.specs.Words.{Form, Wanted}
-use Rattle.at_loading.specs.Words.Wanted.{Agree, Deliver, Files, Make, Replay, Verify}
-use Rattle.at_loading.specs.declared.numbers.Making.{Making}
-use Rattle.at_loading.specs.declared.words.Command.TheVariants.{Check}
-use Rattle.at_commands.specs.Answered.{Leaves, LeavesNoLedger}
-use Rattle.at_commands.specs.Outcome.{Found, Outcome}
+use Rattle.at_commands.proofs.Prelude.{Usage, Words, Form, Wanted, Agree, Deliver, Make, Verify, Making, Check, Leaves, LeavesNoLedger, Found, Outcome}
+use Rattle.at_loading.specs.Words.Wanted.{Files, Replay}
 
 pub Leaves-formless : (wanted : Option Wanted) (s : Found) (o : Outcome) → Leaves wanted s o → (o.answer ≡ Usage Words) ↔ (wanted ≡ None)
 Leaves-formless (Some (Files form)) s o left = (λ is. absurd (left.formed is), λ none. absurd (cc))

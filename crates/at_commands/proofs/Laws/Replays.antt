@@ -1,23 +1,7 @@
 -- What the files of `replay` hold, one after another.
 use Rattle.std.proofs.Common.{◌≡◌, ℕ, ◌≤◌, ◌^◌, List, length, All, Ok, Err, refl, arith}
-use Rattle.at_ledger.specs.Files.{IsPlayable}
-use Rattle.at_files.specs.BookRecords.{NamedBook}
-use Rattle.at_files.specs.Records.{file_records}
-use Rattle.at_files.proofs.ScheduleLaws.{schedule_of-Schedules}
-use Rattle.at_ledger.specs.Book.{BookTerms}
-use Rattle.at_ledger.specs.Call.{IsLineOn}
-use Rattle.at_ledger.specs.Run.{Legal, Whole}
-use Rattle.at_ledger.specs.declared.call.Call.{Call}
-use Rattle.at_ledger.specs.declared.call.Line.{Line}
-use Rattle.at_report.specs.Report.{report_text}
-use Rattle.at_report.specs.declared.status.Status.{Status}
-use Rattle.at_loading.specs.Loading.{Files, IsSpelled, Loaded, PaysReplayBytes, replay_calls_given}
-use Rattle.at_stepper.specs.InTurns.{IsReplayBy}
-use Rattle.at_stepper.specs.declared.replaying.Replayed.{Replayed}
-use Rattle.at_commands.specs.Replaying.{Replay, ReportsReplay, SpellsReplay, calls_loaded, replay_loaded, schedule_loaded, schedule_number}
-use Rattle.at_loading.specs.Words.{Replaying}
+use Rattle.at_commands.proofs.Prelude.{IsPlayable, NamedBook, file_records, schedule_of-Schedules, BookTerms, IsLineOn, Legal, Whole, Call, Line, report_text, Status, Files, IsSpelled, Loaded, PaysReplayBytes, replay_calls_given, IsReplayBy, Replayed, Replay, ReportsReplay, SpellsReplay, calls_loaded, replay_loaded, schedule_loaded, schedule_number, Replaying, Accepts-replay, all_loaded-SpelledOf, fetched-HoldsFile}
 use Rattle.at_commands.proofs.Laws.RunTotals.{IsLineOn-Whole, sum-last_state}
-use Rattle.at_loading.proofs.Laws.SpelledLoaded.{Accepts-replay, all_loaded-SpelledOf, fetched-HoldsFile}
 
 -- the schedule beside the calls that were loaded, over the files as they are then
 pub replay_loaded-scheduled : (files now : Files) (asked : Replaying) (l : Loaded) (schedule : List ℕ) (number processes : ℕ)

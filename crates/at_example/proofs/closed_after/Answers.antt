@@ -1,6 +1,5 @@
 use Rattle.std.proofs.Common.{◌++◌, ap, ◌∙◌}
-use Rattle.std.specs.Option.{option_to_list}
-use Rattle.at_ledger.specs.Book.{BookTerms}
+use Rattle.at_example.proofs.Prelude.{option_to_list, BookTerms}
 use Rattle.at_example.proofs.Accounts.{IsNewPass-two}
 use Rattle.at_example.proofs.closed_after.Goals as goal
 

@@ -1,8 +1,5 @@
 use Rattle.std.proofs.Common.{◌<◌, [], ◌∷◌, ◌++◌, length, subst, sym, ap, ◌∙◌, arith}
-use Rattle.std.proofs.lemmas.List.Elements.{All-cons, All-nil}
-use Rattle.at_ledger.specs.Call.{AreTargetsOn, TargetPair}
-use Rattle.at_log.specs.declared.receipt.Receipt.{Receipt}
-use Rattle.at_object.specs.Passes.{PassTerms, Stands}
+use Rattle.at_example.proofs.Prelude.{All-cons, All-nil, AreTargetsOn, TargetPair, Receipt, PassTerms, Stands}
 use Rattle.at_example.proofs.deal.Goals as goal
 
 pub pay-paid_out-requires-clause-targets : goal.pay-paid_out-requires-clause-targets

@@ -1,20 +1,7 @@
 -- Totals that catch up with counts: from the start, record by record and process by process, to the end.
 use Rattle.std.proofs.Common.{◌≡◌, ◌≢◌, ℕ, ◌+◌, ◌<◌, ◌≤◌, List, get_or, set, refl, sym, ap, ◌∙◌, arith, inl, inr, below_more, get_or-set_other, get_or-set_same}
-use Rattle.std.proofs.lemmas.Bool.{cases_eq}
-use Rattle.std.proofs.lemmas.Grind.{same_number_lists}
-use Rattle.at_base.specs.Counts.{Covers}
-use Rattle.at_ledger.specs.Book.{BookTerms}
-use Rattle.at_history.proofs.Laws.Counts.{get_or-counts, length-counts}
-use Rattle.at_history.specs.Histories.{IsHistory}
-use Rattle.at_history.specs.Publications.{count_of}
-use Rattle.at_history.specs.declared.publication.Entry.{Entry}
-use Rattle.at_history.specs.declared.publication.Publication.{Publication}
-use Rattle.at_board.specs.declared.knowledge.Knowledge.{Knowledge}
-use Rattle.at_log.specs.Loading.{IsEntryOf}
+use Rattle.at_fold.proofs.Prelude.{cases_eq, same_number_lists, Covers, BookTerms, get_or-counts, length-counts, IsHistory, count_of, Entry, Publication, Knowledge, IsEntryOf, IsCatchingUp, HasCounted, HasRecords, MayCount, TotalSums}
 use Rattle.at_fold.proofs.Laws.LoadedRecords.{MayCount-loaded}
-use Rattle.at_fold.specs.CatchingUp.{IsCatchingUp}
-use Rattle.at_fold.specs.HasCounted.{HasCounted, HasRecords, MayCount}
-use Rattle.at_fold.specs.Sums.{TotalSums}
 
 pub IsCatchingUp-start : (b : BookTerms) (seen : List Publication) (counts : List ℕ) (t : TotalSums) → HasCounted t b seen → Covers counts t.upto
     → HasRecords b seen counts → IsCatchingUp b seen counts t.upto t 0

@@ -1,32 +1,19 @@
 -- Totals that have counted the records of a prefix.
 use Rattle.std.proofs.Common.{◌≡◌, ℕ, ◌+◌, ◌-◌, ◌^◌, ◌<◌, ◌≤◌, List, length, get_or, sym, ap, ◌∙◌, arith}
-use Rattle.std.proofs.lemmas.List.{get_or_default}
-use Rattle.std.proofs.lemmas.List.Elements.{All-contains_itself, All-from_get_or, All-take}
-use Rattle.std.specs.List.{Contains}
-use Rattle.at_ledger.specs.Book.{BookTerms}
-use Rattle.at_history.proofs.Laws.Fronts.{place-IsFront-le}
-use Rattle.at_history.specs.Balances.{balance_after}
-use Rattle.at_history.specs.Fronts.{prefix_of, place}
-use Rattle.at_history.specs.Histories.{IsHistory}
-use Rattle.at_history.specs.Moves.{IsRun}
-use Rattle.at_history.specs.Publications.{ArePublishedBy, no_publication}
-use Rattle.at_history.specs.declared.publication.Publication.{Publication}
+use Rattle.at_fold.proofs.Prelude.{get_or_default, All-contains_itself, All-from_get_or, All-take, Contains, BookTerms, place-IsCut-le, balance_after, prefix_of, place, IsHistory, IsRun, ArePublishedBy, no_publication, Publication, counted_records, AreSumsOf, CountsAccount, CountsCut, HasCounted, AccountSums, TotalSums, no_sums, sums_at}
 use Rattle.at_fold.proofs.Laws.CountedRecords.{All-counted_records, HasSameRecords-prefix_of, length-counted_records-le}
 use Rattle.at_fold.proofs.SumsOfLists.{AreSumsOf-same}
-use Rattle.at_fold.specs.Counted.{counted_records}
-use Rattle.at_fold.specs.HasCounted.{AreSumsOf, CountsAccount, CountsFront, HasCounted}
-use Rattle.at_fold.specs.Sums.{AccountSums, TotalSums, no_sums, sums_at}
 
 pub ArePublishedBy-IsHistory : (b : BookTerms) (seen : List Publication) → IsHistory b seen → ArePublishedBy b.processes seen
 ArePublishedBy-IsHistory b seen history =
     All-from_get_or (λ x. x.process < b.processes) seen no_publication (λ i within. (history.views i within).process)
 
 -- the sums are those of the prefix
-pub AreSumsOf-front : (t : TotalSums) (b : BookTerms) (seen : List Publication) → HasCounted t b seen → CountsFront t b seen
+pub AreSumsOf-cut : (t : TotalSums) (b : BookTerms) (seen : List Publication) → HasCounted t b seen → CountsCut t b seen
     → AreSumsOf b (prefix_of t.upto seen) t.accounts
-AreSumsOf-front t b seen counts at =
+AreSumsOf-cut t b seen counts at =
     AreSumsOf-same b seen at.history (counted_records t.upto seen) (prefix_of t.upto seen) t.accounts
-    (λ p. sym (HasSameRecords-prefix_of b.processes t.upto seen at.front (ArePublishedBy-IsHistory b seen at.history) p))
+    (λ p. sym (HasSameRecords-prefix_of b.processes t.upto seen at.cut (ArePublishedBy-IsHistory b seen at.history) p))
     (All-counted_records t.upto seen) (All-take (Contains seen) (place t.upto) seen (All-contains_itself seen)) counts.sums
 
 -- the sums of an account give this balance
@@ -36,13 +23,13 @@ pub record IsBalanced (account_sums : AccountSums) (balance : ℕ) : Type 0 wher
   pub fits : account_sums.opening + account_sums.credits - account_sums.debits < 2 ^ 64
   pub is : account_sums.opening + account_sums.credits - account_sums.debits ≡ balance
 
-pub IsBalanced-front : (t : TotalSums) (b : BookTerms) (seen : List Publication) (a : ℕ) → CountsAccount t b seen a → CountsFront t b seen
+pub IsBalanced-cut : (t : TotalSums) (b : BookTerms) (seen : List Publication) (a : ℕ) → CountsAccount t b seen a → CountsCut t b seen
     → IsBalanced (sums_at t.accounts a) (balance_after b (prefix_of t.upto seen) a)
-IsBalanced-front t b seen a counts at =
-    let account_sums = (AreSumsOf-front t b seen counts.counted at).accounts a counts.account_in in
+IsBalanced-cut t b seen a counts at =
+    let account_sums = (AreSumsOf-cut t b seen counts.counted at).accounts a counts.account_in in
     let before = counts.counted.sums.accounts a counts.account_in in
     let run : IsRun b (prefix_of t.upto seen) =
-    at.history.runs (place t.upto) (place-IsFront-le b.processes t.upto seen at.front (ArePublishedBy-IsHistory b seen at.history)) in
+    at.history.runs (place t.upto) (place-IsCut-le b.processes t.upto seen at.cut (ArePublishedBy-IsHistory b seen at.history)) in
     let few = length-counted_records-le b t.upto seen counts.counted.book at.history counts.counted.processes in
     record {
       room = omega (arith, before.small_credits, few);

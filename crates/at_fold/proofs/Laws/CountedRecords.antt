@@ -1,23 +1,6 @@
 -- The records that are counted: which of each process, and how they change.
 use Rattle.std.proofs.Common.{◌≡◌, ℕ, ◌+◌, ◌<◌, ◌≤◌, ◌==◌, zero, suc, true, List, [], ◌∷◌, ◌++◌, length, get_or, take, set, refl, sym, ap, subst, ◌∙◌, arith, inl, inr, ◌⊎◌, get_or-set_other, get_or-set_same, length-set}
-use Rattle.std.proofs.lemmas.Bool.{cases_eq, cases_lt, eqb-true}
-use Rattle.std.proofs.lemmas.List.{append-nil, length-take, take-append-le, take_more}
-use Rattle.std.proofs.lemmas.List.Concat.{length-flat_map}
-use Rattle.std.proofs.lemmas.List.Elements.{All-append, All-contains_itself, All-filter, All-get_or, All-head, All-tail, All-take, All-weaker, filter_passes}
-use Rattle.std.proofs.lemmas.List.Sums.{sum_by-cons}
-use Rattle.std.specs.List.{All, Contains, flat_map, range_with_len, sum_by}
-use Rattle.at_base.specs.Counts.{Covers}
-use Rattle.at_ledger.specs.Book.{BookTerms, IsBook, log_room_of}
-use Rattle.at_history.proofs.Laws.Counts.{get_or-counts, length-counts, publications_of-append, publications_of-nil, publications_of-other, publications_of-own, publications_of-take}
-use Rattle.at_history.proofs.Laws.Fronts.{get_or-IsFront, length-IsFront}
-use Rattle.at_history.proofs.Laws.Rooms.{sum-log_room_of}
-use Rattle.at_history.proofs.Laws.Shuffles.{HasSameRecords}
-use Rattle.at_history.specs.BoardState.{publication_at}
-use Rattle.at_history.specs.Fronts.{IsFront, prefix_of, place}
-use Rattle.at_history.specs.Histories.{IsHistory}
-use Rattle.at_history.specs.Publications.{ArePublishedBy, IsPrefix, count_of, counts, no_publication, publications_of}
-use Rattle.at_history.specs.declared.publication.Publication.{Publication}
-use Rattle.at_fold.specs.Counted.{counted_records}
+use Rattle.at_fold.proofs.Prelude.{cases_eq, cases_lt, eqb-true, append-nil, length-take, take-append-le, take_more, length-flat_map, All-append, All-contains_itself, All-filter, All-get_or, All-head, All-tail, All-take, All-weaker, filter_passes, sum_by-cons, All, Contains, flat_map, range_with_len, sum_by, Covers, BookTerms, IsBook, log_room_of, get_or-counts, length-counts, publications_of-append, publications_of-nil, publications_of-other, publications_of-own, publications_of-take, get_or-IsCut, length-IsCut, sum-log_room_of, HasSameRecords, publication_at, IsCut, prefix_of, place, IsHistory, ArePublishedBy, IsPrefix, count_of, counts, no_publication, publications_of, Publication, counted_records}
 
 -- each of them is the process's
 pub publications_of-process : (p : ℕ) (xs : List Publication) → All (λ x. x.process ≡ p) (publications_of p xs)
@@ -131,15 +114,15 @@ HasSameRecords-more upto list p inside within =
     ∙ (ap (λ t. publications_of q (counted_records upto list) ++ t) (other q apart)
     ∙ (append-nil (publications_of q (counted_records upto list)) ∙ publications_of-counted_records_past q upto list (omega (arith, past, sized)))))
 
--- a front's prefix has the records that the front counts
-pub HasSameRecords-prefix_of : (n : ℕ) (view : List ℕ) (list : List Publication) → IsFront n view list → ArePublishedBy n list
+-- a cut's prefix has the records that the cut counts
+pub HasSameRecords-prefix_of : (n : ℕ) (view : List ℕ) (list : List Publication) → IsCut n view list → ArePublishedBy n list
     → HasSameRecords (prefix_of view list) (counted_records view list)
-HasSameRecords-prefix_of n view list front known =
-    let sized = length-IsFront n view list front in
+HasSameRecords-prefix_of n view list cut known =
+    let sized = length-IsCut n view list cut in
     HasSameRecords-counted_records view list (prefix_of view list)
     (λ p within.
     publications_of-take p (place view) list
-    ∙ ap (λ i. take i (publications_of p list)) (sym (get_or-IsFront n view list p front (omega (arith, within, sized)))))
+    ∙ ap (λ i. take i (publications_of p list)) (sym (get_or-IsCut n view list p cut (omega (arith, within, sized)))))
     (λ p past. nothing p (prefix_of view list) (All-take (λ (x : Publication). x.process < n) (place view) list known) (omega (arith, past, sized)))
   where
     nothing : (p : ℕ) (xs : List Publication) → All (λ x. x.process < n) xs → n ≤ p → publications_of p xs ≡ []

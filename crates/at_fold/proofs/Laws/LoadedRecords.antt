@@ -1,16 +1,6 @@
 -- Counting loaded records.
 use Rattle.std.proofs.Common.{◌≡◌, ℕ, ◌+◌, ◌<◌, ◌≤◌, List, length, get_or, set, sym, ap, ◌∙◌, arith}
-use Rattle.std.proofs.lemmas.List.Sums.{sum_by-set}
-use Rattle.std.specs.List.{sum}
-use Rattle.at_ledger.specs.Book.{BookTerms}
-use Rattle.at_history.specs.BoardState.{publication_at}
-use Rattle.at_history.specs.Histories.{IsHistory}
-use Rattle.at_history.specs.Publications.{count_of, publications_of}
-use Rattle.at_history.specs.declared.publication.Entry.{Entry}
-use Rattle.at_board.specs.declared.knowledge.Knowledge.{Knowledge}
-use Rattle.at_log.specs.Loading.{IsEntryOf}
-use Rattle.at_fold.specs.HasCounted.{HasCounted, MayCount}
-use Rattle.at_fold.specs.Sums.{TotalSums}
+use Rattle.at_fold.proofs.Prelude.{sum_by-set, sum, BookTerms, publication_at, IsHistory, count_of, publications_of, Entry, Knowledge, IsEntryOf, HasCounted, MayCount, TotalSums}
 
 -- a loaded record may be counted
 pub MayCount-loaded : (t : TotalSums) (b : BookTerms) (v : Knowledge) (p i : ℕ) (e : Entry) → HasCounted t b v.seen → IsHistory b v.seen

@@ -1,12 +1,7 @@
 -- Totals stay so when more is published.
 use Rattle.std.proofs.Common.{◌<◌, List, sym, subst, arith}
-use Rattle.at_ledger.specs.Book.{BookTerms}
-use Rattle.at_history.proofs.Laws.Counts.{get_or-counts, length-counts}
-use Rattle.at_history.proofs.Laws.Prefixes.{IsPrefix-count_of}
-use Rattle.at_history.specs.declared.publication.Publication.{Publication}
+use Rattle.at_fold.proofs.Prelude.{BookTerms, get_or-counts, length-counts, IsPrefix-count_of, Publication, AreSumsOf, HasCounted, StaysCounted, TotalSums}
 use Rattle.at_fold.proofs.Laws.CountedRecords.{counted_records-IsPrefix}
-use Rattle.at_fold.specs.HasCounted.{AreSumsOf, HasCounted, StaysCounted}
-use Rattle.at_fold.specs.Sums.{TotalSums}
 
 pub StaysCounted-HasCounted : (t : TotalSums) (b : BookTerms) (seen : List Publication) → HasCounted t b seen → StaysCounted t b seen
 StaysCounted-HasCounted t b seen counts more longer = record {

@@ -1,19 +1,8 @@
 -- The ledger's state after the moves of a list of publications.
 use Rattle.std.proofs.Common.{◌≡◌, ℕ, ◌+◌, ◌-◌, ◌*◌, ◌<◌, ◌≤◌, ◌==◌, ◌&&◌, zero, Bool, true, false, cond, List, [], ◌∷◌, ◌++◌, length, get_or, set, map, replicate, sum, refl, sym, ap, subst, ◌∙◌, arith, inl, inr}
-use Rattle.std.proofs.lemmas.Bool.{cases_eq, eq-eqb, ne_eqb}
-use Rattle.std.proofs.lemmas.List.{get_or-map, get_or-replicate, get_or-set_other, get_or-set_same, length-map, length-replicate, length-set}
-use Rattle.std.proofs.lemmas.List.Sums.{sum-map, sum_by-set, sum_by_push}
-use Rattle.std.proofs.lemmas.Nat.{mul-add-lt, same_from_place}
-use Rattle.at_ledger.specs.Account.{no_account}
-use Rattle.at_ledger.specs.Book.{BookTerms, account_of, total_of, HasSlot}
-use Rattle.at_ledger.specs.Call.{AreTargetsOn, TargetPair, amount_of}
-use Rattle.at_ledger.specs.State.{LedgerState, asked_position, credited}
+use Rattle.at_history.proofs.Prelude.{cases_eq, eq-eqb, ne_eqb, get_or-map, get_or-replicate, get_or-set_other, get_or-set_same, length-map, length-replicate, length-set, sum-map, sum_by-set, sum_by_push, mul-add-lt, same_from_place, no_account, BookTerms, account_of, total_of, HasSlot, AreTargetsOn, TargetPair, amount_of, LedgerState, asked_position, credited, IsCovered, amount_for, credit_of, credits, debit_of, debits, is_own, names, firsts, named, owns_of, repeats, Publication}
 use Rattle.at_history.proofs.Laws.Payments.{get_or-credited, length-credited, sum-credited}
 use Rattle.at_history.proofs.Laws.Rounds.{one_if, sum_by-firsts-le, sum_by-firsts_new}
-use Rattle.at_history.specs.Balances.{IsCovered, amount_for, credit_of, credits, debit_of, debits}
-use Rattle.at_history.specs.Entries.{is_own, names}
-use Rattle.at_history.specs.Rounds.{firsts, named, owns_of, repeats}
-use Rattle.at_history.specs.declared.publication.Publication.{Publication}
 
 -- a state of the ledger over the book
 abbrev pub ledger : BookTerms → List ℕ → List ℕ → List ℕ → LedgerState

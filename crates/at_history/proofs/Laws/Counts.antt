@@ -1,15 +1,7 @@
 -- Counting the publications of a list and of its prefixes.
 use Rattle.std.proofs.Common.{◌≡◌, ℕ, ◌+◌, ◌<◌, ◌≤◌, ◌==◌, zero, suc, List, [], ◌∷◌, ◌++◌, length, get_or, take, drop, refl, sym, ap, subst, ◌∙◌, arith, inl, inr, ◌⊎◌, replicate}
-use Rattle.std.proofs.lemmas.Bool.{eq-eqb, ne_eqb, cases_eq, cases_lt}
-use Rattle.std.proofs.lemmas.Grind.{same_number_lists}
-use Rattle.std.proofs.lemmas.List.{length-append, take-append-drop, take-take, take_at, take_more, drop_more, get_or_at, length-replicate, append-nil}
-use Rattle.std.proofs.lemmas.List.Elements.{All-head, All-tail, filter-append}
-use Rattle.std.proofs.lemmas.List.FromFn.{length-map-range_with_len, get_or-map-range_with_len}
-use Rattle.std.proofs.lemmas.List.Sums.{sum_by-cons, sum-map}
-use Rattle.std.specs.List.{sum, sum_by, range_with_len}
+use Rattle.at_history.proofs.Prelude.{eq-eqb, ne_eqb, cases_eq, cases_lt, same_number_lists, length-append, take-append-drop, take-take, take_at, take_more, drop_more, get_or_at, length-replicate, append-nil, All-head, All-tail, filter-append, length-map-range_with_len, get_or-map-range_with_len, sum_by-cons, sum-map, sum, sum_by, range_with_len, publications_of, count_of, counts, ArePublishedBy, Publication}
 use Rattle.at_history.proofs.Laws.Sums.{get_or-zeros}
-use Rattle.at_history.specs.Publications.{publications_of, count_of, counts, ArePublishedBy}
-use Rattle.at_history.specs.declared.publication.Publication.{Publication}
 
 pub publications_of-append : (process : ℕ) (xs ys : List Publication)
     → publications_of process (xs ++ ys) ≡ publications_of process xs ++ publications_of process ys
@@ -206,7 +198,7 @@ pub record IsPosition (process i : ℕ) (xs : List Publication) (m : ℕ) : Type
   pub own : (d : Publication) → (get_or xs m d).process ≡ process
   pub before : count_of process (take m xs) ≡ i
 
--- an own publication in front counts one more, another's counts none
+-- an own publication in cut counts one more, another's counts none
 count_of-cons_own : (process : ℕ) (x : Publication) (xs : List Publication) → x.process ≡ process
     → count_of process (x ∷ xs) ≡ suc (count_of process xs)
 count_of-cons_own process x xs own =

@@ -1,30 +1,13 @@
 -- What a record moves is covered where it stands in the list.
 use Rattle.std.proofs.Common.{◌≡◌, ℕ, ◌+◌, ◌<◌, ◌≤◌, ◌==◌, ◌&&◌, zero, Bool, true, false, cond, List, [], ◌∷◌, ◌++◌, length, take, refl, sym, ap, subst, ◌∙◌, arith, inl, inr, ◌⊎◌}
-use Rattle.std.proofs.lemmas.Bool.{and_right, cases_Bool, cases_eq, cases_lt, eqb-true, leb-true, ne_eqb}
-use Rattle.std.proofs.lemmas.List.{take-take}
-use Rattle.std.specs.List.{position}
-use Rattle.std.specs.Option.{is_some}
-use Rattle.at_base.specs.declared.decision.Decision.{Decision}
-use Rattle.at_ledger.specs.Account.{AccountTerms, is_shared, is_single}
-use Rattle.at_ledger.specs.Book.{BookTerms, account_of, is_owner}
-use Rattle.at_ledger.specs.Call.{TargetPair, amount_of}
+use Rattle.at_history.proofs.Prelude.{and_right, cases_Bool, cases_eq, cases_lt, eqb-true, leb-true, ne_eqb, take-take, position, is_some, Decision, AccountTerms, is_shared, is_single, BookTerms, account_of, is_owner, TargetPair, amount_of, IsCovered, credit_of, debit_of, debits, BoardState, publication_at, is_round_on, prefix_of, place, count_of, no_publication, firsts, repeats, rounds, IsSoundEntry, Entry, Own, Round, Publication}
 use Rattle.at_history.proofs.Laws.Counts.{count_of-take_mono, count_of-take_more_own}
 use Rattle.at_history.proofs.Laws.RoundsDecided.{IsInitial-take, place-view-le}
-use Rattle.at_history.proofs.Laws.Fronts.{get_or-IsFront}
+use Rattle.at_history.proofs.Laws.Cuts.{get_or-IsCut}
 use Rattle.at_history.proofs.Laws.Prefixes.{take-publication_at}
 use Rattle.at_history.proofs.Laws.Rooms.{is_some-position}
 use Rattle.at_history.proofs.Laws.Rounds.{one_if, published, rounds-push_next, sum_by-firsts_new, sum_by-firsts-take_mono, sum_by-firsts-take_same, rounds-take_mono}
 use Rattle.at_history.proofs.Laws.HasRuns.{HasRuns, IsRunDecision}
-use Rattle.at_history.specs.Balances.{IsCovered, credit_of, debit_of, debits}
-use Rattle.at_history.specs.BoardState.{BoardState, publication_at}
-use Rattle.at_history.specs.Entries.{is_round_on}
-use Rattle.at_history.specs.Fronts.{prefix_of, place}
-use Rattle.at_history.specs.Publications.{count_of, no_publication}
-use Rattle.at_history.specs.Rounds.{firsts, repeats, rounds}
-use Rattle.at_history.specs.Sound.{IsSoundEntry}
-use Rattle.at_history.specs.declared.publication.Entry.{Entry}
-use Rattle.at_history.specs.declared.publication.Entry.TheVariants.{Own, Round}
-use Rattle.at_history.specs.declared.publication.Publication.{Publication}
 
 -- an account isn't both single and shared
 pub single_or_shared : (t : AccountTerms) → is_single t ≡ true → is_shared t ≡ true → ⊥
@@ -79,7 +62,7 @@ not_own : (b : BookTerms) (s : BoardState) (m i : ℕ) → HasRuns b s → m < l
 not_own b s m i sound within above below own =
     let x : Publication = publication_at s.published m in
     let law = sound.views m within in
-    let counted = get_or-IsFront b.processes x.view (take m s.published) x.process law.front law.process in
+    let counted = get_or-IsCut b.processes x.view (take m s.published) x.process law.cut law.process in
     let same = ap (count_of x.process) (take-take (place x.view) m s.published (omega arith)) in
     omega (
       arith,

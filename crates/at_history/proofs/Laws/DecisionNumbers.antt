@@ -1,27 +1,10 @@
 -- The decisions of an account, the rounds that are published of them, and which request of a slot is the next.
 use Rattle.std.proofs.Common.{◌≡◌, ℕ, ◌+◌, ◌<◌, ◌≤◌, ◌==◌, ◌&&◌, ◌||◌, zero, suc, Bool, true, false, List, [], ◌∷◌, ◌++◌, length, take, refl, sym, ap, subst, ◌∙◌, arith, inl, inr}
-use Rattle.std.proofs.lemmas.Bool.{and_from, and_parts, cases_Bool, cases_lt, eq-eqb, eqb-true, lt-ltb}
-use Rattle.std.proofs.lemmas.List.{get_or-take, get_or_default, length-take, take-take, take_all}
-use Rattle.std.proofs.lemmas.List.Folds.{Any-from_list_any, list_any-append, list_any_at}
-use Rattle.std.proofs.lemmas.List.Sums.{count_by_more_no, count_by_more_yes, sum_by_more_le}
-use Rattle.std.specs.List.{count_by}
-use Rattle.at_base.specs.declared.decision.Decision.{Decision}
-use Rattle.at_ledger.specs.Book.{BookTerms}
-use Rattle.at_ledger.specs.Call.{TargetPair}
+use Rattle.at_history.proofs.Prelude.{and_from, and_parts, cases_Bool, cases_lt, eq-eqb, eqb-true, lt-ltb, get_or-take, get_or_default, length-take, take-take, take_all, Any-from_list_any, list_any-append, list_any_at, count_by_more_no, count_by_more_yes, sum_by_more_le, count_by, Decision, BookTerms, TargetPair, BoardState, decision_at, publication_at, is_round, is_round_on, settles, prefix_of, IsUndecided, no_publication, firsts, is_settled, repeats, rounds, IsSoundEntry, Sound, Entry, Own, Round, Publication}
 use Rattle.at_history.proofs.Laws.HasRuns.{HasRuns-Sound}
 use Rattle.at_history.proofs.Laws.Prefixes.{take-publication_at}
 use Rattle.at_history.proofs.Laws.Rounds.{IsInitial, IsNextAtMost, firsts-new, firsts-nil, firsts-repeat, has_round, one_if, published, rounds-push_next, rounds-take_mono, sum_by-firsts-le}
 use Rattle.at_history.proofs.Laws.RoundsDecided.{IsInitial-take, IsNextAtMost-HasRuns}
-use Rattle.at_history.specs.BoardState.{BoardState, decision_at, publication_at}
-use Rattle.at_history.specs.Entries.{is_round, is_round_on, settles}
-use Rattle.at_history.specs.Fronts.{prefix_of}
-use Rattle.at_history.specs.Overtaking.{IsUndecided}
-use Rattle.at_history.specs.Publications.{no_publication}
-use Rattle.at_history.specs.Rounds.{firsts, is_settled, repeats, rounds}
-use Rattle.at_history.specs.Sound.{IsSoundEntry, Sound}
-use Rattle.at_history.specs.declared.publication.Entry.{Entry}
-use Rattle.at_history.specs.declared.publication.Entry.TheVariants.{Own, Round}
-use Rattle.at_history.specs.declared.publication.Publication.{Publication}
 
 abbrev pub no_decision : Decision
 no_decision = record { ok = false; slot = 0; number = 0; place = 0 }

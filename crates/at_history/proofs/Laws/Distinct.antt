@@ -1,12 +1,6 @@
 -- Distinct numbers below a bound, of which nothing here is about ledgers.
 use Rattle.std.proofs.Common.{◌≡◌, ◌≢◌, ℕ, ◌+◌, ◌<◌, ◌≤◌, ◌==◌, Bool, cond, eqb, true, length, map, sym, ap, ◌∙◌, arith, inl, inr}
-use Rattle.std.proofs.lemmas.Bool.{cases_eq, eq-eqb, eqb-true, ne_eqb}
-use Rattle.std.proofs.lemmas.Bool.Decides.{Decides-eqb}
-use Rattle.std.proofs.lemmas.List.Folds.{Any-from_list_any}
-use Rattle.std.proofs.lemmas.List.FromFn.{get_or-map-range_with_len, length-map-range_with_len}
-use Rattle.std.proofs.lemmas.Map.Made.{IsDistinct-from_AllPairs}
-use Rattle.std.proofs.lemmas.Map.Steps.{length-le_from_distinct_below}
-use Rattle.std.specs.List.{list_any, range_with_len}
+use Rattle.at_history.proofs.Prelude.{cases_eq, eq-eqb, eqb-true, ne_eqb, Decides-eqb, Any-from_list_any, get_or-map-range_with_len, length-map-range_with_len, IsDistinct-from_AllPairs, length-le_from_distinct_below, list_any, range_with_len}
 
 -- as many different numbers below a bound are at most the bound
 pub distinct-le : (f : ℕ → ℕ) (n k : ℕ) → ((i : ℕ) → i < n → f i < k) → ((i j : ℕ) → i < j → j < n → f i ≢ f j) → n ≤ k

@@ -1,16 +1,6 @@
 -- What the runs of a list of publications rest on: a sound state has it, and so has a list that no board ever held.
 use Rattle.std.proofs.Common.{◌≡◌, ℕ, ◌<◌, ◌≤◌, ◌↔◌, ◌==◌, true, length, take}
-use Rattle.std.specs.List.{count_by}
-use Rattle.at_base.specs.declared.decision.Decision.{Decision}
-use Rattle.at_ledger.specs.Account.{slots_of}
-use Rattle.at_ledger.specs.Book.{BookTerms, account_of}
-use Rattle.at_ledger.specs.Call.{amount_of}
-use Rattle.at_history.specs.Balances.{IsCovered}
-use Rattle.at_history.specs.BoardState.{BoardState, decision_at, publication_at, request_at}
-use Rattle.at_history.specs.Fronts.{prefix_of}
-use Rattle.at_history.specs.Rounds.{owns_of, rounds}
-use Rattle.at_history.specs.Sound.{AreTargets, HasView, IsSoundDecision, IsSoundEntry, Sound}
-use Rattle.at_history.specs.declared.publication.Publication.{Publication}
+use Rattle.at_history.proofs.Prelude.{count_by, Decision, slots_of, BookTerms, account_of, amount_of, IsCovered, BoardState, decision_at, publication_at, request_at, prefix_of, owns_of, rounds, AreTargets, HasView, IsSoundDecision, IsSoundEntry, Sound, Publication}
 
 -- a decision of a round: exactly the rounds before it stand at its place, it names a request of its account, and it says
 -- whether the balance there covers that request

@@ -1,15 +1,6 @@
 -- Histories: a sound state's list is one. Where one of its requests is unsettled, its account has room for one more round.
 use Rattle.std.proofs.Common.{◌≡◌, ℕ, ◌+◌, ◌*◌, ◌-◌, ◌<◌, ◌≤◌, ◌==◌, ◌&&◌, ◌||◌, zero, suc, ltb, Bool, true, false, List, [], ◌∷◌, ◌++◌, length, take, refl, sym, ap, subst, ◌∙◌, arith, inl, inr, ◌↔◌}
-use Rattle.std.proofs.lemmas.Bool.{and_from, and_parts, cases_Bool, cases_eq, cases_lt, eq-eqb, eqb-true, le-ltb, lt-ltb, ltb-false, ne_eqb, or_left, or_right}
-use Rattle.std.proofs.lemmas.List.{get_or-take, get_or_default, length-take}
-use Rattle.std.proofs.lemmas.List.Elements.{All-from_get_or}
-use Rattle.std.proofs.lemmas.List.Folds.{Any-from_list_any, list_any_more}
-use Rattle.std.proofs.lemmas.List.Sums.{sum_by-le}
-use Rattle.std.specs.List.{list_any, sum_by}
-use Rattle.at_base.specs.declared.decision.Decision.{Decision}
-use Rattle.at_ledger.specs.Account.{rounds_room, slots_of}
-use Rattle.at_ledger.specs.Book.{BookTerms, account_of, IsBegun, log_room_of}
-use Rattle.at_ledger.specs.Call.{amount_of}
+use Rattle.at_history.proofs.Prelude.{and_from, and_parts, cases_Bool, cases_eq, cases_lt, eq-eqb, eqb-true, le-ltb, lt-ltb, ltb-false, ne_eqb, or_left, or_right, get_or-take, get_or_default, length-take, All-from_get_or, Any-from_list_any, list_any_more, sum_by-le, list_any, sum_by, Decision, rounds_room, slots_of, BookTerms, account_of, IsBegun, log_room_of, amount_of, IsCovered, publication_at, BoardState, decision_at, request_at, is_round_on, names, settles, place, prefix_of, IsShownDecision, IsHistory, IsShownEntry, AgreeOnRound, no_publication, ArePublishedBy, count_of, firsts, is_settled, named, repeats, rounds, AreTargets, IsSoundDecision, IsSoundEntry, Sound, Entry, Own, Round, Publication}
 use Rattle.at_history.proofs.Laws.Counts.{position_of}
 use Rattle.at_history.proofs.Laws.HasRuns.{HasRuns-Sound}
 use Rattle.at_history.proofs.Laws.Prefixes.{take-publication_at}
@@ -18,17 +9,6 @@ use Rattle.at_history.proofs.Laws.Rounds.{IsInitial, IsNextAtMost, firsts-nil, o
 use Rattle.at_history.proofs.Laws.RoundsDecided.{IsInitial-IsNextAtMost, place-HasView-le, ArePublishedBy-HasRuns, AreDecided-take, decided_for}
 use Rattle.at_history.proofs.Laws.Runs.{AreRuns-HasRuns}
 use Rattle.at_history.proofs.Laws.Sums.{sum_by-add}
-use Rattle.at_history.specs.Balances.{IsCovered}
-use Rattle.at_history.specs.BoardState.{publication_at, BoardState, decision_at, request_at}
-use Rattle.at_history.specs.Entries.{is_round_on, names, settles}
-use Rattle.at_history.specs.Fronts.{place, prefix_of}
-use Rattle.at_history.specs.Histories.{IsShownDecision, IsHistory, IsShownEntry, AgreeOnRound}
-use Rattle.at_history.specs.Publications.{no_publication, ArePublishedBy, count_of}
-use Rattle.at_history.specs.Rounds.{firsts, is_settled, named, repeats, rounds}
-use Rattle.at_history.specs.Sound.{AreTargets, IsSoundDecision, IsSoundEntry, Sound}
-use Rattle.at_history.specs.declared.publication.Entry.{Entry}
-use Rattle.at_history.specs.declared.publication.Entry.TheVariants.{Own, Round}
-use Rattle.at_history.specs.declared.publication.Publication.{Publication}
 
 -- a weight that is nowhere larger grows no more, with one more publication
 sum_by-firsts_less : (f g : Publication → ℕ) (xs : List Publication) (x : Publication) → f x ≤ g x

@@ -1,29 +1,13 @@
 -- No log grows past its room: a process has room for its own records, and publishes each round of an account once.
 use Rattle.std.proofs.Common.{◌≡◌, ℕ, ◌+◌, ◌<◌, ◌≤◌, ◌==◌, ◌&&◌, zero, suc, ltb, Bool, true, false, List, [], ◌∷◌, ◌++◌, length, take, refl, sym, ap, subst, ◌∙◌, arith, inl, inr}
-use Rattle.std.proofs.lemmas.Bool.{and_parts, cases_Bool, cases_eq, cases_lt, eq-eqb, eqb-true, le-ltb, lt-ltb, ltb-false, ltb-true, ne_eqb}
-use Rattle.std.proofs.lemmas.List.{take-take, take_all}
-use Rattle.std.proofs.lemmas.List.Filters.{length-filter_more}
-use Rattle.std.proofs.lemmas.List.Sums.{sum_by-le, sum_by_more}
-use Rattle.std.specs.List.{sum_by}
-use Rattle.at_ledger.specs.Account.{no_account, rounds_room, rounds_room_of}
-use Rattle.at_ledger.specs.Book.{BookTerms, account_of, log_room_of}
+use Rattle.at_history.proofs.Prelude.{and_parts, cases_Bool, cases_eq, cases_lt, eq-eqb, eqb-true, le-ltb, lt-ltb, ltb-false, ltb-true, ne_eqb, take-take, take_all, length-filter_more, sum_by-le, sum_by_more, sum_by, no_account, rounds_room, rounds_room_of, BookTerms, account_of, log_room_of, publication_at, is_own, is_round_on, place, prefix_of, IsShownDecision, IsHistory, IsShownEntry, count_of, no_publication, publications_of, firsts, owns_of, repeats, rounds, HasView, IsSoundRound, Entry, Own, Round, Publication}
 use Rattle.at_history.proofs.Laws.Counts.{count_of-take_more_own, count_of-take_mono, position-below_from_count}
-use Rattle.at_history.proofs.Laws.Fronts.{get_or-IsFront}
+use Rattle.at_history.proofs.Laws.Cuts.{get_or-IsCut}
 use Rattle.at_history.proofs.Laws.Histories.{IsNextAtMost-IsHistory}
 use Rattle.at_history.proofs.Laws.Prefixes.{take-publication_at}
 use Rattle.at_history.proofs.Laws.Rounds.{IsInitial, IsNextAtMost, one_if, published, repeats-round, rounds-push_next, sum_by-firsts_repeat, rounds-take_mono}
 use Rattle.at_history.proofs.Laws.RoundsDecided.{IsInitial-IsNextAtMost, place-HasView-le}
 use Rattle.at_history.proofs.Laws.Sums.{sum_by-add}
-use Rattle.at_history.specs.BoardState.{publication_at}
-use Rattle.at_history.specs.Entries.{is_own, is_round_on}
-use Rattle.at_history.specs.Fronts.{place, prefix_of}
-use Rattle.at_history.specs.Histories.{IsShownDecision, IsHistory, IsShownEntry}
-use Rattle.at_history.specs.Publications.{count_of, no_publication, publications_of}
-use Rattle.at_history.specs.Rounds.{firsts, owns_of, repeats, rounds}
-use Rattle.at_history.specs.Sound.{HasView, IsSoundRound}
-use Rattle.at_history.specs.declared.publication.Entry.{Entry}
-use Rattle.at_history.specs.declared.publication.Entry.TheVariants.{Own, Round}
-use Rattle.at_history.specs.declared.publication.Publication.{Publication}
 
 -- whether a record is a process's, of a round of an account
 abbrev rounds_by : ℕ → ℕ → Publication → ℕ
@@ -53,7 +37,7 @@ count_of-HasView b xs m history within =
     let x : Publication = publication_at xs m in
     let view = history.views m within in
     let same = ap (count_of x.process) (take-take (place x.view) m xs (place-HasView-le b xs m history.views within)) in
-    omega (arith, same, view.own, get_or-IsFront b.processes x.view (take m xs) x.process view.front view.process)
+    omega (arith, same, view.own, get_or-IsCut b.processes x.view (take m xs) x.process view.cut view.process)
 
 -- where a prefix has all of a process's records in another one, it has a round of an account for each of those that are of its rounds
 sum_by-rounds_by-le : (b : BookTerms) (xs : List Publication) (p a m j : ℕ) → IsHistory b xs → m ≤ length xs
@@ -227,7 +211,7 @@ count_of-round_room b xs x c r history view sound room =
     let p = x.process in
     let n = length b.accounts in
     let all : take (length xs) xs ≡ xs = take_all (length xs) xs (omega arith) in
-    let seen = get_or-IsFront b.processes x.view xs p view.front view.process in
+    let seen = get_or-IsCut b.processes x.view xs p view.cut view.process in
     let before = sum_by-rounds_by-le b xs p c (length xs) (place x.view) history (omega arith)
     (omega (arith, ap (count_of p) all, seen, view.own)) in
     let owned : r < rounds_room_of b.request_room p (account_of b c) = rw sound.owner room in

@@ -1,15 +1,10 @@
 -- How far an owner's request may be overtaken: what the law of overtaking says of a prefix of the list.
 use Rattle.std.proofs.Common.{◌≡◌, ℕ, ◌+◌, ◌-◌, ◌<◌, ◌≤◌, false, length, take, arith}
-use Rattle.at_ledger.specs.Account.{slots_of}
-use Rattle.at_ledger.specs.Book.{BookTerms, account_of}
+use Rattle.at_history.proofs.Prelude.{slots_of, BookTerms, account_of, BoardState, decision_at, AreOvertakers, IsLastRequest, Overtakes, Overtaking, is_settled, rounds, Sound}
 use Rattle.at_history.proofs.Laws.DecisionNumbers.{IsUndecided-unsettled}
 use Rattle.at_history.proofs.Laws.Distinct.{distinct_others-le}
 use Rattle.at_history.proofs.Laws.HasRuns.{HasRuns-Sound}
 use Rattle.at_history.proofs.Laws.RoundsDecided.{AreDecided-take}
-use Rattle.at_history.specs.BoardState.{BoardState, decision_at}
-use Rattle.at_history.specs.Overtaking.{AreOvertakers, IsLastRequest, Overtakes, Overtaking}
-use Rattle.at_history.specs.Rounds.{is_settled, rounds}
-use Rattle.at_history.specs.Sound.{Sound}
 
 -- as many rounds in a row that overtake a request are of as many different slots, and none of the request's
 overtakers-le : (b : BookTerms) (s : BoardState) (a slot number d n : ℕ) → Sound b s → slot < slots_of (account_of b a)

@@ -1,14 +1,6 @@
 -- Pay-outs of the ledger that succeed.
 use Rattle.std.proofs.Common.{◌≡◌, ℕ, ◌+◌, ◌<◌, ◌≤◌, ◌==◌, not, zero, ltb, Bool, true, false, cond, List, [], ◌∷◌, length, get_or, set, sum, refl, sym, ap, subst, ◌∙◌, arith, inl, inr}
-use Rattle.std.proofs.lemmas.Bool.{cases_eq, eq-eqb, ne_eqb, le-ltb}
-use Rattle.std.proofs.lemmas.List.{length-set, get_or-set_same, get_or-set_other}
-use Rattle.std.proofs.lemmas.List.Elements.{All-head, All-tail}
-use Rattle.std.proofs.lemmas.List.Sums.{sum_by-cons, sum_by-set}
-use Rattle.at_ledger.specs.Book.{is_owner}
-use Rattle.at_ledger.specs.Call.{AreTargetsOn, TargetPair, amount_of}
-use Rattle.at_ledger.specs.State.{LedgerState, Step, after_done, after_short, balance_of, credited, is_full, pay}
-use Rattle.at_ledger.specs.declared.call.Reply.TheVariants.{Done, Full, NotOwner, Short}
-use Rattle.at_history.specs.Balances.{amount_for}
+use Rattle.at_history.proofs.Prelude.{cases_eq, eq-eqb, ne_eqb, le-ltb, length-set, get_or-set_same, get_or-set_other, All-head, All-tail, sum_by-cons, sum_by-set, is_owner, AreTargetsOn, TargetPair, amount_of, LedgerState, Step, after_done, after_short, balance_of, credited, is_full, pay, Done, Full, NotOwner, Short, amount_for}
 
 -- the last of four cases
 last_case : (a b c : Step) (d : Step) (owner full short : Bool) → owner ≡ true → full ≡ false → short ≡ false

@@ -1,13 +1,7 @@
 -- Prefixes of a list, and the longer of two lists that are both prefixes of one.
 use Rattle.std.proofs.Common.{◌≡◌, Bool, cond, List, length, sym, ap, subst, arith, inl, inr, ℕ, ◌+◌, ◌<◌, ◌≤◌, [], ◌++◌, take, drop, refl, ◌∙◌, ◌∷◌}
-use Rattle.std.proofs.lemmas.Bool.{cases_lt, le-ltb, lt-ltb}
-use Rattle.std.proofs.lemmas.List.{length-append, length-take, append-nil, append_assoc, take-append-drop, take-take, take-append-le, take_at, get_or-take, take_more, get_or_append_left}
-use Rattle.std.proofs.lemmas.List.Elements.{All-from_get_or}
-use Rattle.std.specs.List.{All}
+use Rattle.at_history.proofs.Prelude.{cases_lt, le-ltb, lt-ltb, length-append, length-take, append-nil, append_assoc, take-append-drop, take-take, take-append-le, take_at, get_or-take, take_more, get_or_append_left, All-from_get_or, All, publication_at, IsPrefix, longer, ArePublishedBy, count_of, no_publication, publications_of, Publication}
 use Rattle.at_history.proofs.Laws.Counts.{count_of-append, publications_of-append}
-use Rattle.at_history.specs.BoardState.{publication_at}
-use Rattle.at_history.specs.Publications.{IsPrefix, longer, ArePublishedBy, count_of, no_publication, publications_of}
-use Rattle.at_history.specs.declared.publication.Publication.{Publication}
 
 -- both are prefixes of the longer, which is a prefix of that one
 pub record IsLonger (xs ys all : List Publication) : Type 0 where

@@ -1,20 +1,8 @@
 -- How many records the logs of a book have room for: of one process, and of all together.
 use Rattle.std.proofs.Common.{◌≡◌, ℕ, ◌*◌, Bool, true, false, cond, length, refl, arith, ◌+◌, ◌<◌, ◌≤◌, ◌==◌, zero, suc, List, [], ◌∷◌, get_or, ap, ◌∙◌, inl, inr}
-use Rattle.std.proofs.lemmas.Bool.{cases_eq, eq-eqb, ne_eqb, lt-ltb}
-use Rattle.std.proofs.lemmas.Bool.Decides.{nat_tests}
-use Rattle.std.proofs.lemmas.List.Elements.{All-head, All-tail}
-use Rattle.std.proofs.lemmas.List.FromFn.{get_or-range_with_len, length-range_with_len}
-use Rattle.std.proofs.lemmas.List.Sums.{get_or-le-sum_by, sum-map, sum_by-cons, sum_by-le-sum_by}
-use Rattle.std.proofs.lemmas.Nat.{mul-le}
-use Rattle.std.specs.List.{All, position, sum_by, range_with_len}
-use Rattle.std.specs.Option.{is_some}
-use Rattle.at_ledger.specs.Account.{AccountTerms, is_shared, rounds_room, slots_of, rounds_room_of}
-use Rattle.at_ledger.specs.Book.{BookTerms, IsBegun, log_room_of}
+use Rattle.at_history.proofs.Prelude.{cases_eq, eq-eqb, ne_eqb, lt-ltb, nat_tests, All-head, All-tail, get_or-range_with_len, length-range_with_len, get_or-le-sum_by, sum-map, sum_by-cons, sum_by-le-sum_by, mul-le, All, position, sum_by, range_with_len, is_some, AccountTerms, is_shared, rounds_room, slots_of, rounds_room_of, BookTerms, IsBegun, log_room_of, places_max, ArePublishedBy, count_of, counts, Publication}
 use Rattle.at_history.proofs.Laws.Counts.{sum-counts}
 use Rattle.at_history.proofs.Laws.Sums.{sum_by-add, sum_by-range_const, sum_by-range-le}
-use Rattle.at_history.specs.Fronts.{places_max}
-use Rattle.at_history.specs.Publications.{ArePublishedBy, count_of, counts}
-use Rattle.at_history.specs.declared.publication.Publication.{Publication}
 
 -- the rounds of an account are its slots' requests
 pub rounds_room-slots_of : (request_room : ℕ) (t : AccountTerms) → rounds_room request_room t ≡ slots_of t * request_room

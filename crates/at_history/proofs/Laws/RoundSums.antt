@@ -1,18 +1,8 @@
 -- Sums over a list that count each round once: they depend only on which records of each process the list has.
 use Rattle.std.proofs.Common.{◌≡◌, ℕ, ◌+◌, ◌≤◌, ◌&&◌, ◌||◌, zero, suc, eqb, Bool, true, false, cond, List, [], ◌∷◌, ◌++◌, length, get_or, take, refl, sym, ap, subst, ◌∙◌, arith, inl, inr, fold}
-use Rattle.std.proofs.lemmas.Bool.{cases_Bool, cases_eq, eq-eqb, eqb-true, ne_eqb}
-use Rattle.std.proofs.lemmas.List.{append-nil, take_all, take_more, length_push}
-use Rattle.std.proofs.lemmas.List.Elements.{All-get_or, All-take}
-use Rattle.std.proofs.lemmas.List.Sums.{count_by-le-length}
-use Rattle.std.specs.List.{All, list_any, sum_by}
+use Rattle.at_history.proofs.Prelude.{cases_Bool, cases_eq, eq-eqb, eqb-true, ne_eqb, append-nil, take_all, take_more, length_push, All-get_or, All-take, count_by-le-length, All, list_any, sum_by, is_round, is_same_round, is_round_on, no_publication, firsts, repeats, rounds, with_first, Entry, Own, Round, Publication}
 use Rattle.at_history.proofs.Laws.Rounds.{firsts-new, firsts-nil, firsts-repeat, sum_by-firsts_new, sum_by-firsts_repeat}
 use Rattle.at_history.proofs.Laws.Shuffles.{All-before, All-middle, All-without, HasSameRecords, IsShuffle, IsShuffle-HasSameRecords, list_any-IsShuffle, list_any-middle}
-use Rattle.at_history.specs.Entries.{is_round, is_same_round, is_round_on}
-use Rattle.at_history.specs.Publications.{no_publication}
-use Rattle.at_history.specs.Rounds.{firsts, repeats, rounds, with_first}
-use Rattle.at_history.specs.declared.publication.Entry.{Entry}
-use Rattle.at_history.specs.declared.publication.Entry.TheVariants.{Own, Round}
-use Rattle.at_history.specs.declared.publication.Publication.{Publication}
 
 -- being of one round goes both ways
 is_same_round-sym : (d e : Entry) → is_same_round d e ≡ is_same_round e d
@@ -96,19 +86,19 @@ one_counts false first second a b agree = omega arith
 -- where records of one round have one weight
 module _ (P : Publication → Type 0) (f : Publication → ℕ)
     (agree : (x y : Publication) → P x → P y → is_same_round x.entry y.entry ≡ true → f x ≡ f y) where
-  lasts_sum-middle : (front : List Publication) (x : Publication) (back : List Publication) → All P front → P x
-      → lasts_sum f (front ++ x ∷ back) ≡ cond (repeats x (front ++ back)) 0 (f x) + lasts_sum f (front ++ back)
+  lasts_sum-middle : (cut : List Publication) (x : Publication) (back : List Publication) → All P cut → P x
+      → lasts_sum f (cut ++ x ∷ back) ≡ cond (repeats x (cut ++ back)) 0 (f x) + lasts_sum f (cut ++ back)
   lasts_sum-middle [] x back all own = refl
-  lasts_sum-middle (z ∷ front) x back all own =
-      let rest = front ++ back in
+  lasts_sum-middle (z ∷ cut) x back all own =
+      let rest = cut ++ back in
       let same = is_same_round z.entry x.entry in
-      let before : repeats z (front ++ x ∷ back) ≡ (same || repeats z rest) = list_any-middle (λ y. is_same_round z.entry y.entry) front x back in
+      let before : repeats z (cut ++ x ∷ back) ≡ (same || repeats z rest) = list_any-middle (λ y. is_same_round z.entry y.entry) cut x back in
       let after : repeats x (z ∷ rest) ≡ (same || repeats x rest) = ap (λ t. t || repeats x rest) (is_same_round-sym x.entry z.entry) in
       let here = one_counts same (repeats z rest) (repeats x rest) (f z) (f x)
-      (λ e. (repeats-same z x rest e, agree z x (All-middle P [] z front all) own e)) in
+      (λ e. (repeats-same z x rest e, agree z x (All-middle P [] z cut all) own e)) in
       omega (
         arith,
-        lasts_sum-middle front x back (All-without P [] z front all) own,
+        lasts_sum-middle cut x back (All-without P [] z cut all) own,
         ap (λ t. cond t 0 (f z)) before,
         ap (λ t. cond t 0 (f x)) after,
         here,
@@ -116,11 +106,11 @@ module _ (P : Publication → Type 0) (f : Publication → ℕ)
 
   lasts_sum-IsShuffle : (xs ys : List Publication) → IsShuffle xs ys → All P ys → lasts_sum f xs ≡ lasts_sum f ys
   lasts_sum-IsShuffle [] ys none all = ap (lasts_sum f) (sym none)
-  lasts_sum-IsShuffle (x ∷ xs) ys (front, back, split, rest) all =
-      let parts : All P (front ++ x ∷ back) = subst (All P) split all in
-      let middle = lasts_sum-middle front x back (All-before P front (x ∷ back) parts) (All-middle P front x back parts) in
-      let same = ap (λ t. cond t 0 (f x)) (list_any-IsShuffle (λ y. is_same_round x.entry y.entry) xs (front ++ back) rest) in
-      omega (arith, same, middle, lasts_sum-IsShuffle xs (front ++ back) rest (All-without P front x back parts), ap (lasts_sum f) split)
+  lasts_sum-IsShuffle (x ∷ xs) ys (cut, back, split, rest) all =
+      let parts : All P (cut ++ x ∷ back) = subst (All P) split all in
+      let middle = lasts_sum-middle cut x back (All-before P cut (x ∷ back) parts) (All-middle P cut x back parts) in
+      let same = ap (λ t. cond t 0 (f x)) (list_any-IsShuffle (λ y. is_same_round x.entry y.entry) xs (cut ++ back) rest) in
+      omega (arith, same, middle, lasts_sum-IsShuffle xs (cut ++ back) rest (All-without P cut x back parts), ap (lasts_sum f) split)
 
   -- so does the sum that counts the first record of each round
   sum_by-firsts-take : (m : ℕ) (xs : List Publication) → m ≤ length xs → All P xs

@@ -1,22 +1,8 @@
 -- Rounds of a list of publications and own records: sums that count each round once, and what stands in a longer list.
 use Rattle.std.proofs.Common.{◌≡◌, ℕ, ◌+◌, ◌-◌, ◌<◌, ◌≤◌, ◌==◌, ◌&&◌, ◌||◌, zero, suc, eqb, ltb, Bool, true, false, cond, List, [], ◌∷◌, ◌++◌, length, get_or, take, refl, sym, ap, subst, ◌∙◌, arith, inl, inr, ◌⊎◌}
-use Rattle.std.proofs.lemmas.Bool.{cases_Bool, cases_eq, cases_lt, eq-eqb, ne_eqb, le-ltb, ltb-false}
-use Rattle.std.proofs.lemmas.Bool.Decides.{nat_tests}
-use Rattle.std.proofs.lemmas.List.{take_more, take_all}
-use Rattle.std.proofs.lemmas.List.Folds.{list_any-append, list_any_none}
-use Rattle.std.proofs.lemmas.List.Sums.{fold_push, sum_by_push, length-filter, sum_by-le-sum_by, sum_by-append}
-use Rattle.std.specs.List.{count_by, list_any, sum_by}
-use Rattle.at_base.specs.declared.decision.Decision.{Decision}
-use Rattle.at_ledger.specs.Call.{TargetPair}
+use Rattle.at_history.proofs.Prelude.{cases_Bool, cases_eq, cases_lt, eq-eqb, ne_eqb, le-ltb, ltb-false, nat_tests, take_more, take_all, list_any-append, list_any_none, fold_push, sum_by_push, length-filter, sum_by-le-sum_by, sum_by-append, count_by, list_any, sum_by, Decision, TargetPair, publication_at, is_round, is_round_on, is_own, no_publication, IsPrefix, publications_of, count_of, firsts, repeats, rounds, with_first, owns_of, Entry, Own, Round, Publication}
 use Rattle.at_history.proofs.Laws.Counts.{count_of-append}
 use Rattle.at_history.proofs.Laws.Prefixes.{IsPrefix-length, IsPrefix-take, take-IsPrefix}
-use Rattle.at_history.specs.BoardState.{publication_at}
-use Rattle.at_history.specs.Entries.{is_round, is_round_on, is_own}
-use Rattle.at_history.specs.Publications.{no_publication, IsPrefix, publications_of, count_of}
-use Rattle.at_history.specs.Rounds.{firsts, repeats, rounds, with_first, owns_of}
-use Rattle.at_history.specs.declared.publication.Entry.{Entry}
-use Rattle.at_history.specs.declared.publication.Entry.TheVariants.{Own, Round}
-use Rattle.at_history.specs.declared.publication.Publication.{Publication}
 
 -- one more publication that repeats a round
 pub firsts-repeat : (xs : List Publication) (x : Publication) → repeats x (firsts xs) ≡ true → firsts (xs ++ x ∷ []) ≡ firsts xs

@@ -1,26 +1,10 @@
 -- The rounds of the prefixes of a list with such laws: they are decided one after another.
 use Rattle.std.proofs.Common.{◌≡◌, ℕ, ◌+◌, ◌<◌, ◌≤◌, ◌==◌, ◌&&◌, zero, suc, true, false, List, [], ◌∷◌, ◌++◌, length, take, refl, sym, ap, subst, ◌∙◌, arith, inl, inr}
-use Rattle.std.proofs.lemmas.Bool.{cases_Bool, cases_eq, eq-eqb, ne_eqb, le-ltb, ltb-false}
-use Rattle.std.proofs.lemmas.List.{length-take}
-use Rattle.std.proofs.lemmas.List.Elements.{All-from_get_or}
-use Rattle.std.proofs.lemmas.List.Sums.{sum_by_more}
-use Rattle.std.specs.List.{sum_by}
-use Rattle.at_base.specs.declared.decision.Decision.{Decision}
-use Rattle.at_ledger.specs.Book.{BookTerms}
-use Rattle.at_ledger.specs.Call.{TargetPair}
-use Rattle.at_history.proofs.Laws.Fronts.{place-IsFront-le}
+use Rattle.at_history.proofs.Prelude.{cases_Bool, cases_eq, eq-eqb, ne_eqb, le-ltb, ltb-false, length-take, All-from_get_or, sum_by_more, sum_by, Decision, BookTerms, TargetPair, BoardState, decision_at, publication_at, is_round_on, names, prefix_of, place, ArePublishedBy, no_publication, firsts, named, repeats, rounds, HasView, IsDecidedSo, IsSoundEntry, Entry, Own, Round, Publication}
+use Rattle.at_history.proofs.Laws.Cuts.{place-IsCut-le}
 use Rattle.at_history.proofs.Laws.HasRuns.{HasRuns}
 use Rattle.at_history.proofs.Laws.Prefixes.{ArePublishedBy-take, take-publication_at}
 use Rattle.at_history.proofs.Laws.Rounds.{IsInitial, IsInitial-nil, IsInitial-push, IsNextAtMost, one_if, published, repeats-own, repeats-round, rounds-push_next, sum_by-firsts_new, sum_by-firsts_repeat, rounds-take_mono}
-use Rattle.at_history.specs.BoardState.{BoardState, decision_at, publication_at}
-use Rattle.at_history.specs.Entries.{is_round_on, names}
-use Rattle.at_history.specs.Fronts.{prefix_of, place}
-use Rattle.at_history.specs.Publications.{ArePublishedBy, no_publication}
-use Rattle.at_history.specs.Rounds.{firsts, named, repeats, rounds}
-use Rattle.at_history.specs.Sound.{HasView, IsDecidedSo, IsSoundEntry}
-use Rattle.at_history.specs.declared.publication.Entry.{Entry}
-use Rattle.at_history.specs.declared.publication.Entry.TheVariants.{Own, Round}
-use Rattle.at_history.specs.declared.publication.Publication.{Publication}
 
 -- each publication is of a process of the book
 ArePublishedBy-HasView : (b : BookTerms) (xs : List Publication) → ((i : ℕ) → i < length xs → HasView b (take i xs) (publication_at xs i))
@@ -38,7 +22,7 @@ place-HasView-le b xs m views within =
     let known = ArePublishedBy-take b.processes m xs (ArePublishedBy-HasView b xs views) in
     omega (
       arith,
-      place-IsFront-le b.processes (publication_at xs m).view (take m xs) (views m within).front known,
+      place-IsCut-le b.processes (publication_at xs m).view (take m xs) (views m within).cut known,
       length-take m xs,
     )
 

@@ -1,22 +1,6 @@
 -- Every prefix of a list with such laws is a run of the ledger.
 use Rattle.std.proofs.Common.{◌≡◌, ℕ, ◌+◌, ◌<◌, ◌≤◌, ◌==◌, ◌&&◌, ◌||◌, zero, suc, Bool, true, false, cond, List, [], ◌∷◌, ◌++◌, length, get_or, set, take, replicate, Option, Some, None, refl, sym, ap, subst, ◌∙◌, arith, inl, inr}
-use Rattle.std.proofs.lemmas.Bool.{and_left, and_right, cases_Bool, eq-eqb, false_from_ne_true, ltb-false, ne_eqb}
-use Rattle.std.proofs.lemmas.List.{append-nil, length_push, replicate_more}
-use Rattle.std.proofs.lemmas.List.Elements.{All-get_or, filter_map-append}
-use Rattle.std.proofs.lemmas.List.Sums.{count_by_more_yes, get_or-le-sum_by, sum_by-take-le}
-use Rattle.std.specs.List.{cons_option, filter_map}
-use Rattle.std.specs.Option.{is_some}
-use Rattle.at_base.specs.declared.decision.Decision.{Decision}
-use Rattle.at_ledger.proofs.Run.{book-run_from, last-push, replies-push}
-use Rattle.at_ledger.proofs.Slots.{slot_in-owner}
-use Rattle.at_ledger.specs.Account.{is_shared, is_single, no_account, slots_of}
-use Rattle.at_ledger.specs.Book.{BookTerms, IsAccount, IsBegun, account_of, is_owner, HasSlot}
-use Rattle.at_ledger.specs.Call.{AreTargetsOn, TargetPair, amount_of}
-use Rattle.at_ledger.specs.Run.{run, run_from}
-use Rattle.at_ledger.specs.State.{LedgerState, Step, asked_position, is_full, opening_state, pay, step}
-use Rattle.at_ledger.specs.declared.call.Call.{Call}
-use Rattle.at_ledger.specs.declared.call.Call.TheVariants.{Pay}
-use Rattle.at_ledger.specs.declared.call.Reply.TheVariants.{Done}
+use Rattle.at_history.proofs.Prelude.{and_left, and_right, cases_Bool, eq-eqb, false_from_ne_true, ltb-false, ne_eqb, append-nil, length_push, replicate_more, All-get_or, filter_map-append, count_by_more_yes, get_or-le-sum_by, sum_by-take-le, cons_option, filter_map, is_some, Decision, book-run_from, last-push, replies-push, slot_in-owner, is_shared, is_single, no_account, slots_of, BookTerms, IsAccount, IsBegun, account_of, is_owner, HasSlot, AreTargetsOn, TargetPair, amount_of, run, run_from, LedgerState, Step, asked_position, is_full, opening_state, pay, step, Call, Pay, Done, IsCovered, amount_for, credit_of, debit_of, BoardState, publication_at, is_own, names, prefix_of, AreRuns, IsRun, decided_owner, move_of, moves, no_publication, firsts, owns_of, repeats, rounds, IsSoundEntry, Entry, Own, Round, Publication}
 use Rattle.at_history.proofs.Laws.Covers.{CoversEntry, CoversEntry-HasRuns, single_or_shared}
 use Rattle.at_history.proofs.Laws.RoundsDecided.{AreDecided, AreDecided-take, IsInitial-take, IsNextAtMost-HasRuns, decided_for}
 use Rattle.at_history.proofs.Laws.Balances.{Follows, Follows-nil, Follows-own, Follows-round, Follows-same, MovesNow, MovesSame, balances_after, ledger, owns_of-push_round}
@@ -24,17 +8,6 @@ use Rattle.at_history.proofs.Laws.Payments.{pay-done}
 use Rattle.at_history.proofs.Laws.Prefixes.{take-publication_at}
 use Rattle.at_history.proofs.Laws.Rounds.{IsNextAtMost, firsts-new, firsts-repeat, one_if, published, repeats-own, repeats-round, sum_by-firsts-le, sum_by-firsts_new, sum_by-firsts_repeat}
 use Rattle.at_history.proofs.Laws.HasRuns.{HasRuns, IsRunDecision}
-use Rattle.at_history.specs.Balances.{IsCovered, amount_for, credit_of, debit_of}
-use Rattle.at_history.specs.BoardState.{BoardState, publication_at}
-use Rattle.at_history.specs.Entries.{is_own, names}
-use Rattle.at_history.specs.Fronts.{prefix_of}
-use Rattle.at_history.specs.Moves.{AreRuns, IsRun, decided_owner, move_of, moves}
-use Rattle.at_history.specs.Publications.{no_publication}
-use Rattle.at_history.specs.Rounds.{firsts, owns_of, repeats, rounds}
-use Rattle.at_history.specs.Sound.{IsSoundEntry}
-use Rattle.at_history.specs.declared.publication.Entry.{Entry}
-use Rattle.at_history.specs.declared.publication.Entry.TheVariants.{Own, Round}
-use Rattle.at_history.specs.declared.publication.Publication.{Publication}
 
 -- the moves of a list with one more publication
 moves-repeat : (b : BookTerms) (xs : List Publication) (x : Publication) → repeats x (firsts xs) ≡ true → moves b (xs ++ x ∷ []) ≡ moves b xs

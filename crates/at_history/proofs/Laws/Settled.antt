@@ -1,24 +1,10 @@
 -- What is settled in a history: of each slot the first requests, as many as its rounds name it.
 use Rattle.std.proofs.Common.{◌≡◌, ◌≢◌, ℕ, ◌+◌, ◌<◌, ◌≤◌, ◌==◌, ◌&&◌, zero, suc, true, false, List, [], ◌∷◌, ◌++◌, length, take, refl, sym, ap, subst, ◌∙◌, arith, inl, inr}
-use Rattle.std.proofs.lemmas.Bool.{and_parts, cases_Bool, cases_eq, cases_lt, eq-eqb, eqb-true, le-ltb, ltb-false, ne_eqb}
-use Rattle.std.proofs.lemmas.List.{get_or-take, get_or_default, length-take}
-use Rattle.std.proofs.lemmas.List.Folds.{Any-from_list_any}
-use Rattle.std.specs.List.{sum_by}
-use Rattle.at_base.specs.declared.decision.Decision.{Decision}
-use Rattle.at_ledger.specs.Book.{BookTerms}
-use Rattle.at_ledger.specs.Call.{TargetPair}
+use Rattle.at_history.proofs.Prelude.{and_parts, cases_Bool, cases_eq, cases_lt, eq-eqb, eqb-true, le-ltb, ltb-false, ne_eqb, get_or-take, get_or_default, length-take, Any-from_list_any, sum_by, Decision, BookTerms, TargetPair, publication_at, is_round_on, names, settles, AgreeOnRound, IsHistory, IsShownDecision, IsShownRound, no_publication, firsts, is_settled, named, repeats, rounds, Entry, Own, Round, Publication}
 use Rattle.at_history.proofs.Laws.Histories.{IsNextAtMost-IsHistory, named-rounds, named-unsettled}
 use Rattle.at_history.proofs.Laws.Prefixes.{take-publication_at}
 use Rattle.at_history.proofs.Laws.Rounds.{IsInitial, IsNextAtMost, firsts-nil, one_if, published, repeats-round, rounds-push_next, rounds-take_mono, sum_by-firsts_new, sum_by-firsts_repeat, sum_by-firsts-take_mono}
 use Rattle.at_history.proofs.Laws.RoundsDecided.{IsInitial-IsNextAtMost}
-use Rattle.at_history.specs.BoardState.{publication_at}
-use Rattle.at_history.specs.Entries.{is_round_on, names, settles}
-use Rattle.at_history.specs.Histories.{AgreeOnRound, IsHistory, IsShownDecision, IsShownRound}
-use Rattle.at_history.specs.Publications.{no_publication}
-use Rattle.at_history.specs.Rounds.{firsts, is_settled, named, repeats, rounds}
-use Rattle.at_history.specs.declared.publication.Entry.{Entry}
-use Rattle.at_history.specs.declared.publication.Entry.TheVariants.{Own, Round}
-use Rattle.at_history.specs.declared.publication.Publication.{Publication}
 
 -- the first record of a round stands here
 pub record IsFirstOf (xs : List Publication) (a r j : ℕ) : Type 0 where

@@ -1,14 +1,7 @@
 -- Lists with the same records of each process: what doesn't depend on the order between processes.
 use Rattle.std.proofs.Common.{◌≡◌, ℕ, ◌+◌, ◌||◌, Bool, true, false, List, [], ◌∷◌, ◌++◌, length, get_or, take, drop, refl, sym, ap, subst, ◌∙◌, arith, inl, inr}
-use Rattle.std.proofs.lemmas.Bool.{cases_eq}
-use Rattle.std.proofs.lemmas.List.{drop_more, length-append, take-append-drop, take_at}
-use Rattle.std.proofs.lemmas.List.Elements.{All-append, All-head, All-tail, All-take}
-use Rattle.std.proofs.lemmas.List.Folds.{list_any-append}
-use Rattle.std.specs.List.{All, list_any}
-use Rattle.std.proofs.lemmas.List.{nil_from_length}
+use Rattle.at_history.proofs.Prelude.{cases_eq, drop_more, length-append, take-append-drop, take_at, All-append, All-head, All-tail, All-take, list_any-append, All, list_any, nil_from_length, no_publication, publications_of, Publication}
 use Rattle.at_history.proofs.Laws.Counts.{IsPosition, get_or-publications_of, position_of, publications_of-append, publications_of-nil, publications_of-other, publications_of-own}
-use Rattle.at_history.specs.Publications.{no_publication, publications_of}
-use Rattle.at_history.specs.declared.publication.Publication.{Publication}
 
 -- the same records of each process, in the same order
 abbrev pub HasSameRecords : List Publication → List Publication → Type 0
@@ -17,7 +10,7 @@ HasSameRecords xs ys = (p : ℕ) → publications_of p xs ≡ publications_of p 
 -- the second list has the elements of the first in some order
 abbrev pub IsShuffle : List Publication → List Publication → Type 0
 IsShuffle [] ys = ys ≡ []
-IsShuffle (x ∷ xs) ys = (front : List Publication) × (back : List Publication) × (ys ≡ front ++ x ∷ back) × IsShuffle xs (front ++ back)
+IsShuffle (x ∷ xs) ys = (cut : List Publication) × (back : List Publication) × (ys ≡ cut ++ x ∷ back) × IsShuffle xs (cut ++ back)
 
 empty_from_none : (ys : List Publication) → HasSameRecords [] ys → ys ≡ []
 empty_from_none [] same = refl
@@ -25,23 +18,23 @@ empty_from_none (y ∷ ys) same =
     absurd (omega (arith, ap length (sym (publications_of-nil y.process) ∙ (same y.process ∙ publications_of-own y ys))))
 
 -- without an element of which no record of its process stands before it
-HasSameRecords-without : (x : Publication) (xs front back : List Publication) → HasSameRecords (x ∷ xs) (front ++ x ∷ back)
-    → publications_of x.process front ≡ [] → HasSameRecords xs (front ++ back)
-HasSameRecords-without x xs front back same none p =
-    elim (cases_eq x.process p) as (λ _. publications_of p xs ≡ publications_of p (front ++ back)) [
+HasSameRecords-without : (x : Publication) (xs cut back : List Publication) → HasSameRecords (x ∷ xs) (cut ++ x ∷ back)
+    → publications_of x.process cut ≡ [] → HasSameRecords xs (cut ++ back)
+HasSameRecords-without x xs cut back same none p =
+    elim (cases_eq x.process p) as (λ _. publications_of p xs ≡ publications_of p (cut ++ back)) [
       | inl own ↦
-          subst (λ q. publications_of q xs ≡ publications_of q (front ++ back)) own
+          subst (λ q. publications_of q xs ≡ publications_of q (cut ++ back)) own
           (own_case (publications_of x.process xs) (publications_of x.process back)
           (sym (publications_of-own x xs)
           ∙ (same x.process
-          ∙ (publications_of-append x.process front (x ∷ back)
+          ∙ (publications_of-append x.process cut (x ∷ back)
           ∙ (ap (λ t. t ++ publications_of x.process (x ∷ back)) none ∙ publications_of-own x back))))
-          ∙ sym (publications_of-append x.process front back ∙ ap (λ t. t ++ publications_of x.process back) none))
+          ∙ sym (publications_of-append x.process cut back ∙ ap (λ t. t ++ publications_of x.process back) none))
       | inr other ↦
           sym (publications_of-other p x xs other)
           ∙ (same p
-          ∙ (publications_of-append p front (x ∷ back)
-          ∙ (ap (λ t. publications_of p front ++ t) (publications_of-other p x back other) ∙ sym (publications_of-append p front back))))
+          ∙ (publications_of-append p cut (x ∷ back)
+          ∙ (ap (λ t. publications_of p cut ++ t) (publications_of-other p x back other) ∙ sym (publications_of-append p cut back))))
     ]
   where
     own_case : (us vs : List Publication) → x ∷ us ≡ x ∷ vs → us ≡ vs
@@ -69,10 +62,10 @@ IsShuffle-HasSameRecords (x ∷ xs) ys same =
     )
 
 -- a test of some element, with one element in the middle
-pub list_any-middle : (g : Publication → Bool) (front : List Publication) (x : Publication) (back : List Publication)
-    → list_any g (front ++ x ∷ back) ≡ (g x || list_any g (front ++ back))
-list_any-middle g front x back =
-    list_any-append g front (x ∷ back) ∙ (or_swap (list_any g front) (g x) (list_any g back) ∙ ap (λ t. g x || t) (sym (list_any-append g front back)))
+pub list_any-middle : (g : Publication → Bool) (cut : List Publication) (x : Publication) (back : List Publication)
+    → list_any g (cut ++ x ∷ back) ≡ (g x || list_any g (cut ++ back))
+list_any-middle g cut x back =
+    list_any-append g cut (x ∷ back) ∙ (or_swap (list_any g cut) (g x) (list_any g back) ∙ ap (λ t. g x || t) (sym (list_any-append g cut back)))
   where
     or_swap : (s t u : Bool) → (s || (t || u)) ≡ (t || (s || u))
     or_swap true true u = refl
@@ -81,24 +74,24 @@ list_any-middle g front x back =
 
 pub list_any-IsShuffle : (g : Publication → Bool) (xs ys : List Publication) → IsShuffle xs ys → list_any g xs ≡ list_any g ys
 list_any-IsShuffle g [] ys none = ap (list_any g) (sym none)
-list_any-IsShuffle g (x ∷ xs) ys (front, back, split, rest) =
-    ap (λ t. g x || t) (list_any-IsShuffle g xs (front ++ back) rest) ∙ sym (ap (list_any g) split ∙ list_any-middle g front x back)
+list_any-IsShuffle g (x ∷ xs) ys (cut, back, split, rest) =
+    ap (λ t. g x || t) (list_any-IsShuffle g xs (cut ++ back) rest) ∙ sym (ap (list_any g) split ∙ list_any-middle g cut x back)
 
 pub length-IsShuffle : (xs ys : List Publication) → IsShuffle xs ys → length xs ≡ length ys
 length-IsShuffle [] ys none = ap length (sym none)
-length-IsShuffle (x ∷ xs) ys (front, back, split, rest) =
-    omega (arith, length-IsShuffle xs (front ++ back) rest, ap length split, length-append front (x ∷ back), length-append front back)
+length-IsShuffle (x ∷ xs) ys (cut, back, split, rest) =
+    omega (arith, length-IsShuffle xs (cut ++ back) rest, ap length split, length-append cut (x ∷ back), length-append cut back)
 
 -- all of a list without one element, and of what stands before it
-pub All-before : (P : Publication → Type 0) (front back : List Publication) → All P (front ++ back) → All P front
-All-before P front back all = subst (All P) (take_at front back (length front) refl) (All-take P (length front) (front ++ back) all)
+pub All-before : (P : Publication → Type 0) (cut back : List Publication) → All P (cut ++ back) → All P cut
+All-before P cut back all = subst (All P) (take_at cut back (length cut) refl) (All-take P (length cut) (cut ++ back) all)
 
-pub All-middle : (P : Publication → Type 0) (front : List Publication) (x : Publication) (back : List Publication) → All P (front ++ x ∷ back) → P x
+pub All-middle : (P : Publication → Type 0) (cut : List Publication) (x : Publication) (back : List Publication) → All P (cut ++ x ∷ back) → P x
 All-middle P [] x back all = All-head P x back all
-All-middle P (a ∷ front) x back all = All-middle P front x back (All-tail P a (front ++ x ∷ back) all)
+All-middle P (a ∷ cut) x back all = All-middle P cut x back (All-tail P a (cut ++ x ∷ back) all)
 
-pub All-without : (P : Publication → Type 0) (front : List Publication) (x : Publication) (back : List Publication)
-    → All P (front ++ x ∷ back) → All P (front ++ back)
+pub All-without : (P : Publication → Type 0) (cut : List Publication) (x : Publication) (back : List Publication)
+    → All P (cut ++ x ∷ back) → All P (cut ++ back)
 All-without P [] x back all = All-tail P x back all
-All-without P (a ∷ front) x back all =
-    All-append P (a ∷ []) (front ++ back) (All-before P (a ∷ []) (front ++ x ∷ back) all) (All-without P front x back (All-tail P a (front ++ x ∷ back) all))
+All-without P (a ∷ cut) x back all =
+    All-append P (a ∷ []) (cut ++ back) (All-before P (a ∷ []) (cut ++ x ∷ back) all) (All-without P cut x back (All-tail P a (cut ++ x ∷ back) all))

@@ -1,9 +1,6 @@
 -- Slots of the owners of an account: two owners have two.
 use Rattle.std.proofs.Common.{◌≡◌, ◌≢◌, ℕ, ◌==◌, get_or, Some, sym, ap, subst, ◌∙◌}
-use Rattle.std.proofs.lemmas.Bool.{eqb-true}
-use Rattle.std.proofs.lemmas.List.Quantifiers.{position-Some}
-use Rattle.at_ledger.specs.Account.{AccountTerms, slot_in}
-use Rattle.at_ledger.specs.Book.{BookTerms, account_of, HasSlot}
+use Rattle.at_history.proofs.Prelude.{eqb-true, position-Some, AccountTerms, slot_in, BookTerms, account_of, HasSlot}
 
 -- two processes have two slots
 pub slot_in-injective : (t : AccountTerms) (p q slot : ℕ) → slot_in t p ≡ Some slot → slot_in t q ≡ Some slot → p ≡ q

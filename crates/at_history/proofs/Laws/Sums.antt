@@ -1,10 +1,6 @@
 -- Lists and sums of numbers, of which nothing here is about ledgers.
 use Rattle.std.proofs.Common.{◌≡◌, ℕ, ◌+◌, ◌*◌, ◌<◌, ◌≤◌, zero, suc, List, [], ◌∷◌, refl, ap, arith, get_or, replicate, inl, inr, subst}
-use Rattle.std.proofs.lemmas.Bool.{cases_lt}
-use Rattle.std.proofs.lemmas.List.{get_or-replicate, get_or_past, length-replicate}
-use Rattle.std.proofs.lemmas.List.Sums.{sum_by-cons}
-use Rattle.std.proofs.lemmas.Nat.{mul-le}
-use Rattle.std.specs.List.{sum_by, range_with_len, All, Contains}
+use Rattle.at_history.proofs.Prelude.{cases_lt, get_or-replicate, get_or_past, length-replicate, sum_by-cons, mul-le, sum_by, range_with_len, All, Contains}
 
 pub sum_by-add : {X : Type 0} (f g : X → ℕ) (xs : List X) → sum_by (λ x. f x + g x) xs ≡ sum_by f xs + sum_by g xs
 sum_by-add f g [] = refl

@@ -1,23 +1,8 @@
 -- Announcing a request keeps a state sound: the state with one more request in a row.
 use Rattle.std.proofs.Common.{◌≡◌, ℕ, ◌+◌, ◌<◌, ◌≤◌, List, [], ◌++◌, length, sym, ap, ◌∙◌, arith, ◌↔◌, ◌==◌, ◌&&◌, true, cond, ◌∷◌, take, refl, subst, inl, inr, ◌⊎◌}
-use Rattle.std.proofs.lemmas.Bool.{cases_eq, cases_lt, eq-eqb, ne_eqb}
-use Rattle.std.proofs.lemmas.List.{append-nil, get_or_append_left, length-append, get_or_push, length_push}
-use Rattle.at_base.specs.declared.decision.Decision.{Decision}
-use Rattle.at_ledger.specs.Account.{slots_of}
-use Rattle.at_ledger.specs.Book.{BookTerms, account_of}
-use Rattle.at_ledger.specs.Call.{amount_of}
+use Rattle.at_history.proofs.Prelude.{cases_eq, cases_lt, eq-eqb, ne_eqb, append-nil, get_or_append_left, length-append, get_or_push, length_push, Decision, slots_of, BookTerms, account_of, amount_of, IsCovered, BoardState, request_at, decision_at, publication_at, prefix_of, is_settled, rounds, AreTargets, IsSoundDecision, IsSoundEntry, IsSoundRequest, Sound, Entry, Own, Round, Publication, Request, SeenRow}
 use Rattle.at_history.proofs.Laws.RoundsDecided.{AreDecided-take}
 use Rattle.at_history.proofs.Laws.HasRuns.{HasRuns-Sound}
-use Rattle.at_history.specs.Balances.{IsCovered}
-use Rattle.at_history.specs.BoardState.{BoardState, request_at, decision_at, publication_at}
-use Rattle.at_history.specs.Fronts.{prefix_of}
-use Rattle.at_history.specs.Rounds.{is_settled, rounds}
-use Rattle.at_history.specs.Sound.{AreTargets, IsSoundDecision, IsSoundEntry, IsSoundRequest, Sound}
-use Rattle.at_history.specs.declared.publication.Entry.{Entry}
-use Rattle.at_history.specs.declared.publication.Entry.TheVariants.{Own, Round}
-use Rattle.at_history.specs.declared.publication.Publication.{Publication}
-use Rattle.at_history.specs.declared.request.Request.{Request}
-use Rattle.at_history.specs.declared.request.SeenRow.{SeenRow}
 
 -- what a state has of requests, by account and slot: the rows, and of the last request of each what was heard when it was
 -- announced and the announced words that its owner has loaded since then

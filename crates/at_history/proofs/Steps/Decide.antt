@@ -1,20 +1,7 @@
 -- Deciding a round keeps a state sound: the state with one more decision, whose cell a process holds.
 use Rattle.std.proofs.Common.{◌≡◌, ◌≢◌, ℕ, ◌<◌, ◌≤◌, ◌==◌, Bool, cond, List, [], ◌∷◌, ◌++◌, length, take, Some, refl, sym, ap, subst, ◌∙◌, arith, inl, inr, false, None, ◌⊎◌}
-use Rattle.std.proofs.lemmas.Bool.{cases_eq, cases_lt, eq-eqb, ne_eqb}
-use Rattle.std.proofs.lemmas.List.{get_or_append_left, get_or_push, length_push, take-append-le, take_all}
-use Rattle.std.specs.List.{count_by}
-use Rattle.at_base.specs.declared.decision.Decision.{Decision}
-use Rattle.at_ledger.specs.Book.{BookTerms}
+use Rattle.at_history.proofs.Prelude.{cases_eq, cases_lt, eq-eqb, ne_eqb, get_or_append_left, get_or_push, length_push, take-append-le, take_all, count_by, Decision, BookTerms, BoardState, decision_at, publication_at, request_at, prefix_of, is_settled, IsHeld, IsPublished, IsSoundDecision, IsSoundEntry, IsSoundRequest, Sound, Cell, Entry, Own, Round, Publication, Request}
 use Rattle.at_history.proofs.Laws.DecisionNumbers.{no_decision, number_is_next}
-use Rattle.at_history.specs.BoardState.{BoardState, decision_at, publication_at, request_at}
-use Rattle.at_history.specs.Fronts.{prefix_of}
-use Rattle.at_history.specs.Rounds.{is_settled}
-use Rattle.at_history.specs.Sound.{IsHeld, IsPublished, IsSoundDecision, IsSoundEntry, IsSoundRequest, Sound}
-use Rattle.at_history.specs.declared.cell.Cell.{Cell}
-use Rattle.at_history.specs.declared.publication.Entry.{Entry}
-use Rattle.at_history.specs.declared.publication.Entry.TheVariants.{Own, Round}
-use Rattle.at_history.specs.declared.publication.Publication.{Publication}
-use Rattle.at_history.specs.declared.request.Request.{Request}
 
 -- the cell of a round
 abbrev pub cell : ℕ → ℕ → Cell

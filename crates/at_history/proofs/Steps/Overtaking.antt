@@ -1,24 +1,12 @@
 -- The steps that touch the law of overtaking keep it.
 use Rattle.std.proofs.Common.{◌≡◌, ◌≢◌, ◌⊎◌, ℕ, ◌+◌, ◌-◌, ◌<◌, ◌≤◌, false, List, [], ◌∷◌, ◌++◌, length, take, sym, ap, subst, ◌∙◌, arith, inl, inr}
-use Rattle.std.proofs.lemmas.Bool.{cases_eq, cases_lt}
-use Rattle.std.proofs.lemmas.List.{get_or_push, length_push}
-use Rattle.std.proofs.lemmas.List.Elements.{Contains-push_cases}
-use Rattle.std.specs.List.{Contains, count_by}
-use Rattle.at_base.specs.declared.decision.Decision.{Decision}
-use Rattle.at_ledger.specs.Book.{BookTerms}
+use Rattle.at_history.proofs.Prelude.{cases_eq, cases_lt, get_or_push, length_push, Contains-push_cases, Contains, count_by, Decision, BookTerms, BoardState, decision_at, request_at, AreOvertakers, HasLoadedBefore, IsLastRequest, IsUndecided, Overtakes, Overtaking, tag, is_settled, rounds, Sound, Publication, Request, SeenRow}
 use Rattle.at_history.proofs.Laws.DecisionNumbers.{named-is_settled, names_slot, no_decision, not_later, number-less, number-less-count, number_is_next, unsettled-IsUndecided}
 use Rattle.at_history.proofs.Laws.Rounds.{rounds-take-le, rounds-take_mono}
 use Rattle.at_history.proofs.Steps.Announce.{Asked, IsNextRequest, SameAsked-announced, announced, at_slot-other, at_slot-same, row_loaded, slot_cases, with_asked}
 use Rattle.at_history.proofs.Steps.Decide.{IsNextDecision, KeptCells, KeptCells-decided, KeptCells-push, cells-other, cells-own, decided}
 use Rattle.at_history.proofs.Steps.Publish.{pushed, take-pushed}
 use Rattle.at_history.proofs.Steps.Start.{starting_state}
-use Rattle.at_history.specs.BoardState.{BoardState, decision_at, request_at}
-use Rattle.at_history.specs.Overtaking.{AreOvertakers, HasLoadedBefore, IsLastRequest, IsUndecided, Overtakes, Overtaking, tag}
-use Rattle.at_history.specs.Rounds.{is_settled, rounds}
-use Rattle.at_history.specs.Sound.{Sound}
-use Rattle.at_history.specs.declared.publication.Publication.{Publication}
-use Rattle.at_history.specs.declared.request.Request.{Request}
-use Rattle.at_history.specs.declared.request.SeenRow.{SeenRow}
 
 -- nothing is announced yet
 pub Overtaking-starting : Overtaking starting_state

@@ -1,30 +1,10 @@
 -- Publishing keeps a state sound: the state with one more publication.
 use Rattle.std.proofs.Common.{◌≡◌, ◌↔◌, ℕ, ◌<◌, ◌≤◌, ◌==◌, ◌&&◌, ◌||◌, Bool, true, false, cond, List, [], ◌∷◌, ◌++◌, length, take, Option, Some, None, refl, sym, ap, subst, ◌∙◌, arith, inl, inr, ◌⊎◌}
-use Rattle.std.proofs.lemmas.Bool.{and_from, and_parts, cases_Bool, cases_eq, cases_lt, eq-eqb, eqb-true, ne_eqb, or_left, or_right}
-use Rattle.std.proofs.lemmas.List.{get_or_append_left, get_or_push, length_push, take-append-le, take_at}
-use Rattle.std.proofs.lemmas.List.Folds.{list_any-append}
-use Rattle.std.proofs.lemmas.List.Sums.{sum_by_push}
-use Rattle.std.specs.List.{list_any}
-use Rattle.at_base.specs.declared.decision.Decision.{Decision}
-use Rattle.at_ledger.specs.Book.{BookTerms}
-use Rattle.at_ledger.specs.Call.{amount_of}
+use Rattle.at_history.proofs.Prelude.{and_from, and_parts, cases_Bool, cases_eq, cases_lt, eq-eqb, eqb-true, ne_eqb, or_left, or_right, get_or_append_left, get_or_push, length_push, take-append-le, take_at, list_any-append, sum_by_push, list_any, Decision, BookTerms, amount_of, IsCovered, BoardState, decision_at, publication_at, request_at, is_own, is_round, place, prefix_of, gives_up, held_after, no_publication, is_settled, owns_of, rounds, HasView, IsHeld, IsPublished, IsSoundDecision, IsSoundEntry, IsSoundRequest, Sound, Cell, Entry, Own, Round, Publication, Request}
 use Rattle.at_history.proofs.Laws.RoundsDecided.{ArePublishedBy-HasRuns, place-view-le}
-use Rattle.at_history.proofs.Laws.Fronts.{place-IsFront-le}
+use Rattle.at_history.proofs.Laws.Cuts.{place-IsCut-le}
 use Rattle.at_history.proofs.Laws.Rounds.{one_if}
 use Rattle.at_history.proofs.Laws.HasRuns.{HasRuns-Sound}
-use Rattle.at_history.specs.Balances.{IsCovered}
-use Rattle.at_history.specs.BoardState.{BoardState, decision_at, publication_at, request_at}
-use Rattle.at_history.specs.Entries.{is_own, is_round}
-use Rattle.at_history.specs.Fronts.{place, prefix_of}
-use Rattle.at_history.specs.HeldCells.{gives_up, held_after}
-use Rattle.at_history.specs.Publications.{no_publication}
-use Rattle.at_history.specs.Rounds.{is_settled, owns_of, rounds}
-use Rattle.at_history.specs.Sound.{HasView, IsHeld, IsPublished, IsSoundDecision, IsSoundEntry, IsSoundRequest, Sound}
-use Rattle.at_history.specs.declared.cell.Cell.{Cell}
-use Rattle.at_history.specs.declared.publication.Entry.{Entry}
-use Rattle.at_history.specs.declared.publication.Entry.TheVariants.{Own, Round}
-use Rattle.at_history.specs.declared.publication.Publication.{Publication}
-use Rattle.at_history.specs.declared.request.Request.{Request}
 
 -- the state with one more publication of a process
 abbrev pub pushed : BoardState → ℕ → Publication → BoardState
@@ -169,7 +149,7 @@ published-pushed b s p a r x prefix law (inr (k, known, held)) =
       | inr other ↦ inr (k, known, ap (λ (t : Bool). cond t (held_after x (s.held k)) (s.held k)) other ∙ held)
     ]
 
--- what is asked of a publication that comes next: its view is a front of all that stands, its entry keeps the laws there, and
+-- what is asked of a publication that comes next: its view is a cut of all that stands, its entry keeps the laws there, and
 -- its process has room for one more own record
 pub record IsNextPublication (b : BookTerms) (s : BoardState) (x : Publication) : Type 0 where
   pub view : HasView b s.published x
@@ -182,7 +162,7 @@ Sound-pushed b s p x sound next =
     let xs = s.published in
     let all = ArePublishedBy-HasRuns b s (HasRuns-Sound b s sound) in
     let same : prefix_of x.view (xs ++ x ∷ []) ≡ prefix_of x.view xs =
-    take-pushed xs x (place x.view) (place-IsFront-le b.processes x.view xs next.view.front all) in
+    take-pushed xs x (place x.view) (place-IsCut-le b.processes x.view xs next.view.cut all) in
     record {
       views = push_all (HasView b) xs x sound.views next.view;
       entries = push_entries (λ (y : Publication) (prefix : List Publication). IsSoundEntry b (pushed s p x) y.process prefix y.entry) xs x

@@ -1,8 +1,6 @@
 -- The state that a board starts with is sound.
 use Rattle.std.proofs.Common.{[], None, arith}
-use Rattle.at_ledger.specs.Book.{BookTerms}
-use Rattle.at_history.specs.BoardState.{BoardState}
-use Rattle.at_history.specs.Sound.{Sound}
+use Rattle.at_history.proofs.Prelude.{BookTerms, BoardState, Sound}
 
 -- nothing is published, decided, announced or held
 abbrev pub starting_state : BoardState

@@ -1,11 +1,5 @@
 use Rattle.std.proofs.Common.{◌≡◌, ◌<◌, ℕ, ap, length, map, subst, sym, ◌∙◌}
-use Rattle.std.proofs.lemmas.Result.{IfOk-weaker}
-use Rattle.at_ledger.specs.Run.{Legal, Whole, last_state}
-use Rattle.at_ledger.specs.State.{balance_of}
-use Rattle.at_history.specs.Balances.{balance_after}
-use Rattle.at_log.specs.JournalOrder.{journal_lines, journal_order}
-use Rattle.at_journal.specs.Calls.{AreCallsOf, calls_in, line_at}
-use Rattle.at_journal.specs.Linearizable.{AreTimed, CallTimes, IsLinearizable}
+use Rattle.at_journal.proofs.Prelude.{IfOk-weaker, Legal, Whole, last_state, balance_of, balance_after, journal_lines, journal_order, AreCallsOf, calls_in, line_at, AreTimed, CallTimes, IsLinearizable}
 use Rattle.at_journal.proofs.JournalRuns.{Legal-journal_lines, balances-journal_lines}
 use Rattle.at_journal.proofs.TimedOrder.{IsLinearizable-journal_lines}
 use Rattle.at_journal.proofs.WholeLaws.{Whole-journal_lines}

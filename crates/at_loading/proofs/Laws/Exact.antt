@@ -1,10 +1,7 @@
 -- What is answered where no fault of the shelf is counted.
 use Rattle.std.proofs.Common.{◌≡◌, ◌≢◌, ◌⊎◌, ℕ, Bool, true, Result, Ok, Err, inl, inr, refl}
-use Rattle.at_report.specs.declared.status.Status.{Status}
-use Rattle.at_report.specs.declared.status.Status.TheVariants.{Done, Usage, BadBook, BadPayments, ReadFault, WriteFault, NoMemory, TooLong, BadSchedule, BadOrder, BadMessages, NotLegal, TooManyOrders}
+use Rattle.at_loading.proofs.Prelude.{Status, Done, Usage, BadBook, BadPayments, ReadFault, WriteFault, NoMemory, TooLong, BadSchedule, BadOrder, BadMessages, NotLegal, TooManyOrders, Answers, IsFaultless, IsUnread, IsWritten, Kind, MayRefuseOf, payments, scheduled, messages}
 use Rattle.at_report.specs.declared.status.UsageFault.TheVariants as usage
-use Rattle.at_loading.specs.Faults.{Answers, IsFaultless, IsUnread, IsWritten, Kind, MayRefuseOf}
-use Rattle.at_loading.specs.Faults.Kind.{payments, scheduled, messages}
 use Rattle.at_loading.proofs.Laws.MayRefuse.{Rose-IsFaultless}
 
 -- a refusal without a fault is the one that the files bring

@@ -1,19 +1,8 @@
 -- Files loaded one after another.
 use Rattle.std.proofs.Common.{◌≡◌, ℕ, ◌+◌, ◌<◌, List, [], ◌∷◌, ◌++◌, length, take, drop, get_or, Result, Ok, Err, Bool, true, false, ◌==◌, eq-eqb, refl, sym, ap, ◌∙◌, arith, suc, ◌⊎◌, inl, inr, length-append, String, string_bytes}
-use Rattle.std.specs.Global.{Global}
-use Rattle.std.proofs.lemmas.Bool.Decides.{nat_tests}
-use Rattle.std.proofs.lemmas.List.{take_more, take-append-drop, length-take-le, get_or-map}
-use Rattle.std.proofs.Math.Seq.{drop-cons, get_or-append_seam}
-use Rattle.std.proofs.Math.ListN.{get_or-append}
-use Rattle.std.proofs.Math.Nat.{eq-or-lt_of_le}
-use Rattle.at_files.specs.BookRecords.{NamedBook}
-use Rattle.at_files.specs.Results.{and_then}
-use Rattle.at_report.specs.declared.status.Status.{Status}
+use Rattle.at_loading.proofs.Prelude.{Global, nat_tests, take_more, take-append-drop, length-take-le, get_or-map, drop-cons, get_or-append_seam, get_or-append, eq-or-lt_of_le, NamedBook, and_then, Status, Word, words_of, EachSpells, Files, Giving, IsFileReached, MayReachOf, SpellsFile, all_loaded, book_loaded, file_first, file_loaded, files_loaded}
 use Rattle.at_report.specs.declared.status.Status.TheVariants as status
 use Rattle.at_report.specs.declared.status.UsageFault.TheVariants as usage
-use Rattle.at_report.specs.Lines.{Word}
-use Rattle.at_loading.specs.Words.{words_of}
-use Rattle.at_loading.specs.Loading.{EachSpells, Files, Giving, IsFileReached, MayReachOf, SpellsFile, all_loaded, book_loaded, file_first, file_loaded, files_loaded}
 
 -- what files that were loaded come of: the first, and the others
 record AreParts {T : Type 0} (r : Result (List T) Status) (rest : Result (List (List T)) Status) (loaded : List (List T)) : Type 0 where

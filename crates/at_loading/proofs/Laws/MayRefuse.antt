@@ -1,15 +1,8 @@
 -- When a refusal of a part is one of the whole.
 use Rattle.std.proofs.Common.{◌≡◌, ◌≢◌, ◌+◌, ◌-◌, ◌^◌, ◌<◌, ◌≤◌, arith, refl, ℕ, Bool, true, Result, Ok, Err, ◌⊎◌, inl, inr}
-use Rattle.at_report.specs.declared.status.Status.{Status}
-use Rattle.at_report.specs.declared.status.Status.TheVariants.{Done, Usage, BadBook, BadPayments, ReadFault, WriteFault, NoMemory, TooLong, BadSchedule, BadOrder, BadMessages, NotLegal, TooManyOrders}
-use Rattle.at_report.specs.declared.status.UsageFault.{UsageFault}
+use Rattle.at_loading.proofs.Prelude.{Status, Done, Usage, BadBook, BadPayments, ReadFault, WriteFault, NoMemory, TooLong, BadSchedule, BadOrder, BadMessages, NotLegal, TooManyOrders, UsageFault, OrderWhy, ScheduleWhy, HasFileNumbers, HasFurtherNumbers, IsBrought, IsFaultless, IsUnfetched, IsUnread, Kind, MayRefuseOf, RefusesFile, payments, scheduled, messages, Rose}
 use Rattle.at_files.specs.declared.book_fault.BadBook as of_files
-use Rattle.at_files.specs.declared.deliveries.OrderWhy.{OrderWhy}
-use Rattle.at_files.specs.declared.schedule.ScheduleWhy.{ScheduleWhy}
 use Rattle.at_report.specs.declared.status.UsageFault.TheVariants as usage
-use Rattle.at_loading.specs.Faults.{HasFileNumbers, HasFurtherNumbers, IsBrought, IsFaultless, IsUnfetched, IsUnread, Kind, MayRefuseOf, RefusesFile}
-use Rattle.at_loading.specs.Faults.Kind.{payments, scheduled, messages}
-use Rattle.at_io.specs.Faults.{Rose}
 
 -- the refusal of an answer
 pub refusal_of : {A : Type 0} (answer same : Result A Status) (refusal other : Status) → answer ≡ same → answer ≡ Err refusal → same ≡ Err other → refusal ≡ other

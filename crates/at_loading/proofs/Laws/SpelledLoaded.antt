@@ -1,25 +1,7 @@
 -- Files that spell a book and its calls are loaded.
 use Rattle.std.proofs.Common.{◌≡◌, ℕ, ◌+◌, ◌<◌, List, [], ◌∷◌, length, get_or, zero, suc, true, false, nat_lt, ◌==◌, eq-eqb, All, Result, Ok, Err, IfOk, refl, sym, ◌∙◌, arith}
-use Rattle.std.proofs.lemmas.Bool.Decides.{nat_tests}
-use Rattle.at_ledger.specs.Book.{BookTerms, IsBook}
-use Rattle.at_ledger.specs.declared.call.Call.{Call}
-use Rattle.at_ledger.specs.Files.{IsPlayable, contents_of}
-use Rattle.at_files.specs.BookRecords.{NamedBook}
-use Rattle.at_files.specs.Messages.{messages_spelled}
-use Rattle.at_files.specs.Names.{AreNamesOf, NameList}
-use Rattle.at_files.specs.Records.{file_records}
-use Rattle.at_files.specs.BookFile.{book_of_records}
-use Rattle.at_files.specs.Payments.{payments_of}
-use Rattle.at_files.specs.ReplayPayments.{replay_payments_of}
-use Rattle.at_files.proofs.BookAccepted.{book_of_records-records_of_book}
-use Rattle.at_files.proofs.MessageLaws.{messages_spelled-Sends}
-use Rattle.at_files.proofs.PaymentsAccepted.{payments_of-Pays}
-use Rattle.at_files.proofs.ReplayLaws.{replay_payments_of-PaysReplay}
-use Rattle.at_io.specs.Limits.{most_file_bytes}
-use Rattle.at_report.specs.Lines.{Word}
-use Rattle.at_loading.specs.Words.{Form}
+use Rattle.at_loading.proofs.Prelude.{nat_tests, BookTerms, IsBook, Call, IsPlayable, contents_of, NamedBook, messages_spelled, AreNamesOf, NameList, file_records, book_of_records, payments_of, replay_payments_of, book_of_records-records_of_book, messages_spelled-Sends, payments_of-Pays, replay_payments_of-PaysReplay, most_file_bytes, Word, Form, Files, Giving, HoldsFile, IsSpelled, Loaded, LoadedOf, PaysBytes, PaysReplayBytes, SendsBytes, Spelled, SpelledOf, Spelling, SpellsBook, SpellsFile, all_loaded, book_loaded, calls_given, fetched, files_loaded, loaded, messages_given, named_book, replay_calls_given}
 use Rattle.at_loading.specs.declared.loading.Loaded as program
-use Rattle.at_loading.specs.Loading.{Files, Giving, HoldsFile, IsSpelled, Loaded, LoadedOf, PaysBytes, PaysReplayBytes, SendsBytes, Spelled, SpelledOf, Spelling, SpellsBook, SpellsFile, all_loaded, book_loaded, calls_given, fetched, files_loaded, loaded, messages_given, named_book, replay_calls_given}
 
 -- a file that is there and not too long is fetched
 pub fetched-HoldsFile : (files : Files) (name : Word) (bytes : List ℕ) (number : ℕ) → HoldsFile files name bytes → fetched (files name) number ≡ Ok bytes

@@ -1,21 +1,7 @@
 -- The words that a closed board has of a record, and the publication that they were made of.
 use Rattle.std.proofs.Common.{◌≡◌, ℕ, ◌+◌, ◌^◌, ◌<◌, List, [], ◌∷◌, ◌++◌, length, get_or, map, take, sym, ap, ◌∙◌, arith}
-use Rattle.std.proofs.lemmas.Grind.{same_number_lists}
-use Rattle.std.proofs.lemmas.List.{get_or-map, length-map, map-append, take_all, take_more}
-use Rattle.at_ledger.specs.Book.{IsBook}
-use Rattle.at_history.proofs.Laws.Counts.{get_or-publications_of, position_of}
-use Rattle.at_history.specs.BoardState.{publication_at}
-use Rattle.at_history.specs.Publications.{count_of, no_publication, publications_of}
-use Rattle.at_history.specs.declared.publication.Entry.{Entry}
-use Rattle.at_history.specs.declared.publication.Publication.{Publication}
-use Rattle.at_board.specs.Ends.Closing.{EndTerms, IsEnd, records_of}
-use Rattle.at_board.specs.Knowledge.Seats.{SeatTerms}
-use Rattle.at_board.specs.Words.Packed.{record_words}
-use Rattle.at_board.specs.declared.words.TheConstants.{RECORD_WORDS}
+use Rattle.at_log.proofs.Prelude.{same_number_lists, get_or-map, length-map, map-append, take_all, take_more, IsBook, get_or-publications_of, position_of, publication_at, count_of, no_publication, publications_of, Entry, Publication, EndTerms, IsEnd, records_of, SeatTerms, record_words, RECORD_WORDS, published_by, IsEndedEntry, IsEndedView, Record}
 use Rattle.at_log.proofs.Laws.SeenRecords.{IsShownRecord, IsShownRecord-IsHistory, get_or-record_words}
-use Rattle.at_log.specs.ClosingTerms.{published_by}
-use Rattle.at_log.specs.Ended.{IsEndedEntry, IsEndedView}
-use Rattle.at_log.specs.declared.record.Record.{Record}
 
 -- a word of a record of a closed board
 abbrev pub ended_word : EndTerms → ℕ → ℕ → ℕ → ℕ

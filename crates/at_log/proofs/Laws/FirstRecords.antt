@@ -1,20 +1,6 @@
 -- The first records of the rounds of a list: which records they are, and in which order.
 use Rattle.std.proofs.Common.{◌≡◌, ℕ, ◌<◌, ◌≤◌, ◌==◌, ◌&&◌, ◌⊎◌, Bool, true, false, List, [], ◌∷◌, ◌++◌, length, take, refl, sym, ap, subst, ◌∙◌, arith, inl, inr}
-use Rattle.std.proofs.Math.Seq.{get_or-append_seam, take-append_seam}
-use Rattle.std.proofs.lemmas.Bool.{cases_Bool, cases_lt, eq-eqb, eqb-true, ltb-false}
-use Rattle.std.proofs.lemmas.List.{get_or_append_left, get_or_default, length-append, take-append-le}
-use Rattle.std.proofs.lemmas.List.Folds.{Any-from_list_any}
-use Rattle.std.specs.List.{count_by, list_any}
-use Rattle.at_base.specs.declared.decision.Decision.{Decision}
-use Rattle.at_ledger.specs.Call.{TargetPair}
-use Rattle.at_history.proofs.Laws.Rounds.{IsInitial, IsNextAtMost, firsts-new, firsts-repeat, published, repeats-round}
-use Rattle.at_history.specs.BoardState.{publication_at}
-use Rattle.at_history.specs.Entries.{is_round, is_round_on, is_same_round}
-use Rattle.at_history.specs.Publications.{no_publication}
-use Rattle.at_history.specs.Rounds.{firsts, repeats, rounds}
-use Rattle.at_history.specs.declared.publication.Entry.{Entry}
-use Rattle.at_history.specs.declared.publication.Entry.TheVariants.{Own, Round}
-use Rattle.at_history.specs.declared.publication.Publication.{Publication}
+use Rattle.at_log.proofs.Prelude.{get_or-append_seam, take-append_seam, cases_Bool, cases_lt, eq-eqb, eqb-true, ltb-false, get_or_append_left, get_or_default, length-append, take-append-le, Any-from_list_any, count_by, list_any, Decision, TargetPair, IsInitial, IsNextAtMost, firsts-new, firsts-repeat, published, repeats-round, publication_at, is_round, is_round_on, is_same_round, no_publication, firsts, repeats, rounds, Entry, Own, Round, Publication}
 
 -- a record of a round is one
 pub is_round-true : (a r : ℕ) (e : Entry) → is_round a r e ≡ true → (d : Decision) × (targets : List TargetPair) × (e ≡ Round a r d targets)

@@ -1,40 +1,25 @@
 -- No line's key is above twice the number of publications.
 use Rattle.std.proofs.Common.{◌≡◌, ℕ, ◌+◌, ◌*◌, ◌<◌, ◌≤◌, ◌&&◌, zero, suc, true, cond, List, length, take, refl, ap, subst, ◌∙◌, arith, inl, inr}
-use Rattle.std.proofs.lemmas.Bool.{cases_Bool, eq-eqb}
-use Rattle.std.proofs.lemmas.List.{get_or_default}
-use Rattle.at_ledger.specs.Book.{BookTerms}
-use Rattle.at_history.proofs.Laws.Fronts.{place-IsFront-le}
-use Rattle.at_history.specs.BoardState.{publication_at}
-use Rattle.at_history.specs.Entries.{is_round}
-use Rattle.at_history.specs.Fronts.{IsFront, place, prefix_of}
-use Rattle.at_history.specs.Publications.{ArePublishedBy, no_publication}
-use Rattle.at_history.specs.declared.publication.Publication.{Publication}
+use Rattle.at_log.proofs.Prelude.{cases_Bool, eq-eqb, get_or_default, BookTerms, place-IsCut-le, publication_at, is_round, IsCut, place, prefix_of, ArePublishedBy, no_publication, Publication, ClosingTerms, receipts_of, Coherent, journal_order, line_key, IsPlaced, read, not_owner, full, short, done, round, is_success, receipt_at, first_account, key_at, key_of, round_position}
 use Rattle.at_log.proofs.Laws.OrderPremises.{HasViews-Coherent}
 use Rattle.at_log.proofs.Laws.Keys.{line_key-receipt}
 use Rattle.at_log.proofs.Laws.Positions.{own_position-at, round_position-at}
 use Rattle.at_log.proofs.Laws.Replies.{first_account-payout}
 use Rattle.at_log.proofs.Laws.Order.{ArePublishedBy-journal_order}
 use Rattle.at_log.proofs.Laws.OrderRounds.{IsCoherentEntry-journal_order, place-view-journal_order, round_entry}
-use Rattle.at_log.specs.ClosingTerms.{ClosingTerms, receipts_of}
-use Rattle.at_log.specs.Coherent.{Coherent}
-use Rattle.at_log.specs.JournalOrder.{journal_order, line_key}
-use Rattle.at_log.specs.Placed.{IsPlaced, read, not_owner, full, short, done, round}
-use Rattle.at_log.specs.Receipts.{is_success, receipt_at}
-use Rattle.at_ledger.specs.Call.{first_account}
-use Rattle.at_log.specs.Told.{key_at, key_of, round_position}
 
--- a front of the order is of some of its publications
-front-le : (b : BookTerms) (c : ClosingTerms) (view : List ℕ) → Coherent b c → IsFront b.processes view (journal_order c) → place view ≤ length (journal_order c)
-front-le b c view coherent front =
-    place-IsFront-le b.processes view (journal_order c) front (subst (λ n. ArePublishedBy n (journal_order c)) coherent.logs (ArePublishedBy-journal_order c))
+-- a cut of the order is of some of its publications
+cut-le : (b : BookTerms) (c : ClosingTerms) (view : List ℕ) → Coherent b c → IsCut b.processes view (journal_order c) → place view ≤ length (journal_order c)
+cut-le b c view coherent cut =
+    place-IsCut-le b.processes view (journal_order c) cut (subst (λ n. ArePublishedBy n (journal_order c)) coherent.logs (ArePublishedBy-journal_order c))
 
 key-le : (b : BookTerms) (c : ClosingTerms) (p i previous : ℕ) → Coherent b c → previous ≤ 2 * length (journal_order c)
     → IsPlaced b p (journal_order c) (take i (receipts_of c p)) (receipt_at (receipts_of c p) i)
     → key_of p (journal_order c) previous (receipt_at (receipts_of c p) i) ≤ 2 * length (journal_order c)
-key-le b c p i previous coherent before (read account amount call reply front) =
+key-le b c p i previous coherent before (read account amount call reply cut) =
     let r = receipt_at (receipts_of c p) i in
-    let key = ap (key_at p (journal_order c) previous r.call (is_success r.reply)) front.at in
-    omega (arith, key, front-le b c front.view coherent front.front)
+    let key = ap (key_at p (journal_order c) previous r.call (is_success r.reply)) cut.at in
+    omega (arith, key, cut-le b c cut.view coherent cut.cut)
 key-le b c p i previous coherent before (not_owner source targets call owner reply at) =
     let r = receipt_at (receipts_of c p) i in
     let key = ap (key_at p (journal_order c) previous r.call (is_success r.reply)) at in
@@ -43,10 +28,10 @@ key-le b c p i previous coherent before (full source targets call owner room rep
     let r = receipt_at (receipts_of c p) i in
     let key = ap (key_at p (journal_order c) previous r.call (is_success r.reply)) at in
     omega (arith, key, before)
-key-le b c p i previous coherent before (short source amount targets may single reply front less) =
+key-le b c p i previous coherent before (short source amount targets may single reply cut less) =
     let r = receipt_at (receipts_of c p) i in
-    let key = ap (key_at p (journal_order c) previous r.call (is_success r.reply)) front.at in
-    omega (arith, key, front-le b c front.view coherent front.front)
+    let key = ap (key_at p (journal_order c) previous r.call (is_success r.reply)) cut.at in
+    omega (arith, key, cut-le b c cut.view coherent cut.cut)
 key-le b c p i previous coherent before (done source targets may single reply own) =
     let r = receipt_at (receipts_of c p) i in
     let key = ap (key_at p (journal_order c) previous r.call (is_success r.reply)) own.at in

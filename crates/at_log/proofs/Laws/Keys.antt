@@ -1,19 +1,7 @@
 -- The keys of the lines of a process: each is that of its receipt, they don't fall, and an odd one says which publication the line moved.
 use Rattle.std.proofs.Common.{◌≡◌, ℕ, ◌+◌, ◌*◌, ◌<◌, ◌≤◌, ◌⊎◌, Bool, false, cond, List, ◌∷◌, length, get_or, refl, ap, arith, inl, inr, zero, suc, [], true}
-use Rattle.std.proofs.lemmas.Bool.{cases_Bool}
-use Rattle.at_ledger.specs.Book.{BookTerms}
-use Rattle.at_ledger.specs.declared.call.Call.{Call}
-use Rattle.at_history.specs.Fronts.{place}
-use Rattle.at_history.specs.declared.publication.Publication.{Publication}
-use Rattle.at_log.specs.ClosingTerms.{ClosingTerms, receipts_of}
-use Rattle.at_log.specs.Coherent.{Coherent}
-use Rattle.at_log.specs.JournalOrder.{journal_order, line_key}
-use Rattle.at_log.specs.Receipts.{receipt_at}
-use Rattle.at_ledger.specs.Call.{first_account}
-use Rattle.at_log.specs.Told.{key_at, key_of, keys_of, round_position, keys_from, own_position}
-use Rattle.at_log.specs.declared.receipt.At.{At}
-use Rattle.at_log.specs.declared.receipt.At.TheVariants.{Front, Own, Round, Previous}
-use Rattle.at_log.specs.declared.receipt.Receipt.{Receipt}
+use Rattle.at_log.proofs.Prelude.{cases_Bool, BookTerms, Call, place, Publication, ClosingTerms, receipts_of, Coherent, journal_order, line_key, receipt_at, first_account, key_at, key_of, keys_of, round_position, keys_from, own_position, At, Cut, Previous, Receipt}
+use Rattle.at_log.specs.declared.receipt.At.TheVariants.{Own, Round}
 
 -- the key of the line before
 abbrev pub previous_key : ClosingTerms → ℕ → ℕ → ℕ
@@ -48,7 +36,7 @@ line_key-sorted b c process coherent known i j before within =
 
 -- the receipt moved nothing, and stands at the prefix of this length, or with the one before it
 abbrev pub still_at : ℕ → Bool → At → Type 0
-still_at m moved (Front view) = place view ≡ m
+still_at m moved (Cut view) = place view ≡ m
 still_at m moved (Own number) = ⊥
 still_at m moved (Round number at) = (moved ≡ false) × (at ≡ m)
 still_at m moved Previous = Unit {0}
@@ -56,7 +44,7 @@ still_at m moved Previous = Unit {0}
 -- an even key
 pub key_at-even : (m process : ℕ) (list : List Publication) (previous : ℕ) (call : Call) (moved : Bool) (at : At)
     → key_at process list previous call moved at ≡ 2 * m → still_at m moved at
-key_at-even m process list previous call moved (Front view) is = omega (arith, is)
+key_at-even m process list previous call moved (Cut view) is = omega (arith, is)
 key_at-even m process list previous call moved (Own number) is = absurd (omega (arith, is))
 key_at-even m process list previous call moved (Round number at) is =
     elim (cases_Bool moved) as (λ _. (moved ≡ false) × (at ≡ m)) [
@@ -67,7 +55,7 @@ key_at-even m process list previous call moved Previous is = tt
 
 -- the key of a receipt that moved
 abbrev pub moves_at : ℕ → ℕ → List Publication → Call → Bool → At → Type 0
-moves_at m process list call moved (Front view) = ⊥
+moves_at m process list call moved (Cut view) = ⊥
 moves_at m process list call moved (Own number) = own_position process number list ≡ m
 moves_at m process list call moved (Round number at) = (moved ≡ true) × (round_position (first_account call) number list ≡ m)
 moves_at m process list call moved Previous = ⊥
@@ -76,7 +64,7 @@ moves_at m process list call moved Previous = ⊥
 pub key_at-odd : (m process : ℕ) (list : List Publication) (previous : ℕ) (call : Call) (moved : Bool) (at : At)
     → key_at process list previous call moved at ≡ 2 * m + 1
     → moves_at m process list call moved at ⊎ ((at ≡ Previous) × (previous ≡ 2 * m + 1))
-key_at-odd m process list previous call moved (Front view) is = absurd (omega (arith, is))
+key_at-odd m process list previous call moved (Cut view) is = absurd (omega (arith, is))
 key_at-odd m process list previous call moved (Own number) is = inl (omega (arith, is))
 key_at-odd m process list previous call moved (Round number at) is =
     elim (cases_Bool moved) as (λ _. moves_at m process list call moved (Round number at) ⊎ ((Round number at ≡ Previous) × (previous ≡ 2 * m + 1))) [

@@ -1,16 +1,6 @@
 -- The last record of a process's log.
 use Rattle.std.proofs.Common.{◌≡◌, ◌<◌, List, [], ◌∷◌, ◌++◌, length, sym, ap, subst, ◌∙◌, arith, length-append}
-use Rattle.std.proofs.lemmas.List.{get_or-set_same, get_or_at}
-use Rattle.at_ledger.specs.Book.{BookTerms}
-use Rattle.at_history.proofs.Laws.Counts.{publications_of-append, publications_of-nil, publications_of-own}
-use Rattle.at_history.specs.BoardState.{publication_at}
-use Rattle.at_history.specs.Publications.{count_of, no_publication, publications_of}
-use Rattle.at_history.specs.declared.publication.Publication.{Publication}
-use Rattle.at_board.specs.Knowledge.Parts.{no_part, own_part}
-use Rattle.at_board.specs.Steps.Publish.{Publishes, with_record}
-use Rattle.at_board.specs.declared.knowledge.Knowledge.{Knowledge}
-use Rattle.at_board.specs.declared.knowledge.Part.{Part}
-use Rattle.at_log.specs.LastRecord.{IsLast}
+use Rattle.at_log.proofs.Prelude.{get_or-set_same, get_or_at, BookTerms, publications_of-append, publications_of-nil, publications_of-own, publication_at, count_of, no_publication, publications_of, Publication, no_part, own_part, Publishes, with_record, Knowledge, Part, IsLast}
 
 -- what was published is the last of its process
 pub IsLast-Publishes : (b : BookTerms) (v w : Knowledge) (x : Publication) → 0 < length v.parts → x.process ≡ v.first → Publishes b v w x → IsLast v w x

@@ -1,28 +1,8 @@
--- The journal's order of publications: each log in its order, and each held front a front of it.
+-- The journal's order of publications: each log in its order, and each held cut a cut of it.
 use Rattle.std.proofs.Common.{◌≡◌, ℕ, ◌+◌, ◌-◌, ◌<◌, ◌≤◌, ◌==◌, zero, suc, Bool, true, false, List, [], ◌∷◌, ◌++◌, length, get_or, map, filter, nat_lt, sum, take, cond, refl, sym, ap, subst, append-nil, append_assoc, ◌∙◌, arith, inl, inr}
-use Rattle.std.proofs.lemmas.Bool.{cases_eq, lt-ltb, le-ltb}
-use Rattle.std.proofs.lemmas.Grind.{flat_map-append}
-use Rattle.std.proofs.lemmas.List.{ext_get_or, get_or-map, get_or-take, length-map, take_all, length-take-le, map-append}
-use Rattle.std.proofs.lemmas.List.Elements.{All-append, All-contains, All-filter}
-use Rattle.std.proofs.lemmas.List.FromFn.{get_or-range_with_len, length-range_with_len, length-map-range_with_len, get_or-map-range_with_len}
-use Rattle.std.specs.List.{All, Contains, flat_map, range_with_len}
-use Rattle.std.specs.List.Sorted.{IsNonDecreasingBy}
-use Rattle.at_ledger.specs.Book.{BookTerms}
-use Rattle.at_history.proofs.Laws.Counts.{get_or-counts, length-counts, publications_of-append, publications_of-nil, publications_of-other, publications_of-own, sum-counts}
-use Rattle.at_history.proofs.Laws.Fronts.{sum-Covers-le}
-use Rattle.at_history.proofs.Laws.Prefixes.{take-IsPrefix}
-use Rattle.at_history.specs.BoardState.{publication_at}
-use Rattle.at_history.specs.Fronts.{IsFront, place, prefix_of}
-use Rattle.at_history.specs.Publications.{ArePublishedBy, IsPrefix, count_of, counts, no_publication, publications_of}
-use Rattle.at_history.specs.declared.publication.Entry.{Entry}
-use Rattle.at_history.specs.declared.publication.Publication.{Publication}
+use Rattle.at_log.proofs.Prelude.{cases_eq, lt-ltb, le-ltb, flat_map-append, ext_get_or, get_or-map, get_or-take, length-map, take_all, length-take-le, map-append, All-append, All-contains, All-filter, get_or-range_with_len, length-range_with_len, length-map-range_with_len, get_or-map-range_with_len, All, Contains, flat_map, range_with_len, IsNonDecreasingBy, BookTerms, get_or-counts, length-counts, publications_of-append, publications_of-nil, publications_of-other, publications_of-own, sum-counts, sum-Covers-le, take-IsPrefix, publication_at, IsCut, place, prefix_of, ArePublishedBy, IsPrefix, count_of, counts, no_publication, publications_of, Entry, Publication, ClosingTerms, log_lengths, log_of, log_published, published_by, AreChained, held_cuts, journal_order, numbers_at, publication_key, published_at, Record}
 use Rattle.at_log.proofs.Laws.Buckets.{filter-none, flat_map-buckets, range_with_len-more}
 use Rattle.at_log.proofs.Laws.PublicationKeys.{get_or-log_lengths, publication_key-above, publication_key-le, publication_key-le_all, publication_key-mono}
-use Rattle.at_log.specs.ClosingTerms.{ClosingTerms, log_lengths, log_of, log_published, published_by}
-use Rattle.at_log.specs.Coherent.{AreChained}
-use Rattle.at_log.specs.HeldFronts.{held_fronts}
-use Rattle.at_log.specs.JournalOrder.{journal_order, numbers_at, publication_key, published_at}
-use Rattle.at_log.specs.declared.record.Record.{Record}
 
 -- a record that no log has
 pub no_record : Record
@@ -211,9 +191,9 @@ IsPrefix-below c limit small =
     let is : limit + more ≡ sum (log_lengths c) + 1 = omega arith in
     subst (λ k. IsPrefix (published_below c limit) (published_below c k)) is (published_below-more c limit more)
 
--- a held front counts as many of each process as have a key of at most its place
+-- a held cut counts as many of each process as have a key of at most its place
 count_of-held : (b : BookTerms) (c : ClosingTerms) (view : List ℕ) (process : ℕ) → AreChained b c → length c.logs ≡ b.processes
-    → Contains (held_fronts c) view → process < b.processes → count_of process (published_below c (place view + 1)) ≡ get_or view process 0
+    → Contains (held_cuts c) view → process < b.processes → count_of process (published_below c (place view + 1)) ≡ get_or view process 0
 count_of-held b c view process chained sized held known =
     let m = get_or view process 0 in
     let log = log_published c process in
@@ -224,12 +204,12 @@ count_of-held b c view process chained sized held known =
     (λ i beyond within. omega (arith, publication_key-above b c view process i chained sized held known beyond within)))
     ∙ length-take-le m log (omega (arith, few, length-map (log_of c process) (published_by process)))
 
--- a held front is a front of the order
-pub IsFront-held : (b : BookTerms) (c : ClosingTerms) (view : List ℕ) → AreChained b c → length c.logs ≡ b.processes
-    → Contains (held_fronts c) view → IsFront b.processes view (journal_order c)
-IsFront-held b c view chained sized held =
+-- a held cut is a cut of the order
+pub IsCut-held : (b : BookTerms) (c : ClosingTerms) (view : List ℕ) → AreChained b c → length c.logs ≡ b.processes
+    → Contains (held_cuts c) view → IsCut b.processes view (journal_order c)
+IsCut-held b c view chained sized held =
     let first = published_below c (place view + 1) in
-    let long : length view ≡ b.processes = All-contains (λ u. length u ≡ b.processes) (held_fronts c) view chained.sized held in
+    let long : length view ≡ b.processes = All-contains (λ u. length u ≡ b.processes) (held_cuts c) view chained.sized held in
     let same : counts b.processes first ≡ view =
     ext_get_or 0 (counts b.processes first) view (length-counts b.processes first ∙ sym long)
     (λ p within.

@@ -1,35 +1,13 @@
 -- The journal's order has the laws that runs rest on: each of its prefixes is a run of the ledger.
 use Rattle.std.proofs.Common.{◌≡◌, ℕ, ◌<◌, ◌≤◌, ◌==◌, ◌&&◌, ◌↔◌, zero, suc, Bool, true, false, List, [], ◌∷◌, length, take, refl, sym, ap, subst, ◌∙◌, arith, inl, inr}
 use Rattle.std.specs.Prelude.{Option}
-use Rattle.std.proofs.lemmas.Bool.{cases_lt, ne_eqb}
-use Rattle.std.proofs.lemmas.List.{get_or_default}
-use Rattle.std.proofs.lemmas.List.Sums.{sum_by-cons}
-use Rattle.std.specs.List.{All, count_by}
-use Rattle.at_base.specs.declared.decision.Decision.{Decision}
-use Rattle.at_ledger.specs.Book.{BookTerms}
-use Rattle.at_ledger.specs.Call.{TargetPair, amount_of}
-use Rattle.at_history.proofs.Laws.HasRuns.{HasRuns}
-use Rattle.at_history.proofs.Laws.Rounds.{one_if}
-use Rattle.at_history.specs.Balances.{IsCovered}
-use Rattle.at_history.specs.BoardState.{decision_at, publication_at, request_at}
-use Rattle.at_history.specs.Entries.{is_own, names}
-use Rattle.at_history.specs.Fronts.{place, prefix_of}
-use Rattle.at_history.specs.Publications.{no_publication, publications_of}
-use Rattle.at_history.specs.Rounds.{firsts, owns_of, rounds}
-use Rattle.at_history.specs.Sound.{IsSoundEntry}
-use Rattle.at_history.specs.declared.publication.Entry.{Entry}
-use Rattle.at_history.specs.declared.publication.Entry.TheVariants.{Own, Round}
-use Rattle.at_history.specs.declared.publication.Publication.{Publication}
-use Rattle.at_history.specs.declared.request.Request.{Request}
+use Rattle.at_log.proofs.Prelude.{cases_lt, ne_eqb, get_or_default, sum_by-cons, All, count_by, Decision, BookTerms, TargetPair, amount_of, HasRuns, one_if, IsCovered, decision_at, publication_at, request_at, is_own, names, place, prefix_of, no_publication, publications_of, firsts, owns_of, rounds, IsSoundEntry, Entry, Own, Round, Publication, Request, ClosingTerms, log_published, Coherent, IsCoherentEntry, journal_order}
 use Rattle.at_log.proofs.Laws.OrderPremises.{HasRounds, HasRounds-Coherent, HasViews-Coherent}
 use Rattle.at_log.proofs.Laws.Order.{ArePublishedBy-journal_order, publications_of-journal_order}
 use Rattle.at_log.proofs.Laws.OrderRounds.{AreFirsts-journal_order, IsCoherentEntry-journal_order, IsFirst, IsFirst-journal_order, first_law, round_entry}
 use Rattle.at_log.proofs.Laws.OrderState.{IsInState, IsInState-first, count_by-decisions, count_by-requests, decision_in, decision_in-some, named_before, order_state, request_in, request_in-some}
 use Rattle.at_log.proofs.Laws.Picks.{count_by-filter_both, filter_map-from}
 use Rattle.at_log.proofs.Laws.Views.{HasView-journal_order}
-use Rattle.at_log.specs.ClosingTerms.{ClosingTerms, log_published}
-use Rattle.at_log.specs.Coherent.{Coherent, IsCoherentEntry}
-use Rattle.at_log.specs.JournalOrder.{journal_order}
 
 -- what the state says of a record of the order
 pub IsInState-record : (b : BookTerms) (c : ClosingTerms) (m a r : ℕ) (d : Decision) (targets : List TargetPair) → Coherent b c

@@ -1,21 +1,12 @@
 -- What the laws of the journal's order ask of a closing: less than that it is coherent, so that coherence can be proved by them.
 use Rattle.std.specs.Prelude.{◌≡◌, ℕ, ◌<◌, length, slice_index}
-use Rattle.at_ledger.specs.Book.{BookTerms}
-use Rattle.at_history.proofs.Laws.Rounds.{IsNextAtMost}
-use Rattle.at_history.specs.BoardState.{publication_at}
-use Rattle.at_history.specs.Fronts.{prefix_of}
-use Rattle.at_history.specs.declared.publication.Entry.{Entry}
-use Rattle.at_history.specs.declared.publication.Entry.TheVariants.{Own, Round}
-use Rattle.at_history.specs.declared.publication.Publication.{Publication}
+use Rattle.at_log.proofs.Prelude.{BookTerms, IsNextAtMost, publication_at, prefix_of, Entry, Own, Round, Publication, ClosingTerms, log_of, log_published, AreChained, Coherent, IsCoherentEntry, journal_order}
 use Rattle.std.proofs.Common.{List, arith}
-use Rattle.at_log.specs.ClosingTerms.{ClosingTerms, log_of, log_published}
-use Rattle.at_log.specs.Coherent.{AreChained, Coherent, IsCoherentEntry}
-use Rattle.at_log.specs.JournalOrder.{journal_order}
 
--- the held fronts are a chain, and each record's view has its own number
+-- the held cuts are a chain, and each record's view has its own number
 pub record HasViews (b : BookTerms) (c : ClosingTerms) : Type 0 where
   pub logs : length c.logs ≡ b.processes
-  pub fronts : AreChained b c
+  pub cuts : AreChained b c
   pub views : (p i : ℕ) → i < length (log_of c p) → slice_index (publication_at (log_published c p) i).view p ≡ i
 
 -- and each record of a round is of at most the next round after its view
@@ -25,7 +16,7 @@ pub record HasRounds (b : BookTerms) (c : ClosingTerms) : Type 0 where
       IsNextAtMost (prefix_of x.view (journal_order c)) x.entry
 
 pub HasViews-Coherent : (b : BookTerms) (c : ClosingTerms) → Coherent b c → HasViews b c
-HasViews-Coherent b c coherent = record { logs = coherent.logs; fronts = coherent.fronts; views = coherent.views }
+HasViews-Coherent b c coherent = record { logs = coherent.logs; cuts = coherent.cuts; views = coherent.views }
 
 next_entry : (b : BookTerms) (c : ClosingTerms) (p : ℕ) (prefix : List Publication) (e : Entry) → IsCoherentEntry b c p prefix e → IsNextAtMost prefix e
 next_entry b c p prefix (Own from targets) law = tt

@@ -1,28 +1,10 @@
 -- The rounds of the journal's order: each record is of a round that is at most the next, and says what its round decided.
 use Rattle.std.proofs.Common.{◌≡◌, ℕ, ◌+◌, ◌<◌, ◌≤◌, zero, suc, List, [], length, take, sym, ap, subst, ◌∙◌, arith}
-use Rattle.std.proofs.lemmas.List.{get_or_default, length-take-le, take_all}
-use Rattle.std.specs.List.{count_by}
-use Rattle.at_base.specs.declared.decision.Decision.{Decision}
-use Rattle.at_ledger.specs.Book.{BookTerms}
-use Rattle.at_ledger.specs.Call.{TargetPair}
-use Rattle.at_history.proofs.Laws.Fronts.{place-IsFront-le}
-use Rattle.at_history.proofs.Laws.Prefixes.{ArePublishedBy-take, take-publication_at}
-use Rattle.at_history.proofs.Laws.Rounds.{IsInitial, IsInitial-nil, IsInitial-push, IsNextAtMost, firsts-nil, rounds-take_mono}
-use Rattle.at_history.specs.BoardState.{publication_at}
-use Rattle.at_history.specs.Entries.{is_round_on}
-use Rattle.at_history.specs.Fronts.{place, prefix_of}
-use Rattle.at_history.specs.Publications.{ArePublishedBy, count_of, no_publication}
-use Rattle.at_history.specs.Rounds.{firsts, rounds}
-use Rattle.at_history.specs.declared.publication.Entry.{Entry}
-use Rattle.at_history.specs.declared.publication.Entry.TheVariants.{Own, Round}
-use Rattle.at_history.specs.declared.publication.Publication.{Publication}
+use Rattle.at_log.proofs.Prelude.{get_or_default, length-take-le, take_all, count_by, Decision, BookTerms, TargetPair, place-IsCut-le, ArePublishedBy-take, take-publication_at, IsInitial, IsInitial-nil, IsInitial-push, IsNextAtMost, firsts-nil, rounds-take_mono, publication_at, is_round_on, place, prefix_of, ArePublishedBy, count_of, no_publication, firsts, rounds, Entry, Own, Round, Publication, ClosingTerms, Coherent, IsAgreed, IsCoherentEntry, journal_order}
 use Rattle.at_log.proofs.Laws.OrderPremises.{HasRounds, HasRounds-Coherent, HasViews}
 use Rattle.at_log.proofs.Laws.FirstRecords.{AreFirsts, AreFirsts-nil, AreFirsts-push, is_round-true}
 use Rattle.at_log.proofs.Laws.Order.{ArePublishedBy-journal_order}
 use Rattle.at_log.proofs.Laws.Views.{HasView-journal_order, count_of-journal_order, publication-journal_order}
-use Rattle.at_log.specs.ClosingTerms.{ClosingTerms}
-use Rattle.at_log.specs.Coherent.{Coherent, IsAgreed, IsCoherentEntry}
-use Rattle.at_log.specs.JournalOrder.{journal_order}
 
 -- what a closing says of the entry at a position of its order
 pub IsCoherentEntry-journal_order : (b : BookTerms) (c : ClosingTerms) (m : ℕ) → Coherent b c → m < length (journal_order c)
@@ -43,7 +25,7 @@ place-view-journal_order b c m has within =
     let ours = subst (λ n. ArePublishedBy n order) has.logs (ArePublishedBy-journal_order c) in
     omega (
       arith,
-      place-IsFront-le b.processes (publication_at order m).view (take m order) view.front (ArePublishedBy-take b.processes m order ours),
+      place-IsCut-le b.processes (publication_at order m).view (take m order) view.cut (ArePublishedBy-take b.processes m order ours),
       length-take-le m order (omega (arith, within)),
     )
 

@@ -1,29 +1,10 @@
 -- The journal's order as the state of a board: what it says of each round, and in which order a slot's requests were decided.
 use Rattle.std.proofs.Common.{◌≡◌, ℕ, ◌+◌, ◌<◌, ◌≤◌, ◌==◌, ◌&&◌, Bool, true, false, cond, List, [], length, get_or, take, refl, sym, ap, ◌∙◌, arith, inl, inr}
 use Rattle.std.specs.Prelude.{Option, Some, None, nat_lt}
-use Rattle.std.proofs.lemmas.Bool.{cases_Bool, cases_eq, eq-eqb, eqb-true, le-ltb, lt-ltb, ne_eqb}
-use Rattle.std.proofs.lemmas.List.{get_or_default, take-take}
-use Rattle.std.proofs.lemmas.List.Sums.{count_by_more_yes, sum_by-take-le}
-use Rattle.std.specs.List.{count_by, filter_map}
-use Rattle.std.specs.Option.{is_some}
-use Rattle.at_base.specs.declared.decision.Decision.{Decision}
-use Rattle.at_ledger.specs.Book.{BookTerms}
-use Rattle.at_ledger.specs.Call.{TargetPair}
-use Rattle.at_history.proofs.Laws.Rounds.{one_if}
-use Rattle.at_history.specs.BoardState.{BoardState, decision_at, publication_at, request_at}
-use Rattle.at_history.specs.Entries.{is_round_on, names}
-use Rattle.at_history.specs.Publications.{no_publication}
-use Rattle.at_history.specs.Rounds.{firsts}
-use Rattle.at_history.specs.declared.publication.Entry.{Entry}
-use Rattle.at_history.specs.declared.publication.Entry.TheVariants.{Own, Round}
-use Rattle.at_history.specs.declared.publication.Publication.{Publication}
-use Rattle.at_history.specs.declared.request.Request.{Request}
+use Rattle.at_log.proofs.Prelude.{cases_Bool, cases_eq, eq-eqb, eqb-true, le-ltb, lt-ltb, ne_eqb, get_or_default, take-take, count_by_more_yes, sum_by-take-le, count_by, filter_map, is_some, Decision, BookTerms, TargetPair, one_if, BoardState, decision_at, publication_at, request_at, is_round_on, names, no_publication, firsts, Entry, Own, Round, Publication, Request, ClosingTerms, IsNumbered, is_earlier_for, journal_order}
 use Rattle.at_log.proofs.Laws.OrderPremises.{HasRounds}
 use Rattle.at_log.proofs.Laws.OrderRounds.{AreFirsts-journal_order, IsFirst}
 use Rattle.at_log.proofs.Laws.Picks.{count_by-before, count_by-filter_map, filter_map-at, picks, take-filter_map}
-use Rattle.at_log.specs.ClosingTerms.{ClosingTerms}
-use Rattle.at_log.specs.Coherent.{IsNumbered, is_earlier_for}
-use Rattle.at_log.specs.JournalOrder.{journal_order}
 
 -- the decision of a round of an account
 abbrev pub decision_in : ℕ → Entry → Option Decision

@@ -1,11 +1,7 @@
 -- Elements that a list picks from another: where each of them stands in both.
 use Rattle.std.proofs.Common.{◌≡◌, ℕ, ◌+◌, ◌<◌, ◌≤◌, ◌⊎◌, zero, suc, Bool, true, false, cond, List, [], ◌∷◌, length, filter, get_or, take, refl, sym, ap, subst, ◌∙◌, arith, inl, inr}
 use Rattle.std.specs.Prelude.{Option, Some, None}
-use Rattle.std.proofs.lemmas.Bool.{cases_Bool}
-use Rattle.std.proofs.lemmas.List.Sums.{sum_by-cons}
-use Rattle.std.specs.List.{cons_option, count_by, filter_map}
-use Rattle.std.specs.Option.{is_some}
-use Rattle.at_history.proofs.Laws.Rounds.{one_if}
+use Rattle.at_log.proofs.Prelude.{cases_Bool, sum_by-cons, cons_option, count_by, filter_map, is_some, one_if}
 
 cases_Option : {Y : Type 0} (o : Option Y) → (o ≡ None) ⊎ ((y : Y) × (o ≡ Some y))
 cases_Option None = inl refl

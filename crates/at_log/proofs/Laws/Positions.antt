@@ -1,12 +1,6 @@
 -- Where the records that receipts name stand in a list.
 use Rattle.std.proofs.Common.{◌≡◌, ℕ, ◌+◌, ◌-◌, ◌<◌, ◌==◌, zero, suc, true, false, cond, List, [], ◌∷◌, length, take, sym, ap, subst, ◌∙◌, arith, inl, inr}
-use Rattle.std.proofs.lemmas.Bool.{cases_Bool, cases_eq, eq-eqb, ne_eqb}
-use Rattle.at_history.proofs.Laws.Counts.{publications_of-nil, publications_of-other, publications_of-own}
-use Rattle.at_history.specs.BoardState.{publication_at}
-use Rattle.at_history.specs.Entries.{is_round}
-use Rattle.at_history.specs.Publications.{count_of}
-use Rattle.at_history.specs.declared.publication.Publication.{Publication}
-use Rattle.at_log.specs.Told.{own_position, round_position}
+use Rattle.at_log.proofs.Prelude.{cases_Bool, cases_eq, eq-eqb, ne_eqb, publications_of-nil, publications_of-other, publications_of-own, publication_at, is_round, count_of, Publication, own_position, round_position}
 
 -- the publication of a number of a process stands there, and so many of the process before it
 pub record IsOwnAt (process number : ℕ) (list : List Publication) (m : ℕ) : Type 0 where

@@ -1,18 +1,6 @@
--- The keys of a closing's publications: a held front counts those whose keys are at most its place.
+-- The keys of a closing's publications: a held cut counts those whose keys are at most its place.
 use Rattle.std.proofs.Common.{◌≡◌, ℕ, ◌<◌, ◌≤◌, zero, suc, Bool, true, false, List, [], ◌∷◌, length, get_or, sum, map, filter, min, nat_lt, cond, sym, ap, subst, ◌∙◌, arith, inl, inr}
-use Rattle.std.proofs.lemmas.Bool.{cases_Bool, lt-ltb, ltb-true}
-use Rattle.std.proofs.lemmas.List.{get_or-map, get_or_default, length-map}
-use Rattle.std.proofs.lemmas.List.Elements.{All-contains, Contains-get_or}
-use Rattle.std.proofs.lemmas.List.Sums.{sum_by-cons}
-use Rattle.std.specs.List.{Contains, fold}
-use Rattle.at_base.specs.Counts.{Covers}
-use Rattle.at_ledger.specs.Book.{BookTerms}
-use Rattle.at_history.proofs.Laws.Fronts.{sum-Covers-le}
-use Rattle.at_history.specs.Fronts.{place}
-use Rattle.at_log.specs.ClosingTerms.{ClosingTerms, log_lengths, log_of}
-use Rattle.at_log.specs.Coherent.{AreChained}
-use Rattle.at_log.specs.HeldFronts.{held_fronts}
-use Rattle.at_log.specs.JournalOrder.{publication_key}
+use Rattle.at_log.proofs.Prelude.{cases_Bool, lt-ltb, ltb-true, get_or-map, get_or_default, length-map, All-contains, Contains-get_or, sum_by-cons, Contains, fold, Covers, BookTerms, sum-Covers-le, place, ClosingTerms, log_lengths, log_of, AreChained, held_cuts, publication_key}
 
 -- the least of a bound and some numbers is at most the bound
 fold-min-le : (bound : ℕ) (xs : List ℕ) → fold min bound xs ≤ bound
@@ -90,14 +78,14 @@ sum-Covers-lt (a ∷ view) (b ∷ other) (suc p) same covers within more =
     let rest = sum-Covers-lt view other p (omega arith) (λ q inside. covers (suc q) (omega arith)) (omega arith) more in
     omega (arith, rest, covers 0 (omega arith), sum_by-cons (λ n. n) a view, sum_by-cons (λ n. n) b other)
 
--- a held front counts what has a key of at most its place
-pub publication_key-le : (c : ClosingTerms) (view : List ℕ) (process number : ℕ) → Contains (held_fronts c) view
+-- a held cut counts what has a key of at most its place
+pub publication_key-le : (c : ClosingTerms) (view : List ℕ) (process number : ℕ) → Contains (held_cuts c) view
     → number < get_or view process 0 → publication_key c process number ≤ place view
 publication_key-le c view process number held counted =
     let k = held.0 in
-    let is : get_or (held_fronts c) k [] ≡ view = get_or_default (held_fronts c) k [] view held.1 ∙ held.2 in
+    let is : get_or (held_cuts c) k [] ≡ view = get_or_default (held_cuts c) k [] view held.1 ∙ held.2 in
     subst (λ v. publication_key c process number ≤ place v) is
-    (least_place-le process number (sum (log_lengths c)) (held_fronts c) k held.1
+    (least_place-le process number (sum (log_lengths c)) (held_cuts c) k held.1
     (ap (λ v. counts_it process number v) is ∙ lt-ltb number (get_or view process 0) counted))
 
 -- the length of a process's log
@@ -106,18 +94,18 @@ get_or-log_lengths c process within = get_or-map length c.logs process [] 0 with
 
 -- and what it doesn't count has a larger one
 pub publication_key-above : (b : BookTerms) (c : ClosingTerms) (view : List ℕ) (process number : ℕ) → AreChained b c
-    → length c.logs ≡ b.processes → Contains (held_fronts c) view → process < b.processes → get_or view process 0 ≤ number
+    → length c.logs ≡ b.processes → Contains (held_cuts c) view → process < b.processes → get_or view process 0 ≤ number
     → number < length (log_of c process) → place view < publication_key c process number
 publication_key-above b c view process number chained sized held known uncounted within =
-    let length_of : (v : List ℕ) → Contains (held_fronts c) v → length v ≡ b.processes =
-    λ v there. All-contains (λ u. length u ≡ b.processes) (held_fronts c) v chained.sized there in
+    let length_of : (v : List ℕ) → Contains (held_cuts c) v → length v ≡ b.processes =
+    λ v there. All-contains (λ u. length u ≡ b.processes) (held_cuts c) v chained.sized there in
     let logs : length (log_lengths c) ≡ b.processes = length-map c.logs length ∙ sized in
-    least_place-above process number (sum (log_lengths c)) (held_fronts c) (place view)
+    least_place-above process number (sum (log_lengths c)) (held_cuts c) (place view)
     (sum-Covers-lt (log_lengths c) view process (logs ∙ sym (length_of view held)) (chained.ends view held) (omega (arith, logs))
     (omega (arith, get_or-log_lengths c process (omega arith))))
     (λ i inside counted.
-    let w = get_or (held_fronts c) i [] in
-    let here : Contains (held_fronts c) w = (i, inside, get_or_default (held_fronts c) i w [] inside) in
+    let w = get_or (held_cuts c) i [] in
+    let here : Contains (held_cuts c) w = (i, inside, get_or_default (held_cuts c) i w [] inside) in
     elim (chained.chain view w held here) as (λ _. place view < place w) [
       | inl below ↦ absurd (omega (arith, below process (omega (arith, length_of view held)), ltb-true number (get_or w process 0) counted))
       | inr above ↦ sum-Covers-lt w view process (length_of w here ∙ sym (length_of view held)) above (omega (arith, length_of w here))
@@ -158,21 +146,21 @@ least_place-mono process number later bound limit (view ∷ views) before below 
 pub publication_key-mono : (c : ClosingTerms) (process number later : ℕ) → number ≤ later
     → publication_key c process number ≤ publication_key c process later
 publication_key-mono c process number later before =
-    least_place-mono process number later (sum (log_lengths c)) (sum (log_lengths c)) (held_fronts c) before (omega arith)
+    least_place-mono process number later (sum (log_lengths c)) (sum (log_lengths c)) (held_cuts c) before (omega arith)
 
 -- no key is above the length of all logs
 pub publication_key-le_all : (c : ClosingTerms) (process number : ℕ) → publication_key c process number ≤ sum (log_lengths c)
-publication_key-le_all c process number = least_place-le_bound process number (sum (log_lengths c)) (held_fronts c)
+publication_key-le_all c process number = least_place-le_bound process number (sum (log_lengths c)) (held_cuts c)
 
--- a key is at least what the bound and the place of each held front that counts the publication are at least
+-- a key is at least what the bound and the place of each held cut that counts the publication are at least
 pub publication_key-at_least : (c : ClosingTerms) (process number k : ℕ) → k ≤ sum (log_lengths c)
-    → ((view : List ℕ) → Contains (held_fronts c) view → number < get_or view process 0 → k ≤ place view) → k ≤ publication_key c process number
+    → ((view : List ℕ) → Contains (held_cuts c) view → number < get_or view process 0 → k ≤ place view) → k ≤ publication_key c process number
 publication_key-at_least c process number zero below each = omega arith
 publication_key-at_least c process number (suc k) below each =
     omega (
       arith,
-      least_place-above process number (sum (log_lengths c)) (held_fronts c) k (omega (arith, below))
+      least_place-above process number (sum (log_lengths c)) (held_cuts c) k (omega (arith, below))
           (λ i within counted.
-          let view = get_or (held_fronts c) i [] in
-          omega (arith, each view (Contains-get_or (held_fronts c) i [] within) (ltb-true number (get_or view process 0) counted))),
+          let view = get_or (held_cuts c) i [] in
+          omega (arith, each view (Contains-get_or (held_cuts c) i [] within) (ltb-true number (get_or view process 0) counted))),
     )

@@ -1,15 +1,7 @@
 -- What the ledger answers to a pay-out, by the case that applies.
 use Rattle.std.proofs.Common.{◌≡◌, ℕ, ◌<◌, ◌==◌, not, ltb, true, false, cond, List, [], ◌∷◌, ap, ◌∙◌}
 use Rattle.std.specs.Prelude.{Some}
-use Rattle.std.proofs.lemmas.Bool.{lt-ltb}
-use Rattle.at_ledger.specs.Account.{is_shared}
-use Rattle.at_ledger.specs.Book.{account_of, is_owner}
-use Rattle.at_ledger.specs.Call.{TargetPair, amount_of, first_account, payout_of}
-use Rattle.at_ledger.specs.State.{LedgerState, Step, after_done, after_short, balance_of, is_full, pay, step, with_asked}
-use Rattle.at_ledger.specs.declared.call.Call.{Call}
-use Rattle.at_ledger.specs.declared.call.Call.TheVariants.{Transfer, Read, Pay}
-use Rattle.at_ledger.specs.declared.call.Reply.TheVariants.{Done, Full, NotOwner, Short}
-use Rattle.at_log.specs.Receipts.{is_payout_from}
+use Rattle.at_log.proofs.Prelude.{lt-ltb, is_shared, account_of, is_owner, TargetPair, amount_of, first_account, payout_of, LedgerState, Step, after_done, after_short, balance_of, is_full, pay, step, with_asked, Call, Transfer, Read, Pay, Done, Full, NotOwner, Short, is_payout_from}
 
 -- a pay-out has one source and one list of targets
 pub same_payout : (x y : ℕ × List TargetPair) → Some x ≡ Some y → x ≡ y

@@ -1,22 +1,6 @@
 -- What the words of a record that a seat has seen tell of it.
 use Rattle.std.proofs.Common.{◌≡◌, ℕ, ◌+◌, ◌-◌, ◌^◌, ◌<◌, ◌≤◌, List, length, get_or, set, take, refl, sym, ap, subst, ◌∙◌, arith, below_more}
-use Rattle.std.proofs.lemmas.Grind.{same_number_lists}
-use Rattle.std.proofs.lemmas.List.{get_or-append_right, get_or-set_other, get_or-set_same}
-use Rattle.at_ledger.specs.Book.{BookTerms, IsBegun}
-use Rattle.at_history.proofs.Laws.Counts.{count_of-take-le, get_or-publications_of, position_of}
-use Rattle.at_history.proofs.Laws.Fronts.{get_or-IsFront, length-IsFront}
-use Rattle.at_history.proofs.Laws.Rooms.{log_room_of-le}
-use Rattle.at_history.specs.BoardState.{publication_at}
-use Rattle.at_history.specs.Fronts.{place}
-use Rattle.at_history.specs.Histories.{IsHistory}
-use Rattle.at_history.specs.Publications.{count_of, no_publication, publications_of}
-use Rattle.at_history.specs.Sound.{HasView}
-use Rattle.at_history.specs.declared.publication.Publication.{Publication}
-use Rattle.at_board.specs.Knowledge.Records.{IsRecordWord, SeesRecord}
-use Rattle.at_board.specs.Words.Packed.{entry_words, record_words}
-use Rattle.at_board.specs.declared.knowledge.Knowledge.{Knowledge}
-use Rattle.at_board.specs.declared.words.TheConstants.{RECORD_WORDS}
-use Rattle.at_log.specs.Loading.{IsViewOf}
+use Rattle.at_log.proofs.Prelude.{same_number_lists, get_or-append_right, get_or-set_other, get_or-set_same, BookTerms, IsBegun, count_of-take-le, get_or-publications_of, position_of, get_or-IsCut, length-IsCut, log_room_of-le, publication_at, place, IsHistory, count_of, no_publication, publications_of, HasView, Publication, IsRecordWord, SeesRecord, entry_words, record_words, Knowledge, RECORD_WORDS, IsViewOf}
 
 -- the view of a record of a history
 pub record IsShownRecord (b : BookTerms) (x : Publication) : Type 0 where
@@ -29,10 +13,10 @@ IsShownRecord-at b list m begun history within =
     let x : Publication = publication_at list m in
     let view : HasView b (take m list) x = history.views m within in
     record {
-      sized = length-IsFront b.processes x.view (take m list) view.front;
+      sized = length-IsCut b.processes x.view (take m list) view.cut;
       small = λ q known. omega (
         arith,
-        get_or-IsFront b.processes x.view (take m list) q view.front known,
+        get_or-IsCut b.processes x.view (take m list) q view.cut known,
         count_of-take-le q (place x.view) (take m list),
         count_of-take-le q m list,
         history.room q known,

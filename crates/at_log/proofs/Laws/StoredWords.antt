@@ -1,21 +1,6 @@
 -- The words of a record that are stored one after another, and its publication.
 use Rattle.std.proofs.Common.{◌≡◌, ℕ, ◌+◌, ◌<◌, List, [], ◌∷◌, length, get_or, set, refl, sym, ap, subst, ◌∙◌, arith, below_more}
-use Rattle.std.proofs.lemmas.Grind.{same_number_lists}
-use Rattle.std.proofs.lemmas.List.{get_or-set_other, get_or-set_same, length-set}
-use Rattle.at_ledger.specs.Book.{BookTerms, log_room_of}
-use Rattle.at_history.proofs.Laws.Fronts.{length-IsFront}
-use Rattle.at_history.specs.declared.publication.Publication.{Publication}
-use Rattle.at_board.specs.Knowledge.Parts.{no_part, with_part, own_part}
-use Rattle.at_board.specs.Knowledge.Seats.{IsSeat}
-use Rattle.at_board.specs.Steps.Publish.{FitsNext, MayPublish, Publishes, with_record}
-use Rattle.at_board.specs.Steps.StoreRecordWord.{MayStoreWord, StoresWord, with_word}
-use Rattle.at_board.specs.Words.Addresses.{record_width}
-use Rattle.at_board.specs.Words.Packed.{IsForm, record_words}
-use Rattle.at_board.specs.declared.knowledge.Knowledge.{Knowledge}
-use Rattle.at_board.specs.declared.knowledge.Part.{Part}
-use Rattle.at_log.specs.Appending.{IsStoring, MayAppend, with_stored}
-use Rattle.at_log.specs.ClosingTerms.{published_by}
-use Rattle.at_log.specs.declared.record.Record.{Record}
+use Rattle.at_log.proofs.Prelude.{same_number_lists, get_or-set_other, get_or-set_same, length-set, BookTerms, log_room_of, length-IsCut, Publication, no_part, with_part, own_part, IsSeat, FitsNext, MayPublish, Publishes, with_record, MayStoreWord, StoresWord, with_word, record_width, IsForm, record_words, Knowledge, Part, IsStoring, MayAppend, with_stored, published_by, Record}
 
 set_first-again : {X : Type 0} (xs : List X) (x y : X) → set (set xs 0 x) 0 y ≡ set xs 0 y
 set_first-again [] x y = refl
@@ -59,7 +44,7 @@ MayStoreWord-IsStoring b v u words j k some room storing inside =
     })
 
 length-record_words : (b : BookTerms) (v : Knowledge) (x : Record) → MayAppend b v x → length (record_words (published_by v.first x)) ≡ record_width b
-length-record_words b v x may = omega (arith, length-IsFront b.processes x.view v.seen may.view.front)
+length-record_words b v x may = omega (arith, length-IsCut b.processes x.view v.seen may.view.cut)
 
 -- all words are stored
 pub MayPublish-IsStoring : (b : BookTerms) (v u : Knowledge) (x : Record) (j : ℕ) → v.book ≡ b → (process published : ℕ) → IsSeat v process published → MayAppend b v x

@@ -1,8 +1,6 @@
 -- How many steps a snapshot can have.
 use Rattle.std.proofs.Common.{◌≤◌, arith}
-use Rattle.std.proofs.lemmas.Nat.{mul-le}
-use Rattle.at_ledger.specs.Book.{BookTerms, IsBegun}
-use Rattle.at_snapshot.specs.Snapshots.{snapshot_steps}
+use Rattle.at_machines.proofs.Prelude.{mul-le, BookTerms, IsBegun, snapshot_steps}
 
 -- the most that any book allows
 pub snapshot_steps-le : (b : BookTerms) → IsBegun b → snapshot_steps b.processes ≤ 288

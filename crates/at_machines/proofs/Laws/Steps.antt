@@ -1,29 +1,6 @@
 -- Which step the turns of the machines make: just the one that each names.
 use Rattle.std.proofs.Common.{◌≡◌, ℕ, ◌+◌, ◌<◌, ◌≤◌, List, Option, None, Some, if◌then◌else◌, refl, sym, ap, subst, arith, inl, inr}
-use Rattle.std.proofs.lemmas.Bool.{cases_lt, eq-eqb, ne_eqb}
-use Rattle.at_base.specs.Decision.{word_of}
-use Rattle.at_ledger.specs.Book.{BookTerms, HasSlot}
-use Rattle.at_history.specs.declared.publication.Publication.{Publication}
-use Rattle.at_board.specs.Knowledge.Parts.{loads_of, own_part}
-use Rattle.at_board.specs.Knowledge.Seats.{SeatTerms}
-use Rattle.at_board.specs.Steps.Made.{IsStep, MakesOnly}
-use Rattle.at_board.specs.Steps.Publish.{Publishes}
-use Rattle.at_board.specs.Steps.StoreRecordWord.{StoresWord}
-use Rattle.at_board.specs.Words.Addresses.{record_width}
-use Rattle.at_board.specs.declared.knowledge.Knowledge.{Knowledge}
-use Rattle.at_board.specs.declared.step.BoardStep.{BoardStep}
-use Rattle.at_board.specs.declared.step.BoardWord.{BoardWord}
-use Rattle.at_board.specs.declared.words.TheConstants.{REQUEST_WORDS}
-use Rattle.at_fold.specs.Sums.{TotalSums}
-use Rattle.at_machines.specs.Appending.{AppendingTerms, StoresNextWord, append_step, publication_of, store_step}
-use Rattle.at_machines.specs.Asking.{AnnouncesAsked, AskingTerms, StoresNextRequestWord, ask_step, ask_step_in, ask_step_of, request_asked}
-use Rattle.at_machines.specs.CatchingUp.{loads_left, number_left}
-use Rattle.at_machines.specs.CollectingRows.{CollectingRowsTerms, MakesNextLoad}
-use Rattle.at_machines.specs.Deciding.{DecidingTerms, MakesStep, NextOfRound, step_in_round}
-use Rattle.at_machines.specs.LoadingRow.{MakesLoadOf, NextRowLoad, row_step}
-use Rattle.at_machines.specs.Looking.{MakesLookLoad, step_at}
-use Rattle.at_machines.specs.Snapping.{MakesLoad, NextLoad, step_in}
-use Rattle.at_machines.specs.declared.look_stage.LookStage.{LookStage}
+use Rattle.at_machines.proofs.Prelude.{cases_lt, eq-eqb, ne_eqb, word_of, BookTerms, HasSlot, Publication, loads_of, own_part, SeatTerms, IsStep, MakesOnly, Publishes, StoresWord, record_width, Knowledge, BoardStep, BoardWord, REQUEST_WORDS, TotalSums, AppendingTerms, StoresNextWord, append_step, publication_of, store_step, AnnouncesAsked, AskingTerms, StoresNextRequestWord, ask_step, ask_step_in, ask_step_of, request_asked, loads_left, number_left, CollectingRowsTerms, MakesNextLoad, DecidingTerms, MakesStep, NextOfRound, step_in_round, MakesLoadOf, NextRowLoad, row_step, MakesLookLoad, step_at, MakesLoad, NextLoad, step_in, LookStage}
 
 -- of a snapshot
 MakesOnly-MakesLoad : (b : BookTerms) (seen : List Publication) (next : NextLoad) (before after : SeatTerms) → MakesLoad b seen next before after

@@ -1,45 +1,9 @@
 -- What a payment from a single account leaves of its pass.
 use Rattle.std.proofs.Common.{◌≡◌, ◌⊎◌, ℕ, ◌+◌, ◌*◌, ◌<◌, ◌≤◌, List, ◌∷◌, [], ◌++◌, length, take, refl, sym, ap, subst, ◌∙◌, arith, inl, inr}
-use Rattle.std.proofs.lemmas.Bool.{cases_lt}
-use Rattle.std.proofs.lemmas.List.{get_or-set_same, length-set}
+use Rattle.at_object.proofs.Prelude.{cases_lt, get_or-set_same, length-set, BookTerms, HasSlot, TargetPair, amount_of, Call, Reply, Done, Short, IsPrefix-append, IsPrefix-trans, balance_after, publication_at, place, prefix_of, held_after, AreRuns, IsPrefix, publications_of, owns_of, Publication, asking_on, no_part, own_part, IsKept, with_record, Knowledge, Part, StandsBehind, StandsBehind-cut, AsksNothing, HasMoved, IsBetweenCalls-own, IsBetweenCalls-still, PublishesOwn, Told-call_own, Told-call_still, owns_of-own, owns_of-still, IsBetweenCalls, HasCounted, TotalSums, IsLast-Publishes, IsLast, IsPlaced, is_at_own, is_at_round, is_success, Told, key_of, own_position, Receipt, PaysAlone, IsPass, IsDecidedByBalance, place_at, sent_after, payment_reply-done, payment_reply-short, StandsAtCut, StandsAtOwn, cut_behind, own_record, payment_reply}
 use Rattle.std.specs.Prelude.{slice_index}
-use Rattle.at_ledger.specs.Book.{BookTerms, HasSlot}
-use Rattle.at_ledger.specs.Call.{TargetPair, amount_of}
-use Rattle.at_ledger.specs.declared.call.Call.{Call}
-use Rattle.at_ledger.specs.declared.call.Reply.{Reply}
-use Rattle.at_ledger.specs.declared.call.Reply.TheVariants.{Done, Short}
-use Rattle.at_history.proofs.Laws.Prefixes.{IsPrefix-append, IsPrefix-trans}
-use Rattle.at_history.specs.Balances.{balance_after}
-use Rattle.at_history.specs.BoardState.{publication_at}
-use Rattle.at_history.specs.Fronts.{place, prefix_of}
-use Rattle.at_history.specs.HeldCells.{held_after}
-use Rattle.at_history.specs.Moves.{AreRuns}
-use Rattle.at_history.specs.Publications.{IsPrefix, publications_of}
-use Rattle.at_history.specs.Rounds.{owns_of}
-use Rattle.at_history.specs.declared.publication.Publication.{Publication}
-use Rattle.at_board.specs.Knowledge.Parts.{asking_on, no_part, own_part}
-use Rattle.at_board.specs.Knowledge.Seats.{IsKept}
-use Rattle.at_board.specs.Steps.Publish.{with_record}
-use Rattle.at_board.specs.declared.knowledge.Knowledge.{Knowledge}
-use Rattle.at_board.specs.declared.knowledge.Part.{Part}
-use Rattle.at_closing.proofs.Laws.Calls.{StandsBehind, StandsBehind-front}
-use Rattle.at_closing.proofs.Laws.Stands.{AsksNothing, HasMoved, IsBetweenCalls-own, IsBetweenCalls-still, PublishesOwn, Told-call_own, Told-call_still, owns_of-own, owns_of-still}
-use Rattle.at_closing.specs.BetweenCalls.{IsBetweenCalls}
-use Rattle.at_fold.specs.HasCounted.{HasCounted}
-use Rattle.at_fold.specs.Sums.{TotalSums}
-use Rattle.at_log.proofs.Laws.LastRecord.{IsLast-Publishes}
-use Rattle.at_log.specs.LastRecord.{IsLast}
-use Rattle.at_log.specs.Placed.{IsPlaced}
-use Rattle.at_log.specs.Receipts.{is_at_own, is_at_round, is_success}
-use Rattle.at_log.specs.Told.{Told, key_of, own_position}
-use Rattle.at_log.specs.declared.receipt.Receipt.{Receipt}
 use Rattle.at_object.proofs.Laws.Covered.{covered-own}
 use Rattle.at_object.proofs.Laws.Looked.{asking-HasLoaded, AsksNothing-HasLoaded, between-IsPass, own_part-HasLoaded, published-HasLoaded}
-use Rattle.at_object.specs.Paid.{PaysAlone}
-use Rattle.at_object.specs.Passes.{IsPass}
-use Rattle.at_object.specs.Payments.{IsDecidedByBalance, place_at, sent_after}
-use Rattle.at_single.proofs.Laws.Placed.{payment_reply-done, payment_reply-short}
-use Rattle.at_single.specs.Standing.{StandsAtFront, StandsAtOwn, front_behind, own_record, payment_reply}
 
 -- a payment is short or done
 pub short_or_done : (b : BookTerms) (prefix : List Publication) (source : ℕ) (targets : List TargetPair) (reply : Reply)
@@ -72,13 +36,13 @@ module _ (b : BookTerms) (v w : Knowledge) (kept : IsKept v) (keeps : IsKept w) 
   part : 0 < length v.parts
   part = omega (arith, kept.one_part)
 
-  abbrev front : List ℕ
-  front = front_behind w r.at
+  abbrev cut : List ℕ
+  cut = cut_behind w r.at
 
   behind-from : w.first ≡ v.first → StandsBehind v.first v.seen w.seen r
   behind-from first =
-      StandsBehind-front v.first v.seen w.seen r front paid.snapshot.begins
-      (λ previous. subst (λ p. 2 * place front ≤ key_of p w.seen previous r) first (paid.after_front previous))
+      StandsBehind-cut v.first v.seen w.seen r cut paid.snapshot.begins
+      (λ previous. subst (λ p. 2 * place cut ≤ key_of p w.seen previous r) first (paid.after_cut previous))
 
   -- where it had no slot it has asked for nothing still
   unasked-alone : AsksNothing v w → (a : ℕ) → ((slot : ℕ) → HasSlot b v.first a slot → ⊥) → (asking_on (own_part w) a).announced ≡ []
@@ -87,14 +51,14 @@ module _ (b : BookTerms) (v w : Knowledge) (kept : IsKept v) (keeps : IsKept w) 
 
   -- a short payment has only looked
   module _ (short : r.reply ≡ Short) where
-    abbrev at_front : StandsAtFront b v w r.at
-    at_front = paid.short short
+    abbrev at_cut : StandsAtCut b v w r.at
+    at_cut = paid.short short
 
     pub nothing-short : AsksNothing v w
-    nothing-short = AsksNothing-HasLoaded b v w kept keeps book same_book at_front.loads
+    nothing-short = AsksNothing-HasLoaded b v w kept keeps book same_book at_cut.loads
 
     pub published-short : (own_part w).published ≡ (own_part v).published
-    published-short = published-HasLoaded b v w kept keeps book same_book at_front.loads
+    published-short = published-HasLoaded b v w kept keeps book same_book at_cut.loads
 
     pub moved-short : HasMoved b v w
     moved-short = record {
@@ -102,9 +66,9 @@ module _ (b : BookTerms) (v w : Knowledge) (kept : IsKept v) (keeps : IsKept w) 
       kept_after = keeps;
       book_before = book;
       book_after = same_book;
-      process = ap (λ (t : Knowledge). t.first) at_front.loads.same;
-      more = at_front.loads.more;
-      free = ap (λ (q : Part). q.held) (own_part-HasLoaded b v w part at_front.loads) ∙ pass.between.free;
+      process = ap (λ (t : Knowledge). t.first) at_cut.loads.same;
+      more = at_cut.loads.more;
+      free = ap (λ (q : Part). q.held) (own_part-HasLoaded b v w part at_cut.loads) ∙ pass.between.free;
     }
 
     pub between-short : IsBetweenCalls b w
@@ -113,12 +77,12 @@ module _ (b : BookTerms) (v w : Knowledge) (kept : IsKept v) (keeps : IsKept w) 
     pub told-short : (earlier : List Receipt) → Told b v.first v.seen earlier → IsPlaced b v.first w.seen earlier r → Told b w.first w.seen (earlier ++ r ∷ [])
     told-short earlier told placed =
         Told-call_still b v w moved-short between earlier r told placed (behind-from moved-short.process) nothing-short published-short
-        (ap is_at_own at_front.at_front) (ap is_at_round at_front.at_front)
+        (ap is_at_own at_cut.at_cut) (ap is_at_round at_cut.at_cut)
 
     pub reply-short : r.reply ≡ payment_reply b (take (place_at w.first w.seen r.call (is_success r.reply) r.at) w.seen) source targets
     reply-short =
         paid.reply ∙ ap (λ m. payment_reply b (take m w.seen) source targets)
-        (sym (ap (place_at w.first w.seen r.call (is_success r.reply)) at_front.at_front))
+        (sym (ap (place_at w.first w.seen r.call (is_success r.reply)) at_cut.at_cut))
 
   -- a done one has published its record
   module _ (done : r.reply ≡ Done) where
@@ -129,7 +93,7 @@ module _ (b : BookTerms) (v w : Knowledge) (kept : IsKept v) (keeps : IsKept w) 
     looked = at_own.between
 
     abbrev own_record_is : Publication
-    own_record_is = own_record v.first front source targets
+    own_record_is = own_record v.first cut source targets
 
     part-looked : 0 < length looked.parts
     part-looked =
@@ -220,18 +184,18 @@ module _ (b : BookTerms) (v w : Knowledge) (kept : IsKept v) (keeps : IsKept w) 
   -- so whichever it was
   pub decided-alone : IsDecidedByBalance r
   decided-alone =
-      elim (short_or_done b (prefix_of front w.seen) source targets r.reply paid.reply) as (λ _. IsDecidedByBalance r) [ inl short ↦ inr short | inr done ↦ inl done ]
+      elim (short_or_done b (prefix_of cut w.seen) source targets r.reply paid.reply) as (λ _. IsDecidedByBalance r) [ inl short ↦ inr short | inr done ↦ inl done ]
 
   pub process-alone : w.first ≡ v.first
   process-alone =
-      elim (short_or_done b (prefix_of front w.seen) source targets r.reply paid.reply) as (λ _. w.first ≡ v.first) [
+      elim (short_or_done b (prefix_of cut w.seen) source targets r.reply paid.reply) as (λ _. w.first ≡ v.first) [
         | inl short ↦ (moved-short short).process
         | inr done ↦ (moved-done done).process
       ]
 
   pub asking-alone : (a : ℕ) → asking_on (own_part w) a ≡ asking_on (own_part v) a
   asking-alone a =
-      elim (short_or_done b (prefix_of front w.seen) source targets r.reply paid.reply) as (λ _. asking_on (own_part w) a ≡ asking_on (own_part v) a) [
+      elim (short_or_done b (prefix_of cut w.seen) source targets r.reply paid.reply) as (λ _. asking_on (own_part w) a ≡ asking_on (own_part v) a) [
         | inl short ↦ asking-HasLoaded b v w kept keeps book same_book (paid.short short).loads a
         | inr done ↦ asking-done done a
       ]
@@ -239,7 +203,7 @@ module _ (b : BookTerms) (v w : Knowledge) (kept : IsKept v) (keeps : IsKept w) 
   pub IsPass-alone : (now : TotalSums) → HasCounted now b w.seen → slice_index now.upto w.first ≡ (own_part w).published
       → IsPass w now (sent_after sent r.reply)
   IsPass-alone now counted own_counted =
-      elim (short_or_done b (prefix_of front w.seen) source targets r.reply paid.reply) as (λ _. IsPass w now (sent_after sent r.reply)) [
+      elim (short_or_done b (prefix_of cut w.seen) source targets r.reply paid.reply) as (λ _. IsPass w now (sent_after sent r.reply)) [
         | inl short ↦
             IsPass-HasMoved b v w was now sent (sent_after sent r.reply) (moved-short short) (between-short short) counted own_counted
             (ap (sent_after sent) short ∙ (pass.sent_is ∙ sym (owns_of-still b v w (moved-short short) between (nothing-short short) (published-short short))))

@@ -1,13 +1,6 @@
 -- What a call leaves of its pass, whichever call it is: the fields that payments and reads have alike.
 use Rattle.std.proofs.Common.{◌≡◌, ◌++◌, List, [], ◌∷◌}
-use Rattle.at_ledger.specs.Book.{BookTerms}
-use Rattle.at_ledger.specs.declared.call.Call.{Call}
-use Rattle.at_ledger.specs.declared.call.Call.TheVariants.{Pay, Read, Transfer}
-use Rattle.at_history.specs.Publications.{IsPrefix}
-use Rattle.at_log.specs.Placed.{IsPlaced}
-use Rattle.at_log.specs.declared.receipt.Receipt.{Receipt}
-use Rattle.at_object.specs.Calls.{CallMade}
-use Rattle.at_object.specs.Passes.{PassTerms, Stands}
+use Rattle.at_object.proofs.Prelude.{BookTerms, Call, Pay, Read, Transfer, IsPrefix, IsPlaced, Receipt, CallMade, PassTerms, Stands}
 
 module _ (b : BookTerms) (before after : PassTerms) where
   -- the receipt has the call

@@ -1,37 +1,7 @@
 -- What a list moves is covered where it stands, as the run of its prefixes shows.
 use Rattle.std.proofs.Common.{◌≡◌, ℕ, ◌+◌, ◌<◌, ◌≤◌, ◌==◌, Bool, true, false, cond, not, List, [], ◌∷◌, ◌++◌, length, get_or, take, replicate, refl, sym, ap, subst, ◌∙◌, arith, inl, inr}
-use Rattle.std.proofs.lemmas.Bool.{and_from, cases_lt, eq-eqb, le-ltb, lt-ltb}
-use Rattle.std.proofs.lemmas.List.{get_or-replicate, get_or_at, length-replicate, length_push}
-use Rattle.std.proofs.lemmas.List.Elements.{filter_map-append}
-use Rattle.std.specs.List.{filter_map, list_any}
+use Rattle.at_object.proofs.Prelude.{and_from, cases_lt, eq-eqb, le-ltb, lt-ltb, get_or-replicate, get_or_at, length-replicate, length_push, filter_map-append, filter_map, list_any, Decision, replies-push, BookTerms, is_owner, TargetPair, amount_of, run, LedgerState, Step, after_done, after_short, balance_of, is_full, opening_state, pay, step, Call, Pay, Done, Short, NotOwner, Full, take-publication_at, IsInitial, firsts-new, repeats-own, repeats-round, first-below, get_or-publications_of, IsNextAtMost-IsHistory, IsInitial-IsNextAtMost, balance_after, publication_at, is_round, is_same_round, AgreeOnRound, IsHistory, AreRuns, decided_owner, move_of, moves, count_of, no_publication, publications_of, firsts, repeats, rounds, Own, Round, Publication, is_round-true, own_position-at, round_position-at, own_position, round_position}
 use Rattle.std.specs.Prelude.{None, Some, Option}
-use Rattle.at_base.specs.declared.decision.Decision.{Decision}
-use Rattle.at_ledger.proofs.Run.{replies-push}
-use Rattle.at_ledger.specs.Book.{BookTerms, is_owner}
-use Rattle.at_ledger.specs.Call.{TargetPair, amount_of}
-use Rattle.at_ledger.specs.Run.{run}
-use Rattle.at_ledger.specs.State.{LedgerState, Step, after_done, after_short, balance_of, is_full, opening_state, pay, step}
-use Rattle.at_ledger.specs.declared.call.Call.{Call}
-use Rattle.at_ledger.specs.declared.call.Call.TheVariants.{Pay}
-use Rattle.at_ledger.specs.declared.call.Reply.TheVariants.{Done, Short, NotOwner, Full}
-use Rattle.at_history.proofs.Laws.Prefixes.{take-publication_at}
-use Rattle.at_history.proofs.Laws.Rounds.{IsInitial, firsts-new, repeats-own, repeats-round}
-use Rattle.at_history.proofs.Laws.Settled.{first-below}
-use Rattle.at_history.proofs.Laws.Counts.{get_or-publications_of}
-use Rattle.at_history.proofs.Laws.Histories.{IsNextAtMost-IsHistory}
-use Rattle.at_history.proofs.Laws.RoundsDecided.{IsInitial-IsNextAtMost}
-use Rattle.at_history.specs.Balances.{balance_after}
-use Rattle.at_history.specs.BoardState.{publication_at}
-use Rattle.at_history.specs.Entries.{is_round, is_same_round}
-use Rattle.at_history.specs.Histories.{AgreeOnRound, IsHistory}
-use Rattle.at_history.specs.Moves.{AreRuns, decided_owner, move_of, moves}
-use Rattle.at_history.specs.Publications.{count_of, no_publication, publications_of}
-use Rattle.at_history.specs.Rounds.{firsts, repeats, rounds}
-use Rattle.at_history.specs.declared.publication.Entry.TheVariants.{Own, Round}
-use Rattle.at_history.specs.declared.publication.Publication.{Publication}
-use Rattle.at_log.proofs.Laws.FirstRecords.{is_round-true}
-use Rattle.at_log.proofs.Laws.Positions.{own_position-at, round_position-at}
-use Rattle.at_log.specs.Told.{own_position, round_position}
 
 -- a payment that isn't covered isn't done
 short_reply : (owner full : Bool) (refused filled short done : Step) → refused.reply ≡ NotOwner → filled.reply ≡ Full → short.reply ≡ Short

@@ -1,44 +1,11 @@
 -- What a payment from a shared account leaves of its pass.
 use Rattle.std.proofs.Common.{◌≡◌, ℕ, zero, suc, ◌==◌, ◌+◌, ◌*◌, ◌<◌, ◌≤◌, ◌&&◌, true, false, cond, List, ◌∷◌, [], ◌++◌, Some, length, take, refl, sym, ap, subst, ◌∙◌, arith, inl, inr}
-use Rattle.std.proofs.lemmas.Bool.{cases_Bool, cases_eq, cases_lt, eq-eqb}
+use Rattle.at_object.proofs.Prelude.{cases_Bool, cases_eq, cases_lt, eq-eqb, Decision, BookTerms, HasSlot, TargetPair, amount_of, payout_of, Call, Pay, Done, Short, one_if, IsCovered, balance_after, IsHistory, IsShownDecision, IsShownRound, Publication, asking_on, loads_of, own_part, fresh_loads, IsKept, Knowledge, StandsBehind, asks_in-push, named-IsBetweenCalls, AsksOne, HasMoved, IsBetweenCalls-asked, Told-call_asked, IsBetweenCalls, HasCounted, TotalSums, first_account-payout, same_payout, IsAtRound, IsPlaced, done, full, not_owner, read, round, short, asks_in, is_at_own, is_at_round, is_success, Told, key_of, round_position, Cut, Previous, Receipt, PaysInRound, IsPass, place_at, StandsInRound, payment_reply-done, payment_reply-short, payment_reply}
 use Rattle.std.specs.Prelude.{slice_index}
-use Rattle.at_base.specs.declared.decision.Decision.{Decision}
-use Rattle.at_ledger.specs.Book.{BookTerms, HasSlot}
-use Rattle.at_ledger.specs.Call.{TargetPair, amount_of, payout_of}
-use Rattle.at_ledger.specs.declared.call.Call.{Call}
-use Rattle.at_ledger.specs.declared.call.Call.TheVariants.{Pay}
-use Rattle.at_ledger.specs.declared.call.Reply.TheVariants.{Done, Short}
-use Rattle.at_history.proofs.Laws.Rounds.{one_if}
-use Rattle.at_history.specs.Balances.{IsCovered, balance_after}
-use Rattle.at_history.specs.Histories.{IsHistory, IsShownDecision, IsShownRound}
-use Rattle.at_history.specs.declared.publication.Publication.{Publication}
-use Rattle.at_board.specs.Knowledge.Parts.{asking_on, loads_of, own_part}
-use Rattle.at_board.specs.Knowledge.Fresh.{fresh_loads}
-use Rattle.at_board.specs.Knowledge.Seats.{IsKept}
-use Rattle.at_board.specs.declared.knowledge.Knowledge.{Knowledge}
-use Rattle.at_closing.proofs.Laws.Calls.{StandsBehind}
-use Rattle.at_closing.proofs.Laws.Counts.{asks_in-push}
-use Rattle.at_closing.proofs.Laws.Seats.{named-IsBetweenCalls}
-use Rattle.at_closing.proofs.Laws.Stands.{AsksOne, HasMoved, IsBetweenCalls-asked, Told-call_asked}
-use Rattle.at_closing.specs.BetweenCalls.{IsBetweenCalls}
-use Rattle.at_fold.specs.HasCounted.{HasCounted}
-use Rattle.at_fold.specs.Sums.{TotalSums}
-use Rattle.at_log.proofs.Laws.Replies.{first_account-payout, same_payout}
-use Rattle.at_log.specs.Placed.{IsAtRound, IsPlaced}
-use Rattle.at_log.specs.Placed.IsPlaced.{done, full, not_owner, read, round, short}
-use Rattle.at_log.specs.Receipts.{asks_in, is_at_own, is_at_round, is_success}
-use Rattle.at_log.specs.Told.{Told, key_of, round_position}
-use Rattle.at_log.specs.declared.receipt.At.TheVariants.{Front, Own, Round, Previous}
-use Rattle.at_log.specs.declared.receipt.Receipt.{Receipt}
+use Rattle.at_log.specs.declared.receipt.At.TheVariants.{Own, Round}
 use Rattle.at_object.proofs.Laws.Alone.{IsPass-HasMoved}
 use Rattle.at_object.proofs.Laws.Covered.{covered-round}
 use Rattle.at_object.proofs.Laws.Looked.{between-IsPass}
-use Rattle.at_object.specs.Paid.{PaysInRound}
-use Rattle.at_object.specs.Passes.{IsPass}
-use Rattle.at_object.specs.Payments.{place_at}
-use Rattle.at_shared.specs.Settling.{StandsInRound}
-use Rattle.at_single.proofs.Laws.Placed.{payment_reply-done, payment_reply-short}
-use Rattle.at_single.specs.Standing.{payment_reply}
 
 -- so many receipts of one account, each in a round
 abbrev asking_receipt : ℕ → Receipt
@@ -59,13 +26,13 @@ asks_in-asking_receipts source (suc n) =
 IsAtRound-IsPlaced : (b : BookTerms) (p : ℕ) (list : List Publication) (earlier : List Receipt) (r : Receipt) (source : ℕ) (targets : List TargetPair)
     → IsPlaced b p list earlier r → StandsInRound (r.reply, r.at) → payout_of r.call ≡ Some (source, targets) → IsAtRound b p list earlier source targets r
 IsAtRound-IsPlaced b p list earlier r source targets (read account balance call reply at) stands payout =
-    let both : Front at.view ≡ Round stands.round stands.place = sym at.at ∙ stands.at in absurd (cc both)
+    let both : Cut at.view ≡ Round stands.round stands.place = sym at.at ∙ stands.at in absurd (cc both)
 IsAtRound-IsPlaced b p list earlier r source targets (not_owner a ts call owner reply at) stands payout =
     let both : Previous ≡ Round stands.round stands.place = sym at ∙ stands.at in absurd (cc both)
 IsAtRound-IsPlaced b p list earlier r source targets (full a ts call owner room reply at) stands payout =
     let both : Previous ≡ Round stands.round stands.place = sym at ∙ stands.at in absurd (cc both)
 IsAtRound-IsPlaced b p list earlier r source targets (short a balance ts may single reply at less) stands payout =
-    let both : Front at.view ≡ Round stands.round stands.place = sym at.at ∙ stands.at in absurd (cc both)
+    let both : Cut at.view ≡ Round stands.round stands.place = sym at.at ∙ stands.at in absurd (cc both)
 IsAtRound-IsPlaced b p list earlier r source targets (done a ts may single reply at) stands payout =
     let both : Own at.number ≡ Round stands.round stands.place = sym at.at ∙ stands.at in absurd (cc both)
 IsAtRound-IsPlaced b p list earlier r source targets (round a ts may shared at) stands payout =

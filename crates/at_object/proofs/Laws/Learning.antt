@@ -1,26 +1,8 @@
 -- What is left of a pass whose seat takes in what a note or an overview has.
 use Rattle.std.proofs.Common.{◌≡◌, ℕ, List, length, refl, sym, ap, subst, ◌∙◌, arith, get_or}
-use Rattle.at_ledger.specs.Book.{HasSlot}
-use Rattle.at_history.specs.Publications.{IsPrefix}
-use Rattle.at_history.specs.Rounds.{named, owns_of}
-use Rattle.at_history.specs.declared.publication.Publication.{Publication}
-use Rattle.at_board.specs.Knowledge.Parts.{asking_on, own_part}
-use Rattle.at_board.specs.Knowledge.Seats.{IsKept, SeatTerms}
-use Rattle.at_board.specs.declared.knowledge.Knowledge.{Knowledge}
-use Rattle.at_board.specs.declared.knowledge.SeenDecision.{SeenDecision}
-use Rattle.at_board.specs.declared.knowledge.SeenRequest.{SeenRequest}
-use Rattle.at_closing.proofs.Laws.Seats.{named-IsBetweenCalls}
-use Rattle.at_closing.proofs.Laws.Stands.{AsksNothing, HasMoved, IsBetweenCalls-still, owns_of-still}
-use Rattle.at_closing.proofs.Laws.Told.{Told-IsPrefix}
-use Rattle.at_closing.specs.BetweenCalls.{IsBetweenCalls}
-use Rattle.at_fold.proofs.Laws.MorePublished.{StaysCounted-HasCounted}
-use Rattle.at_log.specs.Told.{Told}
-use Rattle.at_log.specs.declared.receipt.Receipt.{Receipt}
+use Rattle.at_object.proofs.Prelude.{HasSlot, IsPrefix, named, owns_of, Publication, asking_on, own_part, IsKept, SeatTerms, Knowledge, SeenDecision, SeenRequest, named-IsBetweenCalls, AsksNothing, HasMoved, IsBetweenCalls-still, owns_of-still, Told-IsPrefix, IsBetweenCalls, StaysCounted-HasCounted, Told, Receipt, IsOfOnePass, pass_of, Stands, sent_by, Rest}
 use Rattle.at_object.proofs.Laws.Alone.{IsPass-HasMoved}
 use Rattle.at_object.proofs.Laws.OnePass.{IsOfOnePass-same}
-use Rattle.at_object.specs.Parted.{IsOfOnePass, pass_of}
-use Rattle.at_object.specs.Passes.{Stands, sent_by}
-use Rattle.at_object.specs.declared.parts.Rest.{Rest}
 
 -- of what the seat knows, its list, its requests and its decisions alone are others
 module _ (before after : SeatTerms) (rest : Rest) (list : List Publication) (requests : List SeenRequest) (decisions : List SeenDecision)

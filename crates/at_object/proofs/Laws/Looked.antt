@@ -1,24 +1,7 @@
 -- What loads of lengths leave of a pass.
 use Rattle.std.proofs.Common.{◌≡◌, ℕ, ◌<◌, false, List, ◌∷◌, [], ◌++◌, length, sym, ap, subst, ◌∙◌, arith}
-use Rattle.std.proofs.lemmas.List.{get_or-set_same}
+use Rattle.at_object.proofs.Prelude.{get_or-set_same, BookTerms, HasSlot, owns_of, asking_on, no_part, own_part, IsKept, Knowledge, Part, StandsBehind, AsksNothing, HasMoved, IsBetweenCalls-still, Told-call_still, owns_of-still, IsBetweenCalls, HasCounted, TotalSums, IsPlaced, is_at_own, is_at_round, Told, Receipt, IsPass, HasLoaded}
 use Rattle.std.specs.Prelude.{slice_index}
-use Rattle.at_ledger.specs.Book.{BookTerms, HasSlot}
-use Rattle.at_history.specs.Rounds.{owns_of}
-use Rattle.at_board.specs.Knowledge.Parts.{asking_on, no_part, own_part}
-use Rattle.at_board.specs.Knowledge.Seats.{IsKept}
-use Rattle.at_board.specs.declared.knowledge.Knowledge.{Knowledge}
-use Rattle.at_board.specs.declared.knowledge.Part.{Part}
-use Rattle.at_closing.proofs.Laws.Calls.{StandsBehind}
-use Rattle.at_closing.proofs.Laws.Stands.{AsksNothing, HasMoved, IsBetweenCalls-still, Told-call_still, owns_of-still}
-use Rattle.at_closing.specs.BetweenCalls.{IsBetweenCalls}
-use Rattle.at_fold.specs.HasCounted.{HasCounted}
-use Rattle.at_fold.specs.Sums.{TotalSums}
-use Rattle.at_log.specs.Placed.{IsPlaced}
-use Rattle.at_log.specs.Receipts.{is_at_own, is_at_round}
-use Rattle.at_log.specs.Told.{Told}
-use Rattle.at_log.specs.declared.receipt.Receipt.{Receipt}
-use Rattle.at_object.specs.Passes.{IsPass}
-use Rattle.at_snapshot.specs.Collected.{HasLoaded}
 
 -- the own part has other loads, and nothing else is other
 pub own_part-HasLoaded : (b : BookTerms) (v w : Knowledge) → 0 < length v.parts → HasLoaded b v w
@@ -82,7 +65,7 @@ module _ (b : BookTerms) (v w : Knowledge) (kept : IsKept v) (keeps : IsKept w) 
     pub owns_of-HasLoaded : owns_of v.first w.seen ≡ owns_of v.first v.seen
     owns_of-HasLoaded = owns_of-still b v w HasMoved-HasLoaded between AsksNothing-HasLoaded published-HasLoaded
 
-    -- one more receipt stands with it, which stands at a front that begins with all that was seen
+    -- one more receipt stands with it, which stands at a cut that begins with all that was seen
     pub Told-HasLoaded : (receipts : List Receipt) (r : Receipt) → Told v.book v.first v.seen receipts → IsPlaced b v.first w.seen receipts r
         → StandsBehind v.first v.seen w.seen r → is_at_own r.at ≡ false → is_at_round r.at ≡ false → Told w.book w.first w.seen (receipts ++ r ∷ [])
     Told-HasLoaded receipts r told placed behind no_own no_round =

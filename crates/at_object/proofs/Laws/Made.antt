@@ -1,43 +1,10 @@
 -- What a payment leaves of its pass, whichever way it went.
 use Rattle.std.proofs.Common.{◌≡◌, ℕ, ◌+◌, ◌<◌, ◌≤◌, ◌⊎◌, ◌&&◌, ◌||◌, ◌==◌, Bool, true, false, cond, List, ◌∷◌, [], ◌++◌, None, Some, length, refl, sym, ap, subst, ◌∙◌, arith, inl, inr}
-use Rattle.std.proofs.lemmas.Bool.{cases_Bool}
+use Rattle.at_object.proofs.Prelude.{cases_Bool, is_shared, is_single, BookTerms, HasSlot, account_of, is_owner, TargetPair, payout_of, Call, Reply, Done, Short, Full, NotOwner, single_or_shared, prefix_of, IsHistory, own_part, IsKept, Knowledge, length-prefix_of-le, Told-call, asks_in-push_still, owns_in-push, named-IsBetweenCalls, HasMoved, IsBetweenCalls, TotalSums, IsPrefix-refl, one_if, IsPlaced, has_no_room, full, not_owner, asks_in, is_at_own, is_at_round, owns_in, Told, Previous, Receipt, PaysAlone, PaysInRound, PaymentMade, IsPass, PassTerms, Stands, asked_by, one_more_call, others_counted, sent_by, IsDecidedByBalance, IsRefused, has_used_up, prefix_before, refusal_of, reply_of, StandsAfter, IsOnlyOwner, cut_behind, payment_reply}
 use Rattle.std.specs.Prelude.{slice_index, sum}
-use Rattle.at_ledger.specs.Account.{is_shared, is_single}
-use Rattle.at_ledger.specs.Book.{BookTerms, HasSlot, account_of, is_owner}
-use Rattle.at_ledger.specs.Call.{TargetPair, payout_of}
-use Rattle.at_ledger.specs.declared.call.Call.{Call}
-use Rattle.at_ledger.specs.declared.call.Reply.{Reply}
-use Rattle.at_ledger.specs.declared.call.Reply.TheVariants.{Done, Short, Full, NotOwner}
-use Rattle.at_history.proofs.Laws.Covers.{single_or_shared}
-use Rattle.at_history.specs.Fronts.{prefix_of}
-use Rattle.at_history.specs.Histories.{IsHistory}
-use Rattle.at_board.specs.Knowledge.Parts.{own_part}
-use Rattle.at_board.specs.Knowledge.Seats.{IsKept}
-use Rattle.at_board.specs.declared.knowledge.Knowledge.{Knowledge}
-use Rattle.at_closing.proofs.Laws.Calls.{length-prefix_of-le}
-use Rattle.at_closing.proofs.Laws.Told.{Told-call}
-use Rattle.at_closing.proofs.Laws.Counts.{asks_in-push_still, owns_in-push}
-use Rattle.at_closing.proofs.Laws.Seats.{named-IsBetweenCalls}
-use Rattle.at_closing.proofs.Laws.Stands.{HasMoved}
-use Rattle.at_closing.specs.BetweenCalls.{IsBetweenCalls}
-use Rattle.at_fold.specs.Sums.{TotalSums}
-use Rattle.at_history.proofs.Laws.Prefixes.{IsPrefix-refl}
-use Rattle.at_history.proofs.Laws.Rounds.{one_if}
-use Rattle.at_log.specs.Placed.{IsPlaced, has_no_room}
-use Rattle.at_log.specs.Placed.IsPlaced.{full, not_owner}
-use Rattle.at_log.specs.Receipts.{asks_in, is_at_own, is_at_round, owns_in}
-use Rattle.at_log.specs.Told.{Told}
-use Rattle.at_log.specs.declared.receipt.At.TheVariants.{Previous}
-use Rattle.at_log.specs.declared.receipt.Receipt.{Receipt}
 use Rattle.at_object.proofs.Laws.Alone.{moved-done, moved-short, nothing-done, nothing-short, reply-done, reply-short, short_or_done, told-done, told-short}
 use Rattle.at_object.proofs.Laws.InRound.{asks-round, loads-round, moved-round, placed-round, reply-round, told-round}
 use Rattle.at_object.proofs.Laws.Room.{HasSlot-is_owner}
-use Rattle.at_object.specs.Paid.{PaysAlone, PaysInRound}
-use Rattle.at_object.specs.Calls.{PaymentMade}
-use Rattle.at_object.specs.Passes.{IsPass, PassTerms, Stands, asked_by, one_more_call, others_counted, sent_by}
-use Rattle.at_object.specs.Payments.{IsDecidedByBalance, IsRefused, has_used_up, prefix_before, refusal_of, reply_of}
-use Rattle.at_shared.specs.Settling.{StandsAfter}
-use Rattle.at_single.specs.Standing.{IsOnlyOwner, front_behind, payment_reply}
 
 -- no call is both decided and refused
 not_both : (r : Receipt) → IsDecidedByBalance r → IsRefused r → ⊥
@@ -79,8 +46,8 @@ module _ (b : BookTerms) (before after : PassTerms) (source : ℕ) (targets : Li
         let v : Knowledge = before.knows in
         let w : Knowledge = after.knows in
         let at_start : (moved : HasMoved b v w) → StandsAfter (length v.seen) w r = λ moved previous.
-        omega (arith, paid.after_front previous, length-prefix_of-le (front_behind w r.at) v.seen w.seen paid.snapshot.begins) in
-        elim (short_or_done b (prefix_of (front_behind w r.at) w.seen) source targets r.reply paid.reply) as
+        omega (arith, paid.after_cut previous, length-prefix_of-le (cut_behind w r.at) v.seen w.seen paid.snapshot.begins) in
+        elim (short_or_done b (prefix_of (cut_behind w r.at) w.seen) source targets r.reply paid.reply) as
         (λ _. PaymentMade b before after source targets call r) [
           | inl short ↦
               let moved = moved-short b v w kept keeps book same_book was sent pass source targets call r paid short in

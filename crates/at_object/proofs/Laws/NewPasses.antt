@@ -1,23 +1,7 @@
 -- The passes of a new ledger.
 use Rattle.std.proofs.Common.{◌≡◌, ℕ, ◌<◌, List, [], ◌∷◌, ◌++◌, length, get_or, replicate, refl, sym, ap, subst, ◌∙◌, arith, below_more}
-use Rattle.std.proofs.Math.Seq.{get_or-append_seam}
-use Rattle.std.proofs.lemmas.List.{get_or_append_left, get_or_at, length-append}
-use Rattle.atomic_table.specs.Seated.{TableId}
-use Rattle.at_ledger.specs.Book.{BookTerms}
+use Rattle.at_object.proofs.Prelude.{get_or-append_seam, get_or_append_left, get_or_at, length-append, TableId, BookTerms, place-zeros, Request, asking_on, own_part, get_or-zeros, Publication, AreNew, starting_seat, BoardTerms, SeatTerms, Knowledge, StandsWith-starting, announced-starting, HasCounted, TotalSums, Told, AreNewPasses, IsNewPass, IsPass, PassTerms, seat_of}
 use Rattle.std.specs.Prelude.{sum}
-use Rattle.at_history.proofs.Laws.Fronts.{place-zeros}
-use Rattle.at_history.specs.declared.request.Request.{Request}
-use Rattle.at_board.specs.Knowledge.Parts.{asking_on, own_part}
-use Rattle.at_history.proofs.Laws.Sums.{get_or-zeros}
-use Rattle.at_history.specs.declared.publication.Publication.{Publication}
-use Rattle.at_board.specs.Ends.Opening.{AreNew, starting_seat}
-use Rattle.at_board.specs.Knowledge.Seats.{BoardTerms, SeatTerms}
-use Rattle.at_board.specs.declared.knowledge.Knowledge.{Knowledge}
-use Rattle.at_closing.proofs.Laws.Stands.{StandsWith-starting, announced-starting}
-use Rattle.at_fold.specs.HasCounted.{HasCounted}
-use Rattle.at_fold.specs.Sums.{TotalSums}
-use Rattle.at_log.specs.Told.{Told}
-use Rattle.at_object.specs.Passes.{AreNewPasses, IsNewPass, IsPass, PassTerms, seat_of}
 
 -- what the type of a pass keeps, where its seat has seen nothing and its totals have counted nothing
 pub IsPass-starting : (b : BookTerms) (p : ℕ) (totals : TotalSums) → totals.upto ≡ replicate b.processes 0

@@ -1,10 +1,6 @@
 -- A seat and the rest stay of one pass, where its calls are counted on.
 use Rattle.std.proofs.Common.{◌≡◌, sym, ap, ◌∙◌}
-use Rattle.at_board.specs.Knowledge.Seats.{SeatTerms}
-use Rattle.at_object.specs.CallCounts.{CallCountTerms, with_one_call}
-use Rattle.at_object.specs.Parted.{IsOfOnePass}
-use Rattle.at_object.specs.Passes.{IsPass}
-use Rattle.at_object.specs.declared.parts.Rest.{Rest}
+use Rattle.at_object.proofs.Prelude.{SeatTerms, CallCountTerms, with_one_call, IsOfOnePass, IsPass, Rest}
 
 module _ (before after : SeatTerms) (was rest : Rest) (pass : IsOfOnePass before was) (board : after.board ≡ before.board)
     (process : after.knows.first ≡ before.knows.first) where

@@ -1,26 +1,7 @@
 -- Where a process has room for one more payment.
 use Rattle.std.proofs.Common.{◌≡◌, ℕ, ◌<◌, ◌≤◌, ◌==◌, ◌&&◌, ◌||◌, Bool, true, false, cond, List, length, Some, None, refl, sym, ap, subst, ◌∙◌, arith, inl, inr}
-use Rattle.std.proofs.lemmas.Bool.{and_parts, cases_eq, cases_lt, eq-eqb, eqb-true}
-use Rattle.std.proofs.lemmas.List.{take_all}
-use Rattle.std.proofs.lemmas.List.Quantifiers.{position-Some}
-use Rattle.std.specs.Option.{is_some}
+use Rattle.at_object.proofs.Prelude.{and_parts, cases_eq, cases_lt, eq-eqb, eqb-true, take_all, position-Some, is_some, AccountTerms, is_shared, is_single, slot_in, slots_of, BookTerms, HasSlot, account_of, is_owner, record-is_settled, publication_at, settles, IsHistory, IsShownDecision, is_settled, Entry, Own, Round, Publication, asking_on, own_part, MayStoreRequest, Knowledge, IsBetweenCalls, PassTerms, asked_by, sent_by, has_used_up}
 use Rattle.std.specs.Prelude.{Option}
-use Rattle.at_ledger.specs.Account.{AccountTerms, is_shared, is_single, slot_in, slots_of}
-use Rattle.at_ledger.specs.Book.{BookTerms, HasSlot, account_of, is_owner}
-use Rattle.at_history.proofs.Laws.Settled.{record-is_settled}
-use Rattle.at_history.specs.BoardState.{publication_at}
-use Rattle.at_history.specs.Entries.{settles}
-use Rattle.at_history.specs.Histories.{IsHistory, IsShownDecision}
-use Rattle.at_history.specs.Rounds.{is_settled}
-use Rattle.at_history.specs.declared.publication.Entry.{Entry}
-use Rattle.at_history.specs.declared.publication.Entry.TheVariants.{Own, Round}
-use Rattle.at_history.specs.declared.publication.Publication.{Publication}
-use Rattle.at_board.specs.Knowledge.Parts.{asking_on, own_part}
-use Rattle.at_board.specs.Steps.StoreRequestWord.{MayStoreRequest}
-use Rattle.at_board.specs.declared.knowledge.Knowledge.{Knowledge}
-use Rattle.at_closing.specs.BetweenCalls.{IsBetweenCalls}
-use Rattle.at_object.specs.Passes.{PassTerms, asked_by, sent_by}
-use Rattle.at_object.specs.Payments.{has_used_up}
 
 -- an owner of a shared account has a slot
 some_is : {X : Type 0} (o : Option X) → is_some o ≡ true → (x : X) × (o ≡ Some x)

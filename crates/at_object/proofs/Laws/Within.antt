@@ -1,19 +1,6 @@
 -- What a call may take, from what its kind takes.
 use Rattle.std.proofs.Common.{◌≡◌, ◌≢◌, ℕ, ◌+◌, ◌*◌, ◌<◌, ◌≤◌, false, List, [], ◌∷◌, zero, suc, Some, sym, ap, subst, ◌∙◌, arith, inl, inr}
-use Rattle.at_ledger.specs.Account.{is_shared, slots_of}
-use Rattle.at_ledger.specs.Book.{BookTerms, account_of}
-use Rattle.at_ledger.specs.Call.{AreTargetsOn, TargetPair, first_account, payout_of}
-use Rattle.at_ledger.specs.declared.call.Call.{Call}
-use Rattle.at_ledger.specs.declared.call.Call.TheVariants.{Transfer, Read, Pay}
-use Rattle.at_ledger.specs.declared.call.Reply.TheVariants.{Balance, Full, NotOwner}
-use Rattle.at_board.specs.Counting.{raised}
-use Rattle.at_board.specs.declared.words.TheConstants.{RECORD_WORDS}
-use Rattle.at_log.proofs.Laws.Replies.{first_account-payout}
-use Rattle.at_log.specs.declared.receipt.Receipt.{Receipt}
-use Rattle.at_object.specs.Calls.{PaymentMade, StaysWithin, call_steps, may_exchange}
-use Rattle.at_object.specs.Passes.{PassTerms, counted_anew}
-use Rattle.at_object.specs.Payments.{IsRefused, payment_steps}
-use Rattle.at_shared.specs.Helpings.{decides_made, decides_on}
+use Rattle.at_object.proofs.Prelude.{is_shared, slots_of, BookTerms, account_of, AreTargetsOn, TargetPair, first_account, payout_of, Call, Transfer, Read, Pay, Balance, Full, NotOwner, raised, RECORD_WORDS, first_account-payout, Receipt, PaymentMade, StaysWithin, call_steps, may_exchange, PassTerms, counted_anew, IsRefused, payment_steps, decides_made, decides_on}
 
 -- one target
 pub AreTargetsOn-single : (accounts to amount : ℕ) → to < accounts → AreTargetsOn accounts ((to, amount) ∷ [])

@@ -1,16 +1,7 @@
 -- Collects: one load after another.
 use Rattle.std.proofs.Common.{◌≡◌, ◌≢◌, ℕ, ◌+◌, ◌<◌, ◌≤◌, List, length, get_or, set, sym, ap, subst, ◌∙◌, arith, inl, inr}
-use Rattle.std.proofs.lemmas.Bool.{cases_eq, cases_lt}
-use Rattle.std.proofs.lemmas.List.{ext_get_or, get_or-set_other, get_or-set_same, length-set, length-map, get_or-map}
-use Rattle.at_ledger.specs.Book.{BookTerms}
-use Rattle.at_history.proofs.Laws.Prefixes.{IsPrefix-count_of}
-use Rattle.at_board.specs.declared.knowledge.Loads.{Loads}
-use Rattle.at_board.specs.declared.knowledge.Knowledge.{Knowledge}
-use Rattle.at_history.specs.Publications.{count_of}
-use Rattle.at_board.specs.Steps.LoadLength.{LoadsLength}
-use Rattle.at_board.specs.Knowledge.Parts.{loads_of, own_part}
+use Rattle.at_snapshot.proofs.Prelude.{cases_eq, cases_lt, ext_get_or, get_or-set_other, get_or-set_same, length-set, length-map, get_or-map, BookTerms, IsPrefix-count_of, Loads, Knowledge, count_of, LoadsLength, loads_of, own_part, HasLoaded, IsCollect, IsCollecting, collect_of}
 use Rattle.at_snapshot.proofs.Laws.Loads.{HasLoaded-LoadsLength, HasLoaded-trans, loads_of-other, loads_of-same, parts-HasLoaded}
-use Rattle.at_snapshot.specs.Collected.{HasLoaded, IsCollect, IsCollecting, collect_of}
 
 -- what stands before a load: as it was, or after loads
 pub record IsBefore (b : BookTerms) (v u : Knowledge) : Type 0 where

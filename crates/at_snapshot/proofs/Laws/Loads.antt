@@ -1,16 +1,6 @@
 -- Loads of lengths: what they leave as it was, and one after another.
 use Rattle.std.proofs.Common.{◌≡◌, ◌≢◌, ℕ, ◌+◌, ◌<◌, List, length, sym, ap, ◌∙◌, arith}
-use Rattle.std.proofs.lemmas.List.{get_or-set_other, get_or-set_same, length-set, set-set}
-use Rattle.at_ledger.specs.Book.{BookTerms}
-use Rattle.at_history.proofs.Laws.Prefixes.{IsPrefix-trans}
-use Rattle.at_board.specs.declared.knowledge.Loads.{Loads}
-use Rattle.at_board.specs.declared.knowledge.Part.{Part}
-use Rattle.at_board.specs.declared.knowledge.Knowledge.{Knowledge}
-use Rattle.at_history.specs.Publications.{count_of}
-use Rattle.at_board.specs.Knowledge.Parts.{no_part, with_part}
-use Rattle.at_board.specs.Steps.LoadLength.{LoadsLength, with_load}
-use Rattle.at_board.specs.Knowledge.Parts.{loads_of, own_part}
-use Rattle.at_snapshot.specs.Collected.{HasLoaded}
+use Rattle.at_snapshot.proofs.Prelude.{get_or-set_other, get_or-set_same, length-set, set-set, BookTerms, IsPrefix-trans, Loads, Part, Knowledge, count_of, no_part, with_part, LoadsLength, with_load, loads_of, own_part, HasLoaded}
 
 -- a part with other loads
 abbrev pub with_loads : Part → List Loads → Part

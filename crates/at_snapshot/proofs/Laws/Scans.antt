@@ -1,17 +1,7 @@
 -- A scan after one more collect.
 use Rattle.std.proofs.Common.{◌≡◌, ℕ, ◌<◌, ◌≤◌, length, get_or, subst, ◌∙◌, arith, Option, Some, None}
-use Rattle.std.specs.Option.{IfSome}
-use Rattle.std.proofs.lemmas.List.{length-map}
-use Rattle.at_ledger.specs.Book.{BookTerms}
-use Rattle.at_history.proofs.Laws.Prefixes.{IsPrefix-count_of, IsPrefix-refl, IsPrefix-trans}
-use Rattle.at_board.specs.declared.knowledge.Loads.{Loads}
-use Rattle.at_board.specs.declared.knowledge.Knowledge.{Knowledge}
-use Rattle.at_history.specs.Publications.{count_of}
-use Rattle.at_board.specs.Knowledge.Parts.{own_part}
-use Rattle.at_snapshot.specs.declared.collects.Collects.{Collects}
+use Rattle.at_snapshot.proofs.Prelude.{IfSome, length-map, BookTerms, IsPrefix-count_of, IsPrefix-refl, IsPrefix-trans, Loads, Knowledge, count_of, own_part, Collects, HasLoaded, IsCollect, collect_of, AreCollects, IsScanOf, ScanTerms, collects_after, scan_after}
 use Rattle.at_snapshot.proofs.Laws.Loads.{first-HasLoaded, published-HasLoaded}
-use Rattle.at_snapshot.specs.Collected.{HasLoaded, IsCollect, collect_of}
-use Rattle.at_snapshot.specs.Scans.{AreCollects, IsScanOf, ScanTerms, collects_after, scan_after}
 
 pub length-collect_of : (b : BookTerms) (v w : Knowledge) → HasLoaded b v w → length (collect_of w) ≡ b.processes
 length-collect_of b v w told = length-map (own_part w).loads (λ (l : Loads). l.last) ∙ told.lengths

@@ -1,28 +1,7 @@
 -- Two equal collects in a row are a snapshot, and so is the view of a process that has published twice.
 use Rattle.std.proofs.Common.{◌≡◌, ℕ, Some, ◌+◌, ◌-◌, ◌<◌, ◌≤◌, List, length, get_or, take, refl, sym, ap, subst, ◌∙◌, arith, inl, inr}
-use Rattle.std.specs.List.{sum}
-use Rattle.std.proofs.lemmas.Bool.{cases_lt}
-use Rattle.std.proofs.lemmas.List.{ext_get_or}
-use Rattle.at_ledger.specs.Book.{BookTerms}
-use Rattle.at_history.proofs.Laws.Counts.{IsPosition, count_of-take-le, count_of-take_mono, get_or-counts, get_or-publications_of, length-counts, position_of, sum-counts}
-use Rattle.at_history.proofs.Laws.Fronts.{IsFront-IsPrefix, IsFront-counts, IsPrefix-prefix_of, IsPrefix-prefix_of_from_le, get_or-IsFront}
-use Rattle.at_history.proofs.Laws.Prefixes.{ArePublishedBy-IsPrefix, ArePublishedBy-take, IsPrefix-count_of, IsPrefix-length, IsPrefix-take, IsPrefix-trans, take-IsPrefix}
-use Rattle.at_history.proofs.Laws.Histories.{ArePublishedBy-IsHistory}
-use Rattle.at_history.specs.declared.publication.Publication.{Publication}
-use Rattle.at_board.specs.declared.knowledge.Knowledge.{Knowledge}
-use Rattle.at_history.specs.BoardState.{publication_at}
-use Rattle.at_history.specs.Fronts.{IsFront, place, prefix_of}
-use Rattle.at_history.specs.Publications.{IsPrefix, count_of, counts, no_publication, publications_of}
-use Rattle.at_history.specs.Sound.{HasView}
-use Rattle.at_board.specs.Knowledge.Parts.{loads_of, own_part}
-use Rattle.at_snapshot.specs.declared.collects.Collects.{Collects}
-use Rattle.at_snapshot.specs.declared.scan.Turn.{Turn}
-use Rattle.at_snapshot.specs.declared.scan.Turn.TheVariants.{Clean, Borrowed, Again}
+use Rattle.at_snapshot.proofs.Prelude.{sum, cases_lt, ext_get_or, BookTerms, IsPosition, count_of-take-le, count_of-take_mono, get_or-counts, get_or-publications_of, length-counts, position_of, sum-counts, IsCut-IsPrefix, IsCut-counts, IsPrefix-prefix_of, IsPrefix-prefix_of_from_le, get_or-IsCut, ArePublishedBy-IsPrefix, ArePublishedBy-take, IsPrefix-count_of, IsPrefix-length, IsPrefix-take, IsPrefix-trans, take-IsPrefix, ArePublishedBy-IsHistory, Publication, Knowledge, publication_at, IsCut, place, prefix_of, IsPrefix, count_of, counts, no_publication, publications_of, HasView, loads_of, own_part, Collects, Turn, Clean, Borrowed, Again, IsCollect, collect_of, AreCollects, IsScanOf, ScanTerms, SeesOwnRecords, loads_at_least, IsSnapshot, OnCounts, HasRisen, IsLent, IsVerdict}
 use Rattle.at_snapshot.proofs.Laws.Scans.{AreCollects-IsScanOf, length-collect_of}
-use Rattle.at_snapshot.specs.Collected.{IsCollect, collect_of}
-use Rattle.at_snapshot.specs.Scans.{AreCollects, IsScanOf, ScanTerms, SeesOwnRecords, loads_at_least}
-use Rattle.at_snapshot.specs.Snapshots.{IsSnapshot, OnCounts}
-use Rattle.at_snapshot.specs.Turns.{HasRisen, IsLent, IsVerdict}
 
 -- each length was loaded once since the start, and after one more collect twice
 loaded_once : (b : BookTerms) (scan : ScanTerms) (c : Collects) (v : Knowledge) → IsScanOf b scan v → scan.collects ≡ Some c
@@ -52,16 +31,16 @@ counts-equal b scan c v w so are told same =
       ap (λ xs. get_or xs p 0) same,
     ))
 
--- a front that begins with all that was seen at the start counts all of the scan's process
+-- a cut that begins with all that was seen at the start counts all of the scan's process
 own_counted : (b : BookTerms) (scan : ScanTerms) (v w : Knowledge) (view : List ℕ) → SeesOwnRecords scan.start → IsScanOf b scan v
-    → v.first < b.processes → IsCollect b v w → IsFront b.processes view w.seen
+    → v.first < b.processes → IsCollect b v w → IsCut b.processes view w.seen
     → IsPrefix scan.start.seen (prefix_of view w.seen) → get_or view scan.start.first 0 ≡ (own_part scan.start).published
-own_counted b scan v w view own so known told front begins =
+own_counted b scan v w view own so known told cut begins =
     let p : ℕ = scan.start.first in
     omega (
       arith,
       own,
-      get_or-IsFront b.processes view w.seen p front (omega (arith, known, so.process)),
+      get_or-IsCut b.processes view w.seen p cut (omega (arith, known, so.process)),
       IsPrefix-count_of p scan.start.seen (prefix_of view w.seen) begins,
       count_of-take-le p (place view) w.seen,
       ap (λ k. count_of k w.seen) so.process,
@@ -79,18 +58,18 @@ IsSnapshot-equal b scan c v w own so process are told once same =
     let between : IsPrefix mark w.seen = IsPrefix-trans mark v.seen w.seen so.marked told.loaded.more in
     let known = ArePublishedBy-IsPrefix n mark w.seen between (ArePublishedBy-IsHistory b w.seen told.loaded.history) in
     let equal = counts-equal b scan c v w so are told same in
-    let front = subst (λ xs. IsFront n xs w.seen) equal (IsFront-IsPrefix n (counts n mark) mark w.seen (IsFront-counts n mark known) known between) in
+    let cut = subst (λ xs. IsCut n xs w.seen) equal (IsCut-IsPrefix n (counts n mark) mark w.seen (IsCut-counts n mark known) known between) in
     let start = scan.start.seen in
     let begins = IsPrefix-prefix_of_from_le (collect_of w) start w.seen (IsPrefix-trans start v.seen w.seen so.started told.loaded.more)
     (omega (arith, IsPrefix-length start mark are.seen, sum-counts n mark known, ap sum equal)) in
     record {
-      front = front;
+      cut = cut;
       begins = begins;
       fresh = record {
         loaded = λ p below. loaded_twice b scan v w p told below (once p below);
         taken = inl refl;
       };
-      own = own_counted b scan v w (collect_of w) own so process told front begins;
+      own = own_counted b scan v w (collect_of w) own so process told cut begins;
     }
 
 -- the record whose view is lent: it was not seen at the start, and its view counts more of its process than was seen then
@@ -153,15 +132,15 @@ IsSnapshot-lent b scan c v w lent own so process are told once is =
     ∙ get_or-publications_of q m w.seen no_publication new.at.within (new.at.own no_publication) in
     let same : x.view ≡ lent = sym (is.counts_are ∙ ap (λ (y : Publication). y.view) same_record) in
     let all = ArePublishedBy-IsHistory b w.seen told.loaded.history in
-    let front : IsFront n x.view w.seen =
-    IsFront-IsPrefix n x.view (take m w.seen) w.seen new.view.front (ArePublishedBy-take n m w.seen all) (IsPrefix-take m w.seen) in
+    let cut : IsCut n x.view w.seen =
+    IsCut-IsPrefix n x.view (take m w.seen) w.seen new.view.cut (ArePublishedBy-take n m w.seen all) (IsPrefix-take m w.seen) in
     let start = scan.start.seen in
-    let begins = IsPrefix-prefix_of n x.view start w.seen q front known (IsPrefix-trans start v.seen w.seen so.started told.loaded.more)
+    let begins = IsPrefix-prefix_of n x.view start w.seen q cut known (IsPrefix-trans start v.seen w.seen so.started told.loaded.more)
     (omega (arith, new.own, new.above)) in
     subst (IsSnapshot b scan.start w) same (record {
-      front = front;
+      cut = cut;
       begins = begins;
-      own = own_counted b scan v w x.view own so process told front begins;
+      own = own_counted b scan v w x.view own so process told cut begins;
       fresh = record {
         loaded = λ p below. loaded_twice b scan v w p told below (once p below);
         taken = inr (

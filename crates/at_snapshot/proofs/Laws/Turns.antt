@@ -1,22 +1,9 @@
 -- The turns of a snapshot: how many there may be.
 use Rattle.std.proofs.Common.{◌≡◌, ℕ, ◌+◌, ◌<◌, ◌≤◌, length, get_or, refl, sym, ap, subst, ◌∙◌, arith, inl, inr, Option, Some, None}
-use Rattle.std.proofs.lemmas.Bool.{cases_eq, cases_lt}
-use Rattle.std.proofs.lemmas.Nat.{mul-le}
-use Rattle.at_ledger.specs.Book.{BookTerms}
-use Rattle.at_history.proofs.Laws.Prefixes.{IsPrefix-count_of}
-use Rattle.at_board.specs.declared.knowledge.Knowledge.{Knowledge}
-use Rattle.at_history.specs.Publications.{count_of}
-use Rattle.at_snapshot.specs.declared.collects.Collects.{Collects}
-use Rattle.at_snapshot.specs.declared.scan.Turn.{Turn}
-use Rattle.at_snapshot.specs.declared.scan.Turn.TheVariants.{Clean, Borrowed, Again}
+use Rattle.at_snapshot.proofs.Prelude.{cases_eq, cases_lt, mul-le, BookTerms, IsPrefix-count_of, Knowledge, count_of, Collects, Turn, Clean, Borrowed, Again, HasLoaded, IsCollect, collect_of, AreCollects, IsScanOf, ScanTerms, SeesOwnRecords, collects_after, scan_after, starting_scan, IsSnapping, turns_left, unmoved, HasCollected, snapshot_steps, IsAnswer, LeavesUndecided, view_steps}
 use Rattle.at_snapshot.proofs.Laws.Loads.{HasLoaded-trans, first-HasLoaded, parts-HasLoaded}
 use Rattle.at_snapshot.proofs.Laws.Scans.{IsScanOf-after, last_le, length-collect_of}
 use Rattle.at_snapshot.proofs.UnmovedLaws.{unmoved-falls, unmoved-same, unmoved-some}
-use Rattle.at_snapshot.specs.Collected.{HasLoaded, IsCollect, collect_of}
-use Rattle.at_snapshot.specs.Scans.{AreCollects, IsScanOf, ScanTerms, SeesOwnRecords, collects_after, scan_after, starting_scan}
-use Rattle.at_snapshot.specs.Snapping.{IsSnapping, turns_left, unmoved}
-use Rattle.at_snapshot.specs.Snapshots.{HasCollected, snapshot_steps}
-use Rattle.at_snapshot.specs.Turns.{IsAnswer, LeavesUndecided, view_steps}
 
 -- no count is two above the first
 close_to_first : (b : BookTerms) (scan : ScanTerms) (c : Collects) (v w : Knowledge) (p : ℕ) → SeesOwnRecords scan.start

@@ -1,17 +1,7 @@
 -- What a whole collect says, and what a scan's turn answers by it.
 use Rattle.std.proofs.Common.{ℕ, ◌<◌, List, refl, sym, subst, Option, Some, None}
-use Rattle.at_ledger.specs.Book.{BookTerms}
-use Rattle.at_board.specs.declared.knowledge.Knowledge.{Knowledge}
-use Rattle.at_snapshot.specs.declared.collects.Collects.{Collects}
-use Rattle.at_snapshot.specs.declared.collects.Verdict.{Verdict}
-use Rattle.at_snapshot.specs.declared.collects.Verdict.TheVariants.{Lent, Repeated, Undecided}
-use Rattle.at_snapshot.specs.declared.scan.Turn.{Turn}
+use Rattle.at_snapshot.proofs.Prelude.{BookTerms, Knowledge, Collects, Verdict, Lent, Repeated, Undecided, Turn, IsCollect, collect_of, IsScanOf, SeesOwnRecords, IsSnapshot, OnCounts, IsAnswer, IsVerdict, IsVerdictBy, IsVerdictOn, answer_of}
 use Rattle.at_snapshot.proofs.Laws.Snapshots.{OnCounts-IsVerdict}
-use Rattle.at_snapshot.specs.Collected.{IsCollect, collect_of}
-use Rattle.at_snapshot.specs.Scans.{IsScanOf, SeesOwnRecords}
-use Rattle.at_snapshot.specs.Snapshots.{IsSnapshot, OnCounts}
-use Rattle.at_snapshot.specs.Turns.{IsAnswer, IsVerdict}
-use Rattle.at_snapshot.specs.Verdicts.{IsVerdictBy, IsVerdictOn, answer_of}
 
 -- what a turn answers by what its collect says is what a scan has to answer
 IsVerdict-IsVerdictBy : (c : Collects) (v : Knowledge) (now : List ℕ) (verdict : Verdict) → IsVerdictBy c v.first now verdict

@@ -1,9 +1,6 @@
 use Rattle.std.proofs.Common.{◌<◌, ℕ, List, ap, arith, length, subst}
 use Rattle.std.specs.Prelude.{IfOk}
-use Rattle.std.proofs.lemmas.List.{length-map}
-use Rattle.at_agree.specs.Agreement.{IsAgreement}
-use Rattle.at_agree.specs.declared.agreement.Agreed.{Agreed}
-use Rattle.at_agree.specs.declared.votes.Vote.{Vote}
+use Rattle.at_agree.proofs.Prelude.{length-map, IsAgreement, Agreed, Vote}
 use Rattle.at_agree.proofs.AllVotes.{AreCast-all}
 use Rattle.at_agree.proofs.agreement.agree.Goals as goal
 

@@ -1,9 +1,5 @@
 use Rattle.std.proofs.Common.{◌≡◌, List, get_or, subst, sym, ◌∙◌}
-use Rattle.at_board.specs.Knowledge.Seats.{BoardTerms}
-use Rattle.at_ledger.specs.Book.{IsBook}
-use Rattle.at_log.specs.Receipts.{lists_in}
-use Rattle.at_agree.specs.Agreement.{AreCast, IsAgreement, values_of}
-use Rattle.at_agree.specs.declared.votes.Vote.{Vote}
+use Rattle.at_agree.proofs.Prelude.{BoardTerms, IsBook, contents_of, AreCast, IsAgreement, values_of, Vote}
 use Rattle.at_agree.proofs.AllVotes.{AreAccountedFor-made, IsAgreement-closed}
 use Rattle.at_agree.proofs.agreement.close.Goals as goal
 
@@ -12,7 +8,7 @@ close-requires c =
     let made : AreCast c.council.inside.ledger c.args.votes.items =
     subst (λ (b : BoardTerms). AreCast b c.args.votes.items) (sym c.council.view_is) c.requires.made in
     AreAccountedFor-made c.council.inside.ledger c.args.votes.items c.in_ok-passes.passes.items
-    (lists_in c.in_ok-passes.receipts.items) made c.in_ok-passes.ensures.stands c.in_ok-passes.ensures.passes
+    (contents_of c.in_ok-passes.receipts.items) made c.in_ok-passes.ensures.stands c.in_ok-passes.ensures.passes
     c.in_ok-passes.ensures.receipts
 
 pub returns-in-Ok : goal.returns-in-Ok

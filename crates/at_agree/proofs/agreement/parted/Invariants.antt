@@ -1,11 +1,10 @@
 use Rattle.std.proofs.Common.{◌≡◌, All, map}
-use Rattle.at_log.specs.Receipts.{lists_in}
-use Rattle.at_agree.specs.Agreement.{StandsByItself}
+use Rattle.at_agree.proofs.Prelude.{contents_of, StandsByItself}
 use Rattle.at_agree.proofs.agreement.parted.Given as goal
 
 abbrev pub invariant-loop-vote : goal.invariant-loop-vote
 invariant-loop-vote l = record {
   passes : l.passes.items ≡ map (λ x. x.voice.pass) l.yielded;
-  receipts : lists_in l.receipts.items ≡ map (λ x. x.voice.receipts) l.yielded;
+  receipts : contents_of l.receipts.items ≡ map (λ x. x.voice.receipts) l.yielded;
   stands : All StandsByItself l.yielded;
 }

@@ -1,4 +1,4 @@
-use denote.Param.Send.{sendable}
+use Rattle.at_agree.proofs.Prelude.{sendable}
 use Rattle.at_agree.proofs.Sharing.{vote_send}
 use Rattle.at_agree.proofs.agreement.propose_all.Goals as goal
 

@@ -1,5 +1,5 @@
 use Rattle.std.proofs.Common.{◌≡◌, ◌+◌, refl, arith}
-use Rattle.at_log.proofs.Laws.Buckets.{range_with_len-more}
+use Rattle.at_agree.proofs.Prelude.{range_with_len-more}
 use Rattle.at_agree.proofs.book.all_processes.Goals as goal
 
 pub loop-process-preserved : goal.loop-process-preserved

@@ -1,5 +1,5 @@
 use Rattle.std.proofs.Common.{◌≡◌}
-use Rattle.std.specs.List.{range_with_len}
+use Rattle.at_agree.proofs.Prelude.{range_with_len}
 use Rattle.at_agree.proofs.book.all_processes.Given as goal
 
 abbrev pub invariant-loop-process : goal.invariant-loop-process

@@ -1,6 +1,6 @@
 use Rattle.std.proofs.Common.{◌≡◌, ap, sym, ◌∙◌}
 use Rattle.std.specs.Prelude.{Err, Some}
-use Rattle.at_ledger.specs.Draft.{book_fault}
+use Rattle.at_agree.proofs.Prelude.{book_fault}
 use Rattle.at_agree.proofs.CouncilDraft.{book_fault-council}
 use Rattle.at_agree.proofs.book.book_for.Goals as goal
 

@@ -1,10 +1,5 @@
 use Rattle.std.proofs.Common.{◌≡◌, ◌*◌, List, [], ◌∷◌, ◌++◌, ap, append_assoc, arith, map, replicate, ◌∙◌}
-use Rattle.std.proofs.lemmas.List.{replicate-append-replicate}
-use Rattle.std.specs.List.{range_with_len}
-use Rattle.at_ledger.specs.Account.{AccountTerms}
-use Rattle.at_ledger.specs.Draft.{terms_of}
-use Rattle.at_ledger.specs.declared.draft.DraftAccount.{DraftAccount}
-use Rattle.at_agree.specs.Council.{joint_account, own_account, unowned_account}
+use Rattle.at_agree.proofs.Prelude.{replicate-append-replicate, range_with_len, AccountTerms, terms_of, DraftAccount, joint_account, own_account, unowned_account}
 use Rattle.at_agree.proofs.CouncilDraft.{drafted_more}
 use Rattle.at_agree.proofs.book.draft_of.Goals as goal
 

@@ -1,7 +1,5 @@
 use Rattle.std.proofs.Common.{◌≡◌, ◌++◌, map, replicate}
-use Rattle.std.specs.List.{range_with_len}
-use Rattle.at_ledger.specs.Draft.{terms_of}
-use Rattle.at_agree.specs.Council.{own_account, unowned_account}
+use Rattle.at_agree.proofs.Prelude.{range_with_len, terms_of, own_account, unowned_account}
 use Rattle.at_agree.proofs.book.draft_of.Given as goal
 
 abbrev pub invariant-loop-process : goal.invariant-loop-process

@@ -1,9 +1,5 @@
 use Rattle.std.proofs.Common.{◌≡◌, ℕ, [], ◌∷◌, ap, arith, map, sym, ◌∙◌}
-use Rattle.std.proofs.lemmas.List.FromFn.{map-range_with_len_more}
-use Rattle.std.specs.List.{range_with_len}
-use Rattle.at_ledger.specs.Draft.{terms_of}
-use Rattle.at_ledger.specs.declared.draft.DraftAccount.{DraftAccount}
-use Rattle.at_agree.specs.Council.{most_value, own_account}
+use Rattle.at_agree.proofs.Prelude.{map-range_with_len_more, range_with_len, terms_of, DraftAccount, most_value, own_account}
 use Rattle.at_agree.proofs.CouncilDraft.{drafted_more}
 use Rattle.at_agree.proofs.book.own_accounts.Goals as goal
 

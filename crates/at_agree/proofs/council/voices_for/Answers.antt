@@ -1,9 +1,5 @@
 use Rattle.std.proofs.Common.{◌≡◌, List, [], ◌∷◌, ◌++◌, All, length, map, ap, arith, subst, sym, ◌∙◌, append_assoc}
-use Rattle.std.proofs.lemmas.Grind.{common_steps}
-use Rattle.std.proofs.lemmas.List.{map-append}
-use Rattle.std.proofs.lemmas.List.Elements.{All-push}
-use Rattle.at_object.specs.Passes.{PassTerms}
-use Rattle.at_agree.specs.Voices.{HasNotProposed, VoiceTerms}
+use Rattle.at_agree.proofs.Prelude.{common_steps, map-append, All-push, PassTerms, HasNotProposed, VoiceTerms}
 use Rattle.at_agree.proofs.NewVoices.{AreNewVoices-all, IsNewPass-at, IsVoice-new}
 use Rattle.at_agree.proofs.council.voices_for.Goals as goal
 

@@ -1,5 +1,5 @@
 use Rattle.std.proofs.Common.{◌≡◌, ◌++◌, All, map}
-use Rattle.at_agree.specs.Voices.{HasNotProposed}
+use Rattle.at_agree.proofs.Prelude.{HasNotProposed}
 use Rattle.at_agree.proofs.council.voices_for.Given as goal
 
 abbrev pub invariant-loop-pass : goal.invariant-loop-pass

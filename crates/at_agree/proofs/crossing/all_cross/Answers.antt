@@ -1,4 +1,4 @@
-use denote.Param.Send.{sendable}
+use Rattle.at_agree.proofs.Prelude.{sendable}
 use Rattle.at_agree.proofs.Sharing.{voice_send}
 use Rattle.at_agree.proofs.crossing.all_cross.Goals as goal
 

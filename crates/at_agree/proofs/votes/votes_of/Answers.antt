@@ -1,8 +1,5 @@
 use Rattle.std.proofs.Common.{◌≡◌, ◌++◌, ℕ, List, [], ◌∷◌, ap, append_assoc, arith, get_or, sym, ◌∙◌}
-use Rattle.std.proofs.lemmas.List.{map-append, nil_from_length, take_all, take_more}
-use Rattle.at_agree.specs.Agreement.{values_of}
-use Rattle.at_agree.specs.Voices.{VoiceTerms}
-use Rattle.at_agree.specs.declared.votes.Vote.{Vote}
+use Rattle.at_agree.proofs.Prelude.{map-append, nil_from_length, take_all, take_more, values_of, VoiceTerms, Vote}
 use Rattle.at_agree.proofs.AllVotes.{AllMayVote-all, voice_left, voices_of}
 use Rattle.at_agree.proofs.votes.votes_of.Goals as goal
 

@@ -1,5 +1,5 @@
 use Rattle.std.proofs.Common.{◌≡◌, ◌++◌, map, take}
-use Rattle.at_agree.specs.Agreement.{values_of}
+use Rattle.at_agree.proofs.Prelude.{values_of}
 use Rattle.at_agree.proofs.votes.votes_of.Given as goal
 
 abbrev pub invariant-loop-value : goal.invariant-loop-value

@@ -1,7 +1,5 @@
 use Rattle.std.proofs.Common.{◌≡◌, ◌∙◌, sym, ap, false, Some, arith, rules, take_all}
-use Rattle.std.specs.Str.Parse.{digits_value}
-use Rattle.std.proofs.lemmas.Int.Digits.{digits_value_more}
-use Rattle.at_base.specs.Numbers.{begins_canonical}
+use Rattle.at_base.proofs.Prelude.{digits_value, digits_value_more, begins_canonical}
 use Rattle.at_base.proofs.NumberLaws.{AreDigits, AreDigits-take_more, number_of-begins, number_of-digits, number_of-not_digit, number_of-too_long}
 use Rattle.at_base.proofs.numbers.number_in.Goals as goal
 

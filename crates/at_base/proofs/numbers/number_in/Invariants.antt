@@ -1,6 +1,5 @@
 use Rattle.std.proofs.Common.{◌≡◌, ◌<◌, ◌^◌, true, take}
-use Rattle.std.specs.Str.Parse.{digits_value}
-use Rattle.at_base.specs.Numbers.{begins_canonical}
+use Rattle.at_base.proofs.Prelude.{digits_value, begins_canonical}
 use Rattle.at_base.proofs.NumberLaws.{AreDigits}
 use Rattle.at_base.proofs.numbers.number_in.Given as goal
 

@@ -1,9 +1,7 @@
 use Rattle.std.proofs.Common.{◌≡◌, ◌+◌, [], ◌∷◌, ◌++◌, length, get_or, sym, ap, ◌∙◌, arith, inl, inr}
-use Rattle.std.proofs.lemmas.Bool.{cases_lt}
-use Rattle.std.proofs.lemmas.List.{get_or_append_left, get_or_push, length_push}
+use Rattle.at_board.proofs.Prelude.{cases_lt, get_or_append_left, get_or_push, length_push, index_of, record_word}
 use Rattle.at_board.proofs.WordLaws.Addresses.{index_of-record_word_first}
 use Rattle.at_board.proofs.WordLaws.Sizes.{log_start-next}
-use Rattle.at_board.specs.Words.Addresses.{index_of, record_word}
 use Rattle.at_board.proofs.addresses.log_starts.Goals as goal
 
 pub loop-p-init : goal.loop-p-init

@@ -1,5 +1,5 @@
 use Rattle.std.proofs.Common.{◌≡◌, ℕ, ◌<◌, length, get_or}
-use Rattle.at_board.specs.Words.Addresses.{index_of, record_word}
+use Rattle.at_board.proofs.Prelude.{index_of, record_word}
 use Rattle.at_board.proofs.addresses.log_starts.Given as goal
 
 -- so many starts stand, and the next log begins here

@@ -1,8 +1,6 @@
 use Rattle.std.proofs.Common.{◌≡◌, ◌+◌, ◌*◌, get_or, ap, ◌∙◌, arith}
-use Rattle.std.proofs.lemmas.Grind.{common_steps}
-use Rattle.at_ledger.specs.Book.{BookTerms}
+use Rattle.at_board.proofs.Prelude.{common_steps, BookTerms, index_of, record_width, record_word}
 use Rattle.at_board.proofs.WordLaws.Addresses.{index_of-record_word}
-use Rattle.at_board.specs.Words.Addresses.{index_of, record_width, record_word}
 use Rattle.at_board.proofs.addresses.record_index.Goals as goal
 
 pub returns : goal.returns

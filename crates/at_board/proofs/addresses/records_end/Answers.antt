@@ -1,5 +1,5 @@
 use Rattle.std.proofs.Common.{sym, ◌∙◌, arith}
-use Rattle.std.proofs.lemmas.Grind.{common_steps}
+use Rattle.at_board.proofs.Prelude.{common_steps}
 use Rattle.at_board.proofs.WordLaws.Addresses.{index_of-record_word_first}
 use Rattle.at_board.proofs.WordLaws.Sizes.{log_start-next}
 use Rattle.at_board.proofs.addresses.records_end.Goals as goal

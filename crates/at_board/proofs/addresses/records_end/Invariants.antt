@@ -1,5 +1,5 @@
 use Rattle.std.proofs.Common.{◌≡◌, ◌<◌, ◌^◌}
-use Rattle.at_board.specs.Words.Addresses.{index_of, record_word}
+use Rattle.at_board.proofs.Prelude.{index_of, record_word}
 use Rattle.at_board.proofs.addresses.records_end.Given as goal
 
 abbrev pub invariant-loop-p : goal.invariant-loop-p

@@ -1,6 +1,5 @@
 use Rattle.std.proofs.Common.{◌≡◌, ◌*◌, ◌≤◌, take}
-use Rattle.std.specs.List.{sum_by}
-use Rattle.at_ledger.specs.Account.{slots_of}
+use Rattle.at_board.proofs.Prelude.{sum_by, slots_of}
 use Rattle.at_board.proofs.addresses.slot_count.Given as goal
 
 abbrev pub invariant-loop-account : goal.invariant-loop-account

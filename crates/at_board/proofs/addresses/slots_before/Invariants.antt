@@ -1,6 +1,5 @@
 use Rattle.std.proofs.Common.{◌≡◌, ℕ, ◌*◌, ◌<◌, ◌≤◌, length, get_or, take}
-use Rattle.std.specs.List.{sum_by}
-use Rattle.at_ledger.specs.Account.{slots_of}
+use Rattle.at_board.proofs.Prelude.{sum_by, slots_of}
 use Rattle.at_board.proofs.addresses.slots_before.Given as goal
 
 -- so many counts stand, and these are the slots so far

@@ -1,5 +1,5 @@
 use Rattle.std.proofs.Common.{arith}
-use Rattle.std.proofs.lemmas.Grind.{common_steps}
+use Rattle.at_board.proofs.Prelude.{common_steps}
 use Rattle.at_board.proofs.WordLaws.Sizes.{word_count-computed, word_count-le}
 use Rattle.at_board.proofs.addresses.word_count.Goals as goal
 

@@ -1,15 +1,8 @@
 use Rattle.std.proofs.Common.{◌≡◌, ◌+◌, ◌<◌, List, [], ◌∷◌, ◌++◌, length, get_or, sym, ap, subst, ◌∙◌, append_assoc, arith}
-use Rattle.std.proofs.lemmas.Grind.{common_steps}
-use Rattle.std.proofs.Math.Seq.{get_or-append_seam}
-use Rattle.std.proofs.lemmas.List.{length-append}
+use Rattle.at_board.proofs.Prelude.{common_steps, get_or-append_seam, length-append, Knowledge, AreAllFree, Gathers, IsFreeSeat, gathered, AreSeen, Ruled, BoardTerms, SeatTerms}
 use Rattle.at_board.proofs.EndLaws.Closed.{Gathers-first, Gathers-more, next_seat}
 use Rattle.at_board.proofs.EndLaws.Closing.{gathers}
 use Rattle.at_board.proofs.StepLaws.Learn.{IsLonger-seen}
-use Rattle.at_board.specs.declared.knowledge.Knowledge.{Knowledge}
-use Rattle.at_board.specs.Ends.Closing.{AreAllFree, Gathers, IsFreeSeat, gathered}
-use Rattle.at_board.specs.Steps.Meetings.{AreSeen}
-use Rattle.at_board.specs.Rule.{Ruled}
-use Rattle.at_board.specs.Knowledge.Seats.{BoardTerms, SeatTerms}
 use Rattle.at_board.proofs.close.gather.Goals as goal
 
 -- the seat after so many others

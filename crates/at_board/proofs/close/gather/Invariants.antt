@@ -1,6 +1,5 @@
 use Rattle.std.proofs.Common.{◌≡◌, List, ◌++◌}
-use Rattle.at_board.specs.Ends.Closing.{Gathers}
-use Rattle.at_board.specs.Knowledge.Seats.{SeatTerms}
+use Rattle.at_board.proofs.Prelude.{Gathers, SeatTerms}
 use Rattle.at_board.proofs.close.gather.Given as goal
 
 abbrev pub invariant-loop-other : goal.invariant-loop-other

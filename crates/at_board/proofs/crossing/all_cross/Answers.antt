@@ -1,5 +1,4 @@
-use denote.Param.Send.{sendable}
-use Rattle.std.proofs.Crossing.{Vec-sync}
+use Rattle.at_board.proofs.Prelude.{sendable, Vec-sync}
 use Rattle.at_board.proofs.Sharing.{board_seat_sync}
 use Rattle.at_board.proofs.crossing.all_cross.Goals as goal
 

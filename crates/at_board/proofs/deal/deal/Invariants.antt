@@ -1,10 +1,9 @@
 use Rattle.std.proofs.Common.{◌≡◌, ℕ, ◌<◌, [], length, get_or}
-use Rattle.at_board.proofs.EndLaws.Cuts.{rest_view}
-use Rattle.at_board.specs.Ends.Opening.{starting_seat}
-use Rattle.at_board.specs.Knowledge.Seats.{SeatTerms}
+use Rattle.at_board.proofs.EndLaws.Deals.{rest_view}
+use Rattle.at_board.proofs.Prelude.{starting_seat, SeatTerms}
 use Rattle.at_board.proofs.deal.deal.Given as goal
 
--- so many seats are cut, and the rest stands for the others
+-- so many seats are dealt, and the rest stands for the others
 abbrev pub invariant-loop-process : goal.invariant-loop-process
 invariant-loop-process l =
     (length l.seats.items ≡ l.process)

@@ -1,20 +1,13 @@
 -- `meet` loads a word of its own. At that step the table's rule is seen, and nothing of the table changes.
-use Rattle.atomic_table.proofs.Names.{◌≡◌, ℕ, List, [], ◌∷◌, sym, refl, lit<, a_type, dcons, dnil, named, Val, vunit, vptr, inst_fn, SProp, emp, Lft, Fml, ftrue, fsep, flft, ‵, raw, ◌⊛◌, given, mean, at_ret, ◌$◌, ◌∵◌, !, qed, by, move, keep, drop, split, split3, join, fsplit, fsplit3, fjoin, fjoin3, learn, use0, use1, use3, rewrite, feq_i, stop, lit, unit_lit, of_opd, no_more, and_then, first, blocks, exec, Calls-last, returns, enter, alloc_all, pass_all, free_all, look_at, get, sets, lands_last, env, agg, tables, yes, RattleType, owns, types_at, plain, Ptr, block_ptr, nothing, param, bounded, Stays, stay_dropped, walk_of, Goes-dropped, fact, fact_i, Coded, via, RefOf, mut_vals, mut_Tells, shr_vals, shr_Tells, opens, closes, stay_ref, Goes-ref, unhide, hidden_shr, lent_out, Tuple, shr_bor-open, obor_close, tokens_halve, addr}
-use types.Kit.{fpick}
-use types.Run.{from}
-use types.ByLocal.{take_at, give_at}
+use Rattle.at_board.proofs.Prelude.{ℕ, List, [], sym, refl, lit<, a_type, dcons, dnil, Val, vunit, vptr, inst_fn, emp, mean, at_ret, by, keep, split3, use0, use3, feq_i, stop, lit, unit_lit, of_opd, no_more, and_then, first, blocks, exec, Calls-last, returns, enter, alloc_all, pass_all, free_all, look_at, get, sets, lands_last, env, agg, tables, yes, owns, types_at, plain, param, bounded, Stays, stay_dropped, walk_of, Goes-dropped, fact_i, via, RefOf, mut_vals, mut_Tells, shr_vals, shr_Tells, closes, stay_ref, Goes-ref, unhide, hidden_shr, lent_out, Tuple, shr_bor-open, obor_close, tokens_halve, addr, fpick, from, take_at, give_at, fm, seq_cst, finds, loads, proved, HandData, TableId, age, mine, Me, AreSeen, ended, clauses}
+use Rattle.atomic_table.proofs.Names.{◌≡◌, ◌∷◌, named, SProp, Lft, Fml, ftrue, fsep, flft, ‵, raw, ◌⊛◌, given, ◌$◌, ◌∵◌, !, qed, move, drop, split, join, fsplit, fsplit3, fjoin, fjoin3, learn, use1, rewrite, RattleType, Ptr, block_ptr, nothing, fact, Coded, opens}
 use Rattle.std.proofs.VecSteps.Shapes.{after as rest_after}
-use Rattle.std.proofs.raw_atomic.Calls.{fm, seq_cst, found, finds, loads}
-use Rattle.std.proofs.raw_atomic.Walks.{proved, leaves}
+use Rattle.std.proofs.raw_atomic.Calls.{found}
+use Rattle.std.proofs.raw_atomic.Walks.{leaves}
 use Rattle.std.specs.contracts.marker.PhantomData as marker
-use Rattle.atomic_table.proofs.Fields.{HandData}
-use Rattle.atomic_table.specs.Seated.{TableId, age, mine}
-use Rattle.atomic_table.specs.Table.{Me}
 use Rattle.atomic_table.specs.contracts.shared.Seat as seat
 use Rattle.atomic_table.specs.contracts.shared.Shared as table
 use Rattle.at_board.proofs.StepLaws.Meetings.{after, meets}
-use Rattle.at_board.specs.Steps.Meetings.{AreSeen}
-use Rattle.at_board.specs.contracts.meet.meet.{ended, clauses}
 use Rattle.at_board.specs.contracts.meet.meet.Key.{name as #self}
 use Rattle.at_board.proofs.meet.meet.Statement.{statement}
 use Rattle.at_board.proofs.meet.meet.Code as code

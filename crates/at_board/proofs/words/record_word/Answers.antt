@@ -1,7 +1,5 @@
 use Rattle.std.proofs.Common.{sym, subst, arith}
-use Rattle.std.proofs.lemmas.Grind.{common_steps}
-use Rattle.at_ledger.specs.Call.{AreTargetsOn}
-use Rattle.at_history.specs.Entries.{targets_of}
+use Rattle.at_board.proofs.Prelude.{common_steps, AreTargetsOn, targets_of}
 use Rattle.at_board.proofs.WordLaws.Packed.{ArePacked-IsForm, AreTargetsOn-ArePacked}
 use Rattle.at_board.proofs.words.record_word.Goals as goal
 

@@ -1,8 +1,5 @@
 use Rattle.std.proofs.Common.{◌≡◌, ◌*◌, ◌<◌, get_or, length, sym, ap, ◌∙◌, arith}
-use Rattle.std.proofs.lemmas.Grind.{common_steps}
-use Rattle.std.proofs.lemmas.List.{length-map}
-use Rattle.at_ledger.specs.Call.{TargetPair}
-use Rattle.at_board.specs.Words.Targets.{account_in, accounts_of}
+use Rattle.at_board.proofs.Prelude.{common_steps, length-map, TargetPair, account_in, accounts_of}
 use Rattle.at_board.proofs.WordLaws.Packed.{account_in-targets_word}
 use Rattle.at_board.proofs.WordLaws.Unpacked.{same_targets-get_or}
 use Rattle.at_board.proofs.words.targets_from.Goals as goal

@@ -1,5 +1,5 @@
 use Rattle.std.proofs.Common.{◌≡◌, ℕ, ◌*◌, ◌<◌, get_or, length}
-use Rattle.at_board.specs.Words.Targets.{account_in}
+use Rattle.at_board.proofs.Prelude.{account_in}
 use Rattle.at_board.proofs.words.targets_from.Given as goal
 
 -- so many targets are made

@@ -1,6 +1,6 @@
 use Rattle.std.proofs.Common.{arith}
-use Rattle.std.proofs.lemmas.Grind.{common_steps}
+use Rattle.at_broadcast.proofs.Prelude.{common_steps}
 use Rattle.at_broadcast.proofs.progress.new_senders.Goals as goal
 
-pub loop-process-preserved : goal.loop-process-preserved
-loop-process-preserved c = grind (arith, common_steps)
+pub loop-log-preserved : goal.loop-log-preserved
+loop-log-preserved c = grind (arith, common_steps)

@@ -1,5 +1,5 @@
 use Rattle.std.proofs.Common.{arith}
-use Rattle.std.proofs.lemmas.Grind.{common_steps}
+use Rattle.at_broadcast.proofs.Prelude.{common_steps}
 use Rattle.at_broadcast.proofs.sender.no_credits.Goals as goal
 
 pub loop-account-preserved : goal.loop-account-preserved

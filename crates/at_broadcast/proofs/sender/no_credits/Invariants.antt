@@ -1,5 +1,5 @@
 use Rattle.std.proofs.Common.{◌≡◌, replicate}
-use Rattle.at_broadcast.specs.Sender.{no_credits}
+use Rattle.at_broadcast.proofs.Prelude.{no_credits}
 use Rattle.at_broadcast.proofs.sender.no_credits.Given as goal
 
 abbrev pub invariant-loop-account : goal.invariant-loop-account

@@ -1,6 +1,5 @@
 use Rattle.std.proofs.Common.{◌<◌, arith}
-use Rattle.std.proofs.lemmas.List.Elements.{All-from_get_or}
-use Rattle.at_ledger.specs.Call.{TargetPair}
+use Rattle.at_c.proofs.Prelude.{All-from_get_or, TargetPair}
 use Rattle.at_c.proofs.calls.are_targets_on.Goals as goal
 
 pub returns-clause-yes : goal.returns-clause-yes

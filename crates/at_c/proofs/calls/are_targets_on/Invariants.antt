@@ -1,5 +1,5 @@
 use Rattle.std.proofs.Common.{ℕ, ◌<◌}
-use Rattle.at_ledger.specs.Call.{target_at}
+use Rattle.at_c.proofs.Prelude.{target_at}
 use Rattle.at_c.proofs.calls.are_targets_on.Given as goal
 
 -- those before are accounts

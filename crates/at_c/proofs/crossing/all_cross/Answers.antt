@@ -1,4 +1,4 @@
-use denote.Param.Send.{sendable}
+use Rattle.at_c.proofs.Prelude.{sendable}
 use Rattle.at_c.proofs.Sharing.{caller_send, held_send, opened_send}
 use Rattle.at_c.proofs.crossing.all_cross.Goals as goal
 

@@ -1,5 +1,5 @@
 use Rattle.std.proofs.Common.{◌≡◌, length}
-use Rattle.at_c.specs.Shared.{AreOwned}
+use Rattle.at_c.proofs.Prelude.{AreOwned}
 use Rattle.at_c.proofs.shared.places_of.Given as goal
 
 -- the places so far are this ledger's

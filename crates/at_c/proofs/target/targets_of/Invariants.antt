@@ -1,5 +1,5 @@
 use Rattle.std.proofs.Common.{◌≡◌, ◌++◌, take}
-use Rattle.at_c.specs.Near.{near_pairs_of}
+use Rattle.at_c.proofs.Prelude.{near_pairs_of}
 use Rattle.at_c.proofs.target.targets_of.Given as goal
 
 -- the first, and those of the others that were passed

@@ -1,6 +1,5 @@
 use Rattle.std.proofs.Common.{ap}
-use Rattle.at_ledger.specs.declared.call.Call.{Call}
-use Rattle.at_log.specs.declared.receipt.Receipt.{Receipt}
+use Rattle.at_calling.proofs.Prelude.{Call, Receipt}
 use Rattle.at_calling.proofs.calling.receipt_of.Goals as goal
 
 pub returns : goal.returns

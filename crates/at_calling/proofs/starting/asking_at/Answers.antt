@@ -1,7 +1,5 @@
 use Rattle.std.proofs.Common.{ℕ, sym, ap, subst, ◌∙◌}
-use Rattle.at_board.specs.declared.knowledge.Knowledge.{Knowledge}
-use Rattle.at_machines.specs.Asking.{starting_to_ask}
-use Rattle.at_rows.specs.Asks.{MayAskFor, asked_for}
+use Rattle.at_calling.proofs.Prelude.{Knowledge, starting_to_ask, MayAskFor, asked_for}
 use Rattle.at_calling.proofs.starting.asking_at.Goals as goal
 
 pub start-requires : goal.start-requires

@@ -1,6 +1,6 @@
 use Rattle.std.proofs.Common.{◌≡◌, ◌∙◌, Some, ap, refl}
 use Rattle.at_loading.specs.declared.asked.Asked.TheVariants.{Agree, Deliver, Files, Make, Replay, Verify}
-use Rattle.at_loading.proofs.Laws.MayRefuse.{later-kept}
+use Rattle.at_commands.proofs.Prelude.{later-kept}
 use Rattle.at_commands.proofs.Endings.{usage-done, usage-write_fault}
 use Rattle.at_commands.proofs.answering.answer.Goals as goal
 

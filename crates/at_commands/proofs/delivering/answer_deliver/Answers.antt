@@ -1,13 +1,5 @@
 use Rattle.std.proofs.Common.{◌≡◌, ℕ, true, Ok, List, Vec, inl, inr, string_bytes, length}
-use Rattle.std.specs.Global.{Global}
-use Rattle.std.proofs.lemmas.List.{length-map}
-use Rattle.at_loading.specs.Faults.{HasFurtherNumbers, IsWritten, MayRefuseOf}
-use Rattle.at_loading.specs.Faults.Kind.{messages}
-use Rattle.at_loading.specs.Words.{delivering_shown}
-use Rattle.at_loading.proofs.Laws.Exact.{MayRefuse-exact}
-use Rattle.at_loading.proofs.Laws.MayRefuse.{MayRefuse-loaded}
-use Rattle.at_commands.specs.Delivering.{DeliversSpelled, MayReachBroadcast, broadcast}
-use Rattle.at_commands.specs.Nodes.{Broadcast}
+use Rattle.at_commands.proofs.Prelude.{Global, length-map, HasFurtherNumbers, IsWritten, MayRefuseOf, messages, delivering_shown, MayRefuse-exact, MayRefuse-loaded, DeliversSpelled, MayReachBroadcast, broadcast, Broadcast}
 use Rattle.at_commands.proofs.Laws.Deliveries.{broadcast-SpellsBroadcast}
 use Rattle.at_commands.proofs.Endings.{Ends-faults, Ends-kept, Ends-refusal, LeavesOf-Ends, Refuses-loading}
 use Rattle.at_commands.proofs.delivering.answer_deliver.Goals as goal

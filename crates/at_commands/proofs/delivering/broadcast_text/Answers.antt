@@ -1,11 +1,5 @@
 use Rattle.std.proofs.Common.{◌≡◌, ◌∙◌, ◌+◌, Err, ap, length, string_bytes, inl, inr, refl, arith}
-use Rattle.std.proofs.lemmas.List.{length-map}
-use Rattle.at_ledger.specs.Files.{contents_of}
-use Rattle.at_commands.specs.Delivering.{broadcast, order_beside, order_number, sent_loaded}
-use Rattle.at_loading.specs.Faults.Kind.{messages}
-use Rattle.at_loading.specs.Loading.{loaded_shown, named_book}
-use Rattle.at_loading.specs.Words.{delivering_shown}
-use Rattle.at_loading.proofs.Laws.MayRefuse.{HasFurtherNumbers-loading, MayRefuse-whole, later-then, refusal_of}
+use Rattle.at_commands.proofs.Prelude.{length-map, contents_of, broadcast, order_beside, order_number, sent_loaded, messages, loaded_shown, named_book, delivering_shown, HasFurtherNumbers-loading, MayRefuse-whole, later-then, refusal_of}
 use Rattle.at_commands.proofs.Laws.Deliveries.{AreSent-spelled, broadcast-beside, broadcast-refused}
 use Rattle.at_commands.proofs.LoadedTexts.{IfErr-whole, IfOk-delivers, OnOk-kept}
 use Rattle.at_commands.proofs.delivering.broadcast_text.Goals as goal

@@ -1,9 +1,6 @@
 use Rattle.std.proofs.Common.{◌≡◌, ◌∙◌, ◌^◌, ◌<◌, [], get_or, length, arith}
-use Rattle.std.proofs.lemmas.List.{length-set}
-use Rattle.at_ledger.specs.Files.{contents_of}
-use Rattle.at_ledger.proofs.FileLists.{get_or-contents_of, length-contents_of}
+use Rattle.at_commands.proofs.Prelude.{length-set, contents_of, get_or-contents_of, length-contents_of, same_length}
 use Rattle.at_commands.proofs.Laws.Deliveries.{counted_all, counted_next}
-use Rattle.at_loading.proofs.Laws.FilesLoaded.{same_length}
 use Rattle.at_commands.proofs.delivering.counts_of.Goals as goal
 
 -- a process has few messages

@@ -1,5 +1,5 @@
 use Rattle.std.proofs.Common.{◌≡◌, ℕ, ◌<◌, [], get_or, length}
-use Rattle.at_ledger.specs.Files.{contents_of}
+use Rattle.at_commands.proofs.Prelude.{contents_of}
 use Rattle.at_commands.proofs.delivering.counts_of.Given as goal
 
 -- so many counts are set

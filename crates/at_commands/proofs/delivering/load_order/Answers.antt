@@ -1,8 +1,5 @@
 use Rattle.std.proofs.Common.{◌∙◌, Err, ap, refl}
-use Rattle.at_loading.specs.Faults.Kind.{messages}
-use Rattle.at_loading.specs.Loading.{fetched}
-use Rattle.at_commands.specs.Delivering.{order_loaded}
-use Rattle.at_loading.proofs.Laws.MayRefuse.{HasFurtherNumbers-unfetched, MayRefuse-whole, made-refused, memory-read_fault, refusal_of, order-read_fault}
+use Rattle.at_commands.proofs.Prelude.{messages, fetched, order_loaded, HasFurtherNumbers-unfetched, MayRefuse-whole, made-refused, memory-read_fault, refusal_of, order-read_fault}
 use Rattle.at_commands.proofs.delivering.load_order.Goals as goal
 
 pub returns-in-Err : goal.returns-in-Err

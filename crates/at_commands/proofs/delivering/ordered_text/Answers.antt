@@ -1,6 +1,5 @@
 use Rattle.std.proofs.Common.{[], Err, ap, refl, arith}
-use Rattle.at_ledger.specs.Files.{contents_of}
-use Rattle.at_loading.proofs.Laws.MayRefuse.{made-refused, memory-read_fault, refusal_of}
+use Rattle.at_commands.proofs.Prelude.{contents_of, made-refused, memory-read_fault, refusal_of}
 use Rattle.at_commands.proofs.Laws.Deliveries.{few_counted}
 use Rattle.at_commands.proofs.delivering.ordered_text.Goals as goal
 

@@ -1,6 +1,5 @@
 use Rattle.std.proofs.Common.{◌≡◌, Bool, true, List, Vec, ℕ, ◌++◌, take}
-use Rattle.std.specs.Global.{Global}
-use Rattle.at_report.specs.Pieces.{joined}
+use Rattle.at_commands.proofs.Prelude.{Global, joined}
 use Rattle.at_commands.proofs.ending.write_pieces.Given as goal
 
 -- the pieces before the index were taken, and no fault was counted

@@ -1,8 +1,5 @@
 use Rattle.std.proofs.Common.{◌≡◌, ◌∙◌, ◌+◌, ◌*◌, ℕ, refl, ap, sym, arith}
-use Rattle.std.proofs.lemmas.List.FromFn.{map-range_with_len_more}
-use Rattle.at_ledger.specs.Files.{contents_of}
-use Rattle.at_ledger.proofs.FileLists.{contents_of-push}
-use Rattle.at_commands.specs.Generator.{calls_drawn, state_after_calls}
+use Rattle.at_commands.proofs.Prelude.{map-range_with_len_more, contents_of, contents_of-push, calls_drawn, state_after_calls}
 use Rattle.at_commands.proofs.GeneratorLaws.{state_after_calls-add, state_after_calls_none}
 use Rattle.at_commands.proofs.generating.draw_files.Goals as goal
 

@@ -1,7 +1,5 @@
 use Rattle.std.proofs.Common.{◌≡◌, ◌*◌, map}
-use Rattle.std.specs.List.{range_with_len}
-use Rattle.at_ledger.specs.Files.{contents_of}
-use Rattle.at_commands.specs.Generator.{calls_drawn, state_after_calls}
+use Rattle.at_commands.proofs.Prelude.{range_with_len, contents_of, calls_drawn, state_after_calls}
 use Rattle.at_commands.proofs.generating.draw_files.Given as goal
 
 abbrev pub invariant-loop-process : goal.invariant-loop-process

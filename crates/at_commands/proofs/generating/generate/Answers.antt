@@ -1,9 +1,5 @@
 use Rattle.std.proofs.Common.{◌∙◌, List, Vec, ap, length, sym}
-use Rattle.std.specs.Global.{Global}
-use Rattle.std.proofs.lemmas.List.{length-map}
-use Rattle.at_ledger.specs.Files.{contents_of}
-use Rattle.at_ledger.specs.Book.{BookTerms}
-use Rattle.at_ledger.specs.declared.call.Call.{Call}
+use Rattle.at_commands.proofs.Prelude.{Global, length-map, contents_of, BookTerms, Call}
 use Rattle.at_commands.proofs.DrawnCalls.{IsPlayable-files_made, length-files_made}
 use Rattle.at_commands.proofs.GeneratedRuns.{AllDone-made, AllSum-made, length-book_made}
 use Rattle.at_commands.proofs.generating.generate.Goals as goal

@@ -1,5 +1,5 @@
 use Rattle.std.proofs.Common.{inl, inr, refl}
-use Rattle.at_loading.proofs.Laws.MayRefuse.{later-kept}
+use Rattle.at_commands.proofs.Prelude.{later-kept}
 use Rattle.at_commands.proofs.Endings.{memory-done, memory-write_fault, memory-written}
 use Rattle.at_commands.proofs.making.answer_make.Goals as goal
 

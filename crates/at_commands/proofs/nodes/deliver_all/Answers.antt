@@ -1,9 +1,5 @@
 use Rattle.std.proofs.Common.{◌∙◌, ◌<◌, get_or, length, take, sym, subst, arith}
-use Rattle.std.proofs.lemmas.List.{length-set}
-use Rattle.at_files.specs.declared.deliveries.Delivery.{Delivery}
-use Rattle.at_ledger.proofs.FileLists.{length-contents_of}
-use Rattle.at_loading.specs.Loading.{loaded_shown}
-use Rattle.at_commands.specs.Nodes.{IsNodeOf}
+use Rattle.at_commands.proofs.Prelude.{length-set, Delivery, length-contents_of, loaded_shown, IsNodeOf}
 use Rattle.at_commands.proofs.NodesGiven.{AreNodesOf-next, node_within}
 use Rattle.at_commands.proofs.nodes.deliver_all.Goals as goal
 

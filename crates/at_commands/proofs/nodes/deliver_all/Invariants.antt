@@ -1,6 +1,5 @@
 use Rattle.std.proofs.Common.{◌≡◌, length, take}
-use Rattle.at_loading.specs.Loading.{loaded_shown}
-use Rattle.at_commands.specs.Nodes.{AreNodesOf}
+use Rattle.at_commands.proofs.Prelude.{loaded_shown, AreNodesOf}
 use Rattle.at_commands.proofs.nodes.deliver_all.Given as goal
 
 abbrev pub invariant-loop-delivery : goal.invariant-loop-delivery

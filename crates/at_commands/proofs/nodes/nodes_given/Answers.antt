@@ -1,4 +1,4 @@
-use Rattle.at_loading.specs.Loading.{loaded_shown}
+use Rattle.at_commands.proofs.Prelude.{loaded_shown}
 use Rattle.at_commands.proofs.NodesGiven.{AreNodesOf-new}
 use Rattle.at_commands.proofs.nodes.nodes_given.Goals as goal
 

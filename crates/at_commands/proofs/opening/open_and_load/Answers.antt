@@ -1,6 +1,4 @@
-use denote.Param.Send.{sendable}
-use Rattle.std.proofs.Crossing.{crosses}
-use Rattle.at_object.proofs.Sharing.{pass_send}
+use Rattle.at_commands.proofs.Prelude.{sendable, crosses, pass_send}
 use Rattle.at_object.proofs.ledger.Ledger.TheSendSync as ledger
 use Rattle.at_commands.proofs.opening.open_and_load.Goals as goal
 

@@ -1,5 +1,5 @@
 use Rattle.std.proofs.Common.{◌≡◌, ◌++◌}
-use Rattle.at_ledger.specs.Files.{contents_of}
+use Rattle.at_commands.proofs.Prelude.{contents_of}
 use Rattle.at_commands.proofs.JobsAsked.{calls_asked, passes_asked}
 use Rattle.at_commands.proofs.playing.asked_of.Given as goal
 

@@ -1,5 +1,5 @@
 use Rattle.std.proofs.Common.{◌∙◌, map, ap}
-use Rattle.at_log.specs.Receipts.{calls_of}
+use Rattle.at_commands.proofs.Prelude.{calls_of}
 use Rattle.at_commands.proofs.playing.closed_on.Goals as goal
 
 pub close-requires : goal.close-requires

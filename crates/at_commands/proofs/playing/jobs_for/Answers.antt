@@ -1,11 +1,5 @@
-use denote.Param.Send.{sendable}
-use denote.Param.SendFields.{declared_send}
+use Rattle.at_commands.proofs.Prelude.{sendable, declared_send, crosses, contents_of, call_send, pass_send, job_send}
 use Rattle.std.proofs.Common.{arith}
-use Rattle.std.proofs.Crossing.{crosses}
-use Rattle.at_ledger.specs.Files.{contents_of}
-use Rattle.at_log.proofs.Sharing.{call_send}
-use Rattle.at_object.proofs.Sharing.{pass_send}
-use Rattle.at_workers.proofs.Sharing.{job_send}
 use Rattle.at_commands.proofs.JobsAsked.{IfOk-asked, MayBeAsked-at}
 use Rattle.at_commands.proofs.playing.jobs_for.Goals as goal
 

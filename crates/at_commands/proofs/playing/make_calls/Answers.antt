@@ -1,11 +1,8 @@
 use Rattle.std.proofs.Common.{◌≡◌, ◌∙◌, ℕ, List, ◌++◌, drop, length, subst, take}
-use Rattle.std.proofs.Math.Seq.{take-append_seam}
-use Rattle.at_ledger.specs.Files.{contents_of}
+use Rattle.at_commands.proofs.Prelude.{take-append_seam, contents_of, AreJobsFor, JobTerms}
 use Rattle.at_commands.proofs.JobsRun.{AreAccountedFor-ran, IfOk-accounted, IfOk-costs, IfOk-receipts, files_of-ran}
 use Rattle.at_commands.proofs.JobsNoting.{AreCosts-ran}
 use Rattle.at_commands.proofs.playing.make_calls.Goals as goal
-use Rattle.at_commands.specs.Running.{AreJobsFor}
-use Rattle.at_workers.specs.Jobs.{JobTerms}
 
 -- a list that was changed as a slice, in each of its places
 written : (n : ℕ) (before after : List JobTerms) → length after ≡ n → take n (after ++ drop (length after) before) ≡ after

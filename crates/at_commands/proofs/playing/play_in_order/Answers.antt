@@ -1,6 +1,5 @@
 use Rattle.std.proofs.Common.{◌∙◌, length}
-use Rattle.std.proofs.lemmas.List.{length-map}
-use Rattle.at_ledger.specs.Files.{contents_of}
+use Rattle.at_commands.proofs.Prelude.{length-map, contents_of}
 use Rattle.at_commands.proofs.JobsNoting.{IsPlayed-closed}
 use Rattle.at_commands.proofs.JobsRun.{few-calls_in}
 use Rattle.at_commands.proofs.playing.play_in_order.Goals as goal

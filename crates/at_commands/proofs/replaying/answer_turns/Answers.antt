@@ -1,12 +1,5 @@
 use Rattle.std.proofs.Common.{◌≡◌, ℕ, true, Ok, List, Vec, inl, inr, string_bytes, length}
-use Rattle.std.specs.Global.{Global}
-use Rattle.std.proofs.lemmas.List.{length-map}
-use Rattle.at_loading.specs.Faults.{HasFurtherNumbers, IsWritten, MayRefuseOf}
-use Rattle.at_loading.specs.Faults.Kind.{scheduled}
-use Rattle.at_loading.specs.Words.{replaying_shown}
-use Rattle.at_loading.proofs.Laws.Exact.{MayRefuse-exact}
-use Rattle.at_loading.proofs.Laws.MayRefuse.{MayRefuse-loaded}
-use Rattle.at_commands.specs.Replaying.{MayReachReplay, Replay, PrintsReplay, replay_loaded}
+use Rattle.at_commands.proofs.Prelude.{Global, length-map, HasFurtherNumbers, IsWritten, MayRefuseOf, scheduled, replaying_shown, MayRefuse-exact, MayRefuse-loaded, MayReachReplay, Replay, PrintsReplay, replay_loaded}
 use Rattle.at_commands.proofs.Laws.Replays.{replay_loaded-SpellsReplay}
 use Rattle.at_commands.proofs.Endings.{Ends-faults, Ends-kept, Ends-refusal, LeavesOf-Ends, Refuses-loading}
 use Rattle.at_commands.proofs.replaying.answer_turns.Goals as goal

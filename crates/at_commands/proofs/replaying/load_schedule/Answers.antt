@@ -1,8 +1,5 @@
 use Rattle.std.proofs.Common.{◌∙◌, Err, ap, refl}
-use Rattle.at_loading.specs.Faults.Kind.{scheduled}
-use Rattle.at_loading.specs.Loading.{fetched}
-use Rattle.at_commands.specs.Replaying.{schedule_loaded}
-use Rattle.at_loading.proofs.Laws.MayRefuse.{HasFurtherNumbers-unfetched, MayRefuse-whole, made-refused, memory-read_fault, refusal_of, schedule-read_fault}
+use Rattle.at_commands.proofs.Prelude.{scheduled, fetched, schedule_loaded, HasFurtherNumbers-unfetched, MayRefuse-whole, made-refused, memory-read_fault, refusal_of, schedule-read_fault}
 use Rattle.at_commands.proofs.replaying.load_schedule.Goals as goal
 
 pub returns-in-Err : goal.returns-in-Err

@@ -1,7 +1,5 @@
 use Rattle.std.proofs.Common.{◌∙◌, arith}
-use Rattle.at_ledger.proofs.FileLists.{length-contents_of}
-use Rattle.at_ledger.specs.Files.{contents_of}
-use Rattle.at_loading.specs.Loading.{Loaded}
+use Rattle.at_commands.proofs.Prelude.{length-contents_of, contents_of, Loaded}
 use Rattle.at_commands.proofs.Laws.Replays.{IsLineOn-played, ReportsReplay-lines}
 use Rattle.at_commands.proofs.replaying.replayed_text.Goals as goal
 

@@ -1,11 +1,5 @@
 use Rattle.std.proofs.Common.{◌≡◌, ◌∙◌, ◌+◌, Err, List, ℕ, ap, arith, inl, inr, length, refl, string_bytes, subst}
-use Rattle.std.proofs.lemmas.List.{length-map}
-use Rattle.at_ledger.specs.Files.{contents_of}
-use Rattle.at_loading.specs.Faults.Kind.{scheduled}
-use Rattle.at_loading.specs.Loading.{loaded_shown, named_book}
-use Rattle.at_loading.specs.Words.{replaying_shown}
-use Rattle.at_loading.proofs.Laws.MayRefuse.{HasFurtherNumbers-loading, MayRefuse-whole, later-then, made-refused, memory-read_fault, refusal_of}
-use Rattle.at_commands.specs.Replaying.{calls_loaded, replay_loaded, schedule_loaded, schedule_number}
+use Rattle.at_commands.proofs.Prelude.{length-map, contents_of, scheduled, loaded_shown, named_book, replaying_shown, HasFurtherNumbers-loading, MayRefuse-whole, later-then, made-refused, memory-read_fault, refusal_of, calls_loaded, replay_loaded, schedule_loaded, schedule_number}
 use Rattle.at_commands.proofs.Laws.Replays.{IsPlayable-replayed, replay_loaded-refused, replay_loaded-scheduled, replay_loaded-unscheduled}
 use Rattle.at_commands.proofs.replaying.turns_text.Goals as goal
 

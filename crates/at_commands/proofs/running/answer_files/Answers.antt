@@ -1,16 +1,5 @@
 use Rattle.std.proofs.Common.{◌≡◌, ◌∙◌, ℕ, true, Ok, List, Option, inl, inr, string_bytes, length, refl}
-use Rattle.std.specs.Result.{IfOk}
-use Rattle.std.proofs.lemmas.List.{length-map}
-use Rattle.at_object.specs.Closings.{ClosedTerms}
-use Rattle.at_loading.specs.Faults.{HasFileNumbers, IsWritten, MayRefuse}
-use Rattle.at_loading.specs.Faults.Kind.{payments}
-use Rattle.at_loading.specs.Loading.{Loaded, MayReach, loaded}
-use Rattle.at_loading.specs.Words.{form_shown}
-use Rattle.at_loading.proofs.Laws.Exact.{MayRefuse-exact}
-use Rattle.at_loading.proofs.Laws.MayRefuse.{MayRefuse-loaded}
-use Rattle.at_loading.proofs.Laws.SpelledLoaded.{loaded-Spelled}
-use Rattle.at_commands.specs.Answer.{PrintsRead}
-use Rattle.at_commands.specs.declared.ending.Printed.{Printed}
+use Rattle.at_commands.proofs.Prelude.{IfOk, length-map, ClosedTerms, HasFileNumbers, IsWritten, MayRefuse, payments, Loaded, MayReach, loaded, form_shown, MayRefuse-exact, MayRefuse-loaded, loaded-Spelled, PrintsRead, Printed}
 use Rattle.at_commands.proofs.Endings.{Ends-faults, Ends-kept, Ends-refusal, LeavesOf-Ends, Refuses-loading, IfOk-kept, none-kept}
 use Rattle.at_commands.proofs.running.answer_files.Goals as goal
 

@@ -1,8 +1,5 @@
 use Rattle.std.proofs.Common.{◌≡◌, ◌∙◌, Err, ap, length, refl, sym}
-use Rattle.at_ledger.proofs.FileLists.{length-contents_of}
-use Rattle.at_ledger.specs.Files.{contents_of}
-use Rattle.at_loading.specs.Loading.{loaded_beside, named_book}
-use Rattle.at_loading.proofs.Laws.MayRefuse.{made-refused, memory-read_fault, refusal_of}
+use Rattle.at_commands.proofs.Prelude.{length-contents_of, contents_of, loaded_beside, named_book, made-refused, memory-read_fault, refusal_of}
 use Rattle.at_commands.proofs.running.run_beside.Goals as goal
 
 pub returns-in-Err : goal.returns-in-Err

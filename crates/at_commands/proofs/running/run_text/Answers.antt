@@ -1,7 +1,5 @@
 use Rattle.std.proofs.Common.{◌≡◌, ap, map, refl, ◌∙◌}
-use Rattle.at_journal.specs.Calls.{line_at}
-use Rattle.at_report.specs.Report.{report_text}
-use Rattle.at_commands.specs.Running.{journal_of}
+use Rattle.at_commands.proofs.Prelude.{line_at, report_text, journal_of}
 use Rattle.at_commands.proofs.running.run_text.Goals as goal
 
 pub journal_report-requires-clause-lines : goal.journal_report-requires-clause-lines

@@ -1,9 +1,5 @@
 use Rattle.std.proofs.Common.{◌≡◌, ℕ, true, List, Vec, inl, inr, string_bytes, length}
-use Rattle.std.specs.Global.{Global}
-use Rattle.std.proofs.lemmas.List.{length-map}
-use Rattle.at_loading.specs.Faults.{HasFurtherNumbers, IsWritten}
-use Rattle.at_loading.specs.Words.{verifying_shown}
-use Rattle.at_commands.specs.Claims.{IsRightClaim, MayReachClaim, MayRefuseClaim, VerifiesSpelled, claimed}
+use Rattle.at_commands.proofs.Prelude.{Global, length-map, HasFurtherNumbers, IsWritten, verifying_shown, IsRightClaim, MayReachClaim, MayRefuseClaim, VerifiesSpelled, claimed}
 use Rattle.at_commands.proofs.Laws.Claims.{AnswersVerify-exact, MayRefuseClaim-right, claimed-SpellsClaim}
 use Rattle.at_commands.proofs.Endings.{Ends-faults, Ends-kept, Ends-refusal, LeavesOf-Ends, Refuses-claim}
 use Rattle.at_commands.proofs.verifying.answer_verify.Goals as goal

@@ -1,13 +1,7 @@
 use Rattle.std.proofs.Common.{◌≡◌, ◌∙◌, ◌+◌, Err, Ok, ap, arith, inl, inr, length, refl, string_bytes, true}
-use Rattle.std.proofs.lemmas.List.{length-map}
-use Rattle.std.proofs.lemmas.Result.{IfErr-weaker, IfOk-weaker}
-use Rattle.at_commands.specs.Claims.{claim_shown, claimed, report_number}
-use Rattle.at_loading.specs.Faults.Kind.{payments}
-use Rattle.at_loading.specs.Loading.{fetched, loaded, loaded_shown}
-use Rattle.at_loading.specs.Words.{verifying_shown}
+use Rattle.at_commands.proofs.Prelude.{length-map, IfErr-weaker, IfOk-weaker, claim_shown, claimed, report_number, payments, fetched, loaded, loaded_shown, verifying_shown, HasFurtherNumbers-loading, HasFurtherNumbers-unfetched, later-then, refusal_of}
 use Rattle.at_commands.proofs.Laws.Claims.{HasFurtherNumbers-verdict, IfErr-verdict, MayRefuseClaim-part, claimed-fetched, claimed-refused, claimed-unfetched}
 use Rattle.at_commands.proofs.LoadedTexts.{OnOk-any}
-use Rattle.at_loading.proofs.Laws.MayRefuse.{HasFurtherNumbers-loading, HasFurtherNumbers-unfetched, later-then, refusal_of}
 use Rattle.at_commands.proofs.verifying.claim_text.Goals as goal
 
 pub returns-in-Err : goal.returns-in-Err

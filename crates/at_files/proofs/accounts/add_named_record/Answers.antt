@@ -1,5 +1,5 @@
 use Rattle.std.proofs.Common.{◌∙◌, ◌+◌, arith}
-use Rattle.std.proofs.lemmas.Grind.{common_steps}
+use Rattle.at_files.proofs.Prelude.{common_steps}
 use Rattle.at_files.proofs.Faults.{Err-same, at_line-stops, within_limits-bad}
 use Rattle.at_files.proofs.accounts.add_named_record.Goals as goal
 

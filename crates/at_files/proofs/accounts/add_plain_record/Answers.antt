@@ -1,6 +1,5 @@
 use Rattle.std.proofs.Common.{◌+◌, Err, ap, sym, ◌∙◌, arith}
-use Rattle.std.proofs.lemmas.Grind.{common_steps}
-use Rattle.at_ledger.specs.Draft.{terms_with}
+use Rattle.at_files.proofs.Prelude.{common_steps, terms_with}
 use Rattle.at_files.proofs.AccountLaws.{length-numbered, with_plain_record-built}
 use Rattle.at_files.proofs.Faults.{Bad-same, within_limits-bad}
 use Rattle.at_files.proofs.accounts.add_plain_record.Goals as goal

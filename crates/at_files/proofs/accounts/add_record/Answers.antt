@@ -1,6 +1,5 @@
 use Rattle.std.proofs.Common.{sym, ◌∙◌, arith}
-use Rattle.std.proofs.lemmas.Grind.{common_steps}
-use Rattle.indexmap.proofs.MapLemmas.{OnOk-map}
+use Rattle.at_files.proofs.Prelude.{common_steps, OnOk-map}
 use Rattle.at_files.proofs.AccountLaws.{first_version, with_named_record-adds, with_plain_record-adds}
 use Rattle.at_files.proofs.accounts.add_record.Goals as goal
 

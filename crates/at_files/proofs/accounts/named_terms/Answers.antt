@@ -1,5 +1,5 @@
 use Rattle.std.proofs.Common.{arith}
-use Rattle.std.proofs.lemmas.Grind.{common_steps}
+use Rattle.at_files.proofs.Prelude.{common_steps}
 use Rattle.at_files.proofs.accounts.named_terms.Goals as goal
 
 pub returns-in_default-clause-bad : goal.returns-in_default-clause-bad

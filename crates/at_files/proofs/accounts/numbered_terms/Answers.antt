@@ -1,6 +1,5 @@
 use Rattle.std.proofs.Common.{◌≡◌, ◌==◌, true, refl, ◌∙◌, arith}
-use Rattle.std.proofs.lemmas.Grind.{common_steps}
-use Rattle.std.proofs.lemmas.Bool.Decides.{nat_tests}
+use Rattle.at_files.proofs.Prelude.{common_steps, nat_tests}
 use Rattle.at_files.proofs.accounts.numbered_terms.Goals as goal
 
 pub returns-then-id-from-clause-ok : goal.returns-then-id-from-clause-ok

@@ -1,5 +1,5 @@
 use Rattle.std.proofs.Common.{arith}
-use Rattle.std.proofs.lemmas.Grind.{common_steps}
+use Rattle.at_files.proofs.Prelude.{common_steps}
 use Rattle.at_files.proofs.BookWalk.{book_at_end-finished}
 use Rattle.at_files.proofs.book.finish_book.Goals as goal
 

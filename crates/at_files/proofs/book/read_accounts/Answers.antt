@@ -1,5 +1,5 @@
 use Rattle.std.proofs.Common.{Err, ◌∙◌, ap, sym, arith}
-use Rattle.std.proofs.lemmas.Grind.{common_steps}
+use Rattle.at_files.proofs.Prelude.{common_steps}
 use Rattle.at_files.proofs.BookWalk.{Added-more, Added-bad, Added-end, Added-full}
 use Rattle.at_files.proofs.Faults.{Bad-same, Err-same}
 use Rattle.at_files.proofs.book.read_accounts.Goals as goal

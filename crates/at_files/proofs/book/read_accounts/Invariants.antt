@@ -1,4 +1,4 @@
-use Rattle.at_files.specs.BookFile.{accounts_from}
+use Rattle.at_files.proofs.Prelude.{accounts_from}
 use Rattle.at_files.proofs.BookWalk.{Added}
 use Rattle.at_files.proofs.book.read_accounts.Given as goal
 

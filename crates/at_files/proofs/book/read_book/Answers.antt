@@ -1,5 +1,5 @@
 use Rattle.std.proofs.Common.{Err, ◌∙◌, ap, arith}
-use Rattle.std.proofs.lemmas.Grind.{common_steps}
+use Rattle.at_files.proofs.Prelude.{common_steps}
 use Rattle.at_files.proofs.BookAccepted.{Spells-not_bad}
 use Rattle.at_files.proofs.BookSpelled.{Spells-book_of_records}
 use Rattle.at_files.proofs.book.read_book.Goals as goal

@@ -1,5 +1,5 @@
 use Rattle.std.proofs.Common.{sym, ◌∙◌, Err, ap, arith}
-use Rattle.std.proofs.lemmas.Grind.{common_steps}
+use Rattle.at_files.proofs.Prelude.{common_steps}
 use Rattle.at_files.proofs.BookWalk.{AreNamesOf-limits_of, limits_of-empty}
 use Rattle.at_files.proofs.Faults.{Bad-same}
 use Rattle.at_files.proofs.book.read_limits.Goals as goal

@@ -1,5 +1,5 @@
 use Rattle.std.proofs.Common.{arith}
-use Rattle.std.proofs.lemmas.Grind.{common_steps}
+use Rattle.at_files.proofs.Prelude.{common_steps}
 use Rattle.at_files.proofs.book.read_title.Goals as goal
 
 pub returns-in-Ok-version_of-clause-known : goal.returns-in-Ok-version_of-clause-known

@@ -1,5 +1,5 @@
 use Rattle.std.proofs.Common.{◌≡◌, ◌+◌, ◌*◌, drop}
-use Rattle.at_files.specs.Payments.{has_amounts}
+use Rattle.at_files.proofs.Prelude.{has_amounts}
 use Rattle.at_files.proofs.calls.has_amounts.Given as goal
 
 abbrev pub invariant-loop-i : goal.invariant-loop-i

@@ -1,5 +1,5 @@
 use Rattle.std.proofs.Common.{arith}
-use Rattle.std.proofs.lemmas.Grind.{common_steps}
+use Rattle.at_files.proofs.Prelude.{common_steps}
 use Rattle.at_files.proofs.calls.is_pay.Goals as goal
 
 pub returns-then-has_shape-3 : goal.returns-then-has_shape-3

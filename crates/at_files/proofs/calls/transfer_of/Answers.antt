@@ -1,6 +1,5 @@
 use Rattle.std.proofs.Common.{◌≡◌, nat_lt, true, false, refl, arith}
-use Rattle.std.proofs.lemmas.Grind.{common_steps}
-use Rattle.std.proofs.lemmas.Bool.Decides.{nat_tests}
+use Rattle.at_files.proofs.Prelude.{common_steps, nat_tests}
 use Rattle.at_files.proofs.calls.transfer_of.Goals.{in_default-via-in-Some+in-Some+in_default, in_default-via-in-Some+in_default, in_default-via-in_default, else-from-via-then-from+else-to-from, else-from-via-else-from}
 use Rattle.at_files.proofs.calls.transfer_of.Goals as goal
 

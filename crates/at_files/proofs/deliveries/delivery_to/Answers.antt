@@ -1,7 +1,5 @@
 use Rattle.std.proofs.Common.{◌≡◌, nat_lt, length, true, refl, arith}
-use Rattle.std.proofs.lemmas.Grind.{common_steps}
-use Rattle.std.proofs.lemmas.Bool.Decides.{nat_tests}
-use Rattle.std.specs.List.{slice_index}
+use Rattle.at_files.proofs.Prelude.{common_steps, nat_tests, slice_index}
 use Rattle.at_files.proofs.deliveries.delivery_to.Goals as goal
 
 pub returns : goal.returns

@@ -1,6 +1,5 @@
 use Rattle.std.proofs.Common.{◌≡◌, ◌<◌, ◌≤◌, length, ap, sym, ◌∙◌, rules}
-use Rattle.at_files.specs.Reading.{texts_of}
-use Rattle.at_files.specs.Records.{field_of}
+use Rattle.at_files.proofs.Prelude.{texts_of, field_of}
 use Rattle.at_files.proofs.LineLaws.{field_of-past, field_of-texts}
 use Rattle.at_files.proofs.fields.field_of.Goals as goal
 

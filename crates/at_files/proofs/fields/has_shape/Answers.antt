@@ -1,5 +1,5 @@
 use Rattle.std.proofs.Common.{◌≡◌, ◌==◌, length, true, refl, sym, ◌∙◌, arith}
-use Rattle.std.proofs.lemmas.Bool.Decides.{nat_tests}
+use Rattle.at_files.proofs.Prelude.{nat_tests}
 use Rattle.at_files.proofs.fields.has_shape.Goals as goal
 
 pub returns-then-len-count : goal.returns-then-len-count

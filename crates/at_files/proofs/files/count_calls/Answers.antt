@@ -1,6 +1,5 @@
 use Rattle.std.proofs.Common.{◌<◌, ◌≤◌, length, arith}
-use Rattle.std.proofs.lemmas.Grind.{common_steps}
-use Rattle.at_ledger.proofs.FileLists.{file_few, sum_by-contents_of_more}
+use Rattle.at_files.proofs.Prelude.{common_steps, file_few, sum_by-contents_of_more}
 use Rattle.at_files.proofs.files.count_calls.Goals as goal
 
 pub overflow_cast-calls : goal.overflow_cast-calls

@@ -1,5 +1,5 @@
 use Rattle.std.proofs.Common.{◌≡◌, ◌*◌, ◌≤◌, take, length, sum_by}
-use Rattle.at_ledger.specs.Files.{contents_of}
+use Rattle.at_files.proofs.Prelude.{contents_of}
 use Rattle.at_files.proofs.files.count_calls.Given as goal
 
 abbrev pub invariant-loop-file : goal.invariant-loop-file

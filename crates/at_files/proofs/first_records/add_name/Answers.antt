@@ -1,6 +1,5 @@
 use Rattle.std.proofs.Common.{Ok, Err, refl, sym, ◌∙◌, ap, arith}
-use Rattle.std.proofs.lemmas.Grind.{common_steps}
-use Rattle.std.proofs.lemmas.Bool.{not-false, not-true}
+use Rattle.at_files.proofs.Prelude.{common_steps, not-false, not-true}
 use Rattle.at_files.proofs.Faults.{Bad-same}
 use Rattle.at_files.proofs.first_records.add_name.Goals as goal
 

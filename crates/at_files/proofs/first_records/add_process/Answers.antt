@@ -1,6 +1,5 @@
 use Rattle.std.proofs.Common.{◌≡◌, nat_le, length, false, arith}
-use Rattle.std.proofs.lemmas.Grind.{common_steps}
-use Rattle.std.proofs.lemmas.Bool.Decides.{nat_tests}
+use Rattle.at_files.proofs.Prelude.{common_steps, nat_tests}
 use Rattle.at_files.proofs.first_records.add_process.Goals as goal
 
 pub returns-clause-ok : goal.returns-clause-ok

@@ -1,5 +1,5 @@
 use Rattle.std.proofs.Common.{arith}
-use Rattle.std.proofs.lemmas.Grind.{common_steps}
+use Rattle.at_files.proofs.Prelude.{common_steps}
 use Rattle.at_files.proofs.first_records.counted_processes.Goals as goal
 
 pub returns-then-not-has_shape-clause-bad : goal.returns-then-not-has_shape-clause-bad

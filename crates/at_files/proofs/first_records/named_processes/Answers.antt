@@ -1,5 +1,5 @@
 use Rattle.std.proofs.Common.{arith}
-use Rattle.std.proofs.lemmas.Grind.{common_steps}
+use Rattle.at_files.proofs.Prelude.{common_steps}
 use Rattle.at_files.proofs.first_records.named_processes.Goals as goal
 
 pub returns-clause-ok : goal.returns-clause-ok

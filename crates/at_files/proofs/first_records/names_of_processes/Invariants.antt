@@ -1,5 +1,5 @@
 use Rattle.std.proofs.Common.{◌≡◌, [], drop}
-use Rattle.at_files.specs.BookRecords.{with_processes}
+use Rattle.at_files.proofs.Prelude.{with_processes}
 use Rattle.at_files.proofs.first_records.names_of_processes.Given as goal
 
 abbrev pub invariant-loop-i : goal.invariant-loop-i

@@ -1,9 +1,12 @@
 use Rattle.std.proofs.Common.{arith}
-use Rattle.std.proofs.lemmas.Grind.{common_steps}
+use Rattle.at_files.proofs.Prelude.{common_steps}
 use Rattle.at_files.proofs.messages.message_between.Goals as goal
 
-pub overflow_cast-result-2 : goal.overflow_cast-result-2
-overflow_cast-result-2 c = grind (arith, common_steps)
+pub overflow_cast-to : goal.overflow_cast-to
+overflow_cast-to c = grind (arith, common_steps)
+
+pub one-requires : goal.one-requires
+one-requires c = grind (arith, common_steps)
 
 pub counts_of-requires-clause-few : goal.counts_of-requires-clause-few
 counts_of-requires-clause-few c = grind (arith, common_steps)

@@ -1,5 +1,5 @@
 use Rattle.std.proofs.Common.{sym, ◌∙◌, arith}
-use Rattle.std.proofs.lemmas.List.{length_push}
+use Rattle.at_files.proofs.Prelude.{length_push}
 use Rattle.at_files.proofs.NumberFields.{AreReadTo-start, AreReadTo-more, AreReadTo-bad, AreReadTo-end}
 use Rattle.at_files.proofs.messages.numbers_from.Goals as goal
 

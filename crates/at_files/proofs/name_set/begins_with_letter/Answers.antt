@@ -1,5 +1,5 @@
 use Rattle.std.proofs.Common.{arith}
-use Rattle.std.proofs.lemmas.Grind.{common_steps}
+use Rattle.at_files.proofs.Prelude.{common_steps}
 use Rattle.at_files.proofs.name_set.begins_with_letter.Goals as goal
 
 pub returns-then-not-is_empty : goal.returns-then-not-is_empty

@@ -1,5 +1,5 @@
 use Rattle.std.proofs.Common.{arith}
-use Rattle.std.proofs.lemmas.Grind.{common_steps}
+use Rattle.at_files.proofs.Prelude.{common_steps}
 use Rattle.at_files.proofs.name_set.held.Goals as goal
 
 pub returns-in-Err-clause-none : goal.returns-in-Err-clause-none

@@ -1,5 +1,5 @@
 use Rattle.std.proofs.Common.{◌≡◌}
-use Rattle.at_files.specs.Names.{decimals_below}
+use Rattle.at_files.proofs.Prelude.{decimals_below}
 use Rattle.at_files.proofs.names.plain_names.Given as goal
 
 abbrev pub invariant-loop-n : goal.invariant-loop-n

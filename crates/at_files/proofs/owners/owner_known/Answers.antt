@@ -1,5 +1,5 @@
 use Rattle.std.proofs.Common.{◌≡◌, nat_le, nat_lt, true, false, refl, arith}
-use Rattle.std.proofs.lemmas.Bool.Decides.{nat_tests}
+use Rattle.at_files.proofs.Prelude.{nat_tests}
 use Rattle.at_files.proofs.owners.owner_known.Goals as goal
 
 pub returns-in_default-clause-known : goal.returns-in_default-clause-known

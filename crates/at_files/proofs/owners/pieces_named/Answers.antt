@@ -1,9 +1,5 @@
 use Rattle.std.proofs.Common.{◌≡◌, ◌+◌, ◌==◌, [], ◌∷◌, ◌++◌, Err, refl, sym, ◌∙◌, ap, rules, tests, arith}
-use Rattle.std.proofs.lemmas.Grind.{common_steps}
-use Rattle.std.proofs.lemmas.List.{length_push}
-use Rattle.std.proofs.lemmas.Iterator.Splits.{YieldsList-from_slice_split}
-use Rattle.std.proofs.lemmas.Iterator.Consumers.{YieldsList-at, YieldsList-turn, YieldsList-end}
-use Rattle.at_files.specs.BookFile.{at_line}
+use Rattle.at_files.proofs.Prelude.{common_steps, length_push, YieldsList-from_slice_split, YieldsList-at, YieldsList-turn, YieldsList-end, at_line}
 use Rattle.at_files.proofs.Faults.{Bad-same}
 use Rattle.at_files.proofs.OwnerNames.{AreNamed-more, AreNamed-bad, AreNamed-end}
 use Rattle.at_files.proofs.owners.pieces_named.Goals as goal

@@ -1,5 +1,5 @@
 use Rattle.std.proofs.Common.{length, ◌==◌}
-use Rattle.std.specs.List.{slice_split}
+use Rattle.at_files.proofs.Prelude.{slice_split}
 use Rattle.at_files.proofs.OwnerNames.{AreNamed}
 use Rattle.at_files.proofs.owners.pieces_named.Given as goal
 

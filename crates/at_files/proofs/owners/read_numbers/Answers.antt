@@ -1,7 +1,5 @@
 use Rattle.std.proofs.Common.{◌≡◌, ◌==◌, [], ◌∷◌, ◌++◌, refl, sym, ◌∙◌, rules, tests, arith}
-use Rattle.std.proofs.lemmas.List.{length_push}
-use Rattle.std.proofs.lemmas.Iterator.Splits.{YieldsList-from_slice_split}
-use Rattle.std.proofs.lemmas.Iterator.Consumers.{YieldsList-at, YieldsList-turn, YieldsList-end}
+use Rattle.at_files.proofs.Prelude.{length_push, YieldsList-from_slice_split, YieldsList-at, YieldsList-turn, YieldsList-end}
 use Rattle.at_files.proofs.OwnerLaws.{AreRead-start, AreRead-more, AreRead-bad, AreRead-end}
 use Rattle.at_files.proofs.owners.read_numbers.Goals as goal
 

@@ -1,5 +1,5 @@
 use Rattle.std.proofs.Common.{length, ◌==◌}
-use Rattle.std.specs.List.{slice_split}
+use Rattle.at_files.proofs.Prelude.{slice_split}
 use Rattle.at_files.proofs.OwnerLaws.{AreRead}
 use Rattle.at_files.proofs.owners.read_numbers.Given as goal
 

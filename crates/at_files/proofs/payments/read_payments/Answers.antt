@@ -1,8 +1,6 @@
 use Rattle.std.proofs.Common.{Err, Result, ap, ◌∙◌, ◌≡◌, sym}
-use Rattle.at_files.specs.declared.payments_fault.BadPayments.{BadPayments}
-use Rattle.at_files.specs.declared.payments_fault.ReadPaymentsFault.{ReadPaymentsFault}
+use Rattle.at_files.proofs.Prelude.{BadPayments, ReadPaymentsFault, calls_or_fault}
 use Rattle.at_files.specs.declared.payments_fault.ReadPaymentsFault.TheVariants.{Bad}
-use Rattle.at_files.specs.Payments.{calls_or_fault}
 use Rattle.at_files.proofs.PaymentsAccepted.{Pays-items_of, Pays-not_bad}
 use Rattle.at_files.proofs.payments.read_payments.Goals as goal
 

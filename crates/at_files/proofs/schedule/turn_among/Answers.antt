@@ -1,5 +1,5 @@
 use Rattle.std.proofs.Common.{◌≡◌, nat_lt, true, refl, arith}
-use Rattle.std.proofs.lemmas.Bool.Decides.{nat_tests}
+use Rattle.at_files.proofs.Prelude.{nat_tests}
 use Rattle.at_files.proofs.schedule.turn_among.Goals as goal
 
 pub returns : goal.returns

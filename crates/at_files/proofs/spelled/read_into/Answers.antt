@@ -1,5 +1,5 @@
 use Rattle.std.proofs.Common.{Err, ◌∙◌, ap, arith}
-use Rattle.std.proofs.lemmas.Grind.{common_steps}
+use Rattle.at_files.proofs.Prelude.{common_steps}
 use Rattle.at_files.proofs.SpelledWalk.{AreSpelled-start, AreSpelled-more, AreSpelled-end, AreSpelled-bad, AreSpelled-many, Bad-same}
 use Rattle.at_files.proofs.spelled.read_into.Goals as goal
 

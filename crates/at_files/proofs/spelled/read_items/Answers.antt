@@ -1,5 +1,5 @@
 use Rattle.std.proofs.Common.{arith}
-use Rattle.std.proofs.lemmas.Grind.{common_steps}
+use Rattle.at_files.proofs.Prelude.{common_steps}
 use Rattle.at_files.proofs.spelled.read_items.Goals as goal
 
 pub returns-in-Ok-read_into-clause-ok : goal.returns-in-Ok-read_into-clause-ok

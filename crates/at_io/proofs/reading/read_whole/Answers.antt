@@ -1,5 +1,5 @@
 use Rattle.std.proofs.Common.{◌≡◌, ◌++◌, [], List, ℕ, Result, Ok, Err, length, ◌∙◌, arith, length-take}
-use Rattle.std.proofs.lemmas.Grind.{common_steps}
+use Rattle.at_io.proofs.Prelude.{common_steps}
 use Rattle.at_io.proofs.reading.read_whole.Goals as goal
 
 -- a value is no error. It is stated over plain variables, since `cc` looks at all that is known where it is called

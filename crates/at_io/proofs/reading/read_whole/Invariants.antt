@@ -1,6 +1,5 @@
 use Rattle.std.proofs.Common.{◌≡◌, ◌+◌, ◌-◌, ◌≤◌, Bool, true, List, ℕ, ◌++◌, length, Option}
-use Rattle.at_io.specs.Limits.{most_file_bytes}
-use Rattle.at_io.specs.Shelf.{SameFiles}
+use Rattle.at_io.proofs.Prelude.{most_file_bytes, SameFiles}
 use Rattle.at_io.proofs.reading.read_whole.Given as goal
 
 -- what was read and what is left are the chosen file, and no fault was counted

@@ -1,8 +1,5 @@
 use Rattle.std.proofs.Common.{◌≡◌, ◌+◌, ◌++◌, ◌∙◌, take, length, List, ℕ, arith, append_assoc}
-use Rattle.std.proofs.lemmas.Grind.{common_steps}
-use Rattle.std.specs.List.{slice_range}
-use Rattle.std.proofs.Math.Seq.{take-add}
-use Rattle.std.proofs.lemmas.List.{take_rest}
+use Rattle.at_io.proofs.Prelude.{common_steps, slice_range, take-add, take_rest}
 use Rattle.at_io.proofs.writing.put_all.Goals as goal
 
 -- a prefix, and then a prefix of the rest, are a longer prefix

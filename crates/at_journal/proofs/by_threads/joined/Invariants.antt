@@ -1,5 +1,5 @@
 use Rattle.std.proofs.Common.{◌≡◌, ◌++◌}
-use Rattle.std.specs.List.{flat_map}
+use Rattle.at_journal.proofs.Prelude.{flat_map}
 use Rattle.at_journal.proofs.by_threads.joined.Given as goal
 
 -- the calls of so many lists are joined

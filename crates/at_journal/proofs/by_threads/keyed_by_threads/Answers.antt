@@ -1,10 +1,5 @@
 use Rattle.std.proofs.Common.{◌≡◌, ◌<◌, [], arith, get_or, length, map, subst, sym, ◌∙◌, List, Vec, ℕ}
-use Rattle.std.proofs.lemmas.Result.{IfOk-weaker}
-use Rattle.std.specs.Global.{Global}
-use Rattle.std.specs.List.{flat_map}
-use Rattle.at_log.specs.JournalOrder.{journal_order}
-use Rattle.at_journal.specs.Ordered.{all_keyed, all_keys}
-use Rattle.at_journal.specs.Positions.{HasOwnPositions, MayBeKeyed}
+use Rattle.at_journal.proofs.Prelude.{IfOk-weaker, Global, flat_map, journal_order, all_keyed, all_keys, HasOwnPositions, MayBeKeyed}
 use Rattle.at_journal.proofs.KeyedByThreads.{joined-all_keyed}
 use Rattle.at_journal.proofs.LinePositions.{HasStarts-receipt}
 use Rattle.at_journal.proofs.OwnPositions.{HasOwnPositions-positions_of}

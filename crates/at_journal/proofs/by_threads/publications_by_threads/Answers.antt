@@ -1,5 +1,5 @@
 use Rattle.std.proofs.Common.{arith}
-use Rattle.std.proofs.lemmas.Grind.{common_steps}
+use Rattle.at_journal.proofs.Prelude.{common_steps}
 use Rattle.at_journal.proofs.JournalRuns.{length-journal_order}
 use Rattle.at_journal.proofs.by_threads.publications_by_threads.Goals as goal
 
@@ -10,6 +10,6 @@ pub returns-clause-small : goal.returns-clause-small
 returns-clause-small g c =
     omega (arith, length-journal_order c.args.closing.now, c.total_of-total.ensures.total, c.total_of-total.ensures.small)
 
-pub returns-in_err-fronts-clause-small : goal.returns-in_err-fronts-clause-small
-returns-in_err-fronts-clause-small g c =
+pub returns-in_err-cuts-clause-small : goal.returns-in_err-cuts-clause-small
+returns-in_err-cuts-clause-small g c =
     omega (arith, length-journal_order c.args.closing.now, c.total_of-total.ensures.total, c.total_of-total.ensures.small)

@@ -1,9 +1,5 @@
-use Rattle.std.proofs.lemmas.Grind.{common_steps}
+use Rattle.at_journal.proofs.Prelude.{common_steps, receipts_of, journal_order, is_success, receipt_at, first_account}
 use Rattle.std.proofs.Common.{◌≡◌, ◌<◌, [], ap, arith, length, map, get_or, subst, sym, ◌∙◌}
-use Rattle.at_log.specs.ClosingTerms.{receipts_of}
-use Rattle.at_log.specs.JournalOrder.{journal_order}
-use Rattle.at_log.specs.Receipts.{is_success, receipt_at}
-use Rattle.at_ledger.specs.Call.{first_account}
 use Rattle.at_journal.proofs.LinePositions.{first_of_round-small, receipt_at-is}
 use Rattle.at_journal.proofs.lines.key_of.Goals.{After-first_of_round, In-Round}
 use Rattle.at_journal.proofs.lines.key_of.Goals as goal

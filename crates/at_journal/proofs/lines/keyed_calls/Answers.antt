@@ -1,9 +1,5 @@
 use Rattle.std.proofs.Common.{◌≡◌, ◌<◌, ◌++◌, [], ap, arith, get_or, length, map, subst, sym, ◌∙◌}
-use Rattle.std.proofs.lemmas.List.{get_or-map, length-map}
-use Rattle.std.specs.List.{flat_map, range_with_len}
-use Rattle.at_log.specs.JournalOrder.{journal_order}
-use Rattle.at_journal.specs.Ordered.{all_keys, keyed_of}
-use Rattle.at_journal.specs.Positions.{HasOwnPositions}
+use Rattle.at_journal.proofs.Prelude.{get_or-map, length-map, flat_map, range_with_len, journal_order, all_keys, keyed_of, HasOwnPositions}
 use Rattle.at_journal.proofs.LineOrder.{get_or-all_keys, length-all_keys}
 use Rattle.at_journal.proofs.LinePositions.{HasStarts-receipt}
 use Rattle.at_journal.proofs.OrderedLaws.{pushed-flat_range}

@@ -1,6 +1,5 @@
 use Rattle.std.proofs.Common.{◌≡◌, [], get_or}
-use Rattle.std.specs.List.{flat_map, range_with_len}
-use Rattle.at_journal.specs.Ordered.{all_keys, keyed_of}
+use Rattle.at_journal.proofs.Prelude.{flat_map, range_with_len, all_keys, keyed_of}
 use Rattle.at_journal.proofs.lines.keyed_calls.Given as goal
 
 abbrev pub invariant-loop-p : goal.invariant-loop-p

@@ -1,5 +1,5 @@
 use Rattle.std.proofs.Common.{arith}
-use Rattle.std.proofs.lemmas.Grind.{common_steps}
+use Rattle.at_journal.proofs.Prelude.{common_steps}
 use Rattle.at_journal.proofs.lines.lines.Goals as goal
 
 pub loop-one-preserved : goal.loop-one-preserved

@@ -1,5 +1,5 @@
 use Rattle.std.proofs.Common.{◌≡◌, map, take}
-use Rattle.at_journal.specs.Calls.{line_at}
+use Rattle.at_journal.proofs.Prelude.{line_at}
 use Rattle.at_journal.proofs.lines.lines.Given as goal
 
 abbrev pub invariant-loop-one : goal.invariant-loop-one

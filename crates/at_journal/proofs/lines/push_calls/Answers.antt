@@ -1,11 +1,5 @@
 use Rattle.std.proofs.Common.{◌≡◌, ℕ, ◌++◌, ◌∷◌, [], ◌+◌, suc, ap, arith, length, map, sym, ◌∙◌}
-use Rattle.std.specs.List.{range_with_len}
-use Rattle.at_log.proofs.Laws.Keys.{length-keys_from, line_key-receipt, previous_key}
-use Rattle.at_log.specs.ClosingTerms.{receipts_of}
-use Rattle.at_log.specs.JournalOrder.{journal_order, line_key}
-use Rattle.at_log.specs.Receipts.{receipt_at}
-use Rattle.at_log.specs.Told.{key_of, keys_of}
-use Rattle.at_journal.specs.declared.keyed.Keyed.{Keyed}
+use Rattle.at_journal.proofs.Prelude.{range_with_len, length-keys_from, line_key-receipt, previous_key, receipts_of, journal_order, line_key, receipt_at, key_of, keys_of, Keyed}
 use Rattle.at_journal.proofs.OrderedLaws.{pushed-range}
 use Rattle.at_journal.proofs.lines.push_calls.Goals as goal
 

@@ -1,7 +1,5 @@
 use Rattle.std.proofs.Common.{◌≡◌, ◌++◌, map}
-use Rattle.std.specs.List.{range_with_len}
-use Rattle.at_log.proofs.Laws.Keys.{previous_key}
-use Rattle.at_log.specs.JournalOrder.{line_key}
+use Rattle.at_journal.proofs.Prelude.{range_with_len, previous_key, line_key}
 use Rattle.at_journal.proofs.lines.push_calls.Given as goal
 
 abbrev pub invariant-loop-number : goal.invariant-loop-number

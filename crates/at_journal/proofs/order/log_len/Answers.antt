@@ -1,6 +1,5 @@
 use Rattle.std.proofs.Common.{◌≡◌, ◌==◌, ℕ, false, sym, ◌∙◌, ◌-◌, ◌<◌, ap, arith, length}
-use Rattle.std.proofs.lemmas.Bool.Decides.{nat_tests}
-use Rattle.at_log.specs.ClosingTerms.{log_of}
+use Rattle.at_journal.proofs.Prelude.{nat_tests, log_of}
 use Rattle.at_journal.proofs.LogViews.{get_or-view, length-view}
 use Rattle.at_journal.proofs.order.log_len.Goals as goal
 

@@ -1,7 +1,5 @@
-use Rattle.std.proofs.lemmas.Grind.{common_steps}
+use Rattle.at_journal.proofs.Prelude.{common_steps, log_of, records_of_process}
 use Rattle.std.proofs.Common.{◌++◌, length, get_or, ◌∙◌, arith}
-use Rattle.at_log.specs.ClosingTerms.{log_of}
-use Rattle.at_journal.specs.Order.{records_of_process}
 use Rattle.at_journal.proofs.OrderedLaws.{pushed-flat_range}
 use Rattle.at_journal.proofs.order.push_last.Goals as goal
 

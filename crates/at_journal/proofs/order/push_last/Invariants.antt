@@ -1,6 +1,5 @@
 use Rattle.std.proofs.Common.{◌≡◌, ◌++◌, get_or, length}
-use Rattle.at_log.specs.ClosingTerms.{log_of}
-use Rattle.at_journal.specs.Order.{records_between}
+use Rattle.at_journal.proofs.Prelude.{log_of, records_between}
 use Rattle.at_journal.proofs.order.push_last.Given as goal
 
 abbrev pub invariant-loop-p : goal.invariant-loop-p

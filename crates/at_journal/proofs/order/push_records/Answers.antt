@@ -1,7 +1,5 @@
 use Rattle.std.proofs.Common.{◌≡◌, ◌++◌, [], ◌∷◌, ◌-◌, ap, append_assoc, arith, map, sym, ◌∙◌}
-use Rattle.std.specs.List.{range_with_len}
-use Rattle.at_journal.specs.Order.{records_of_process}
-use Rattle.at_journal.specs.declared.order.Numbered.{Numbered}
+use Rattle.at_journal.proofs.Prelude.{range_with_len, records_of_process, Numbered}
 use Rattle.at_journal.proofs.OrderSteps.{records_of_process-more}
 use Rattle.at_journal.proofs.order.push_records.Goals as goal
 

@@ -1,5 +1,5 @@
 use Rattle.std.proofs.Common.{◌≡◌, ◌++◌, ◌-◌, ◌≤◌}
-use Rattle.at_journal.specs.Order.{records_of_process}
+use Rattle.at_journal.proofs.Prelude.{records_of_process}
 use Rattle.at_journal.proofs.order.push_records.Given as goal
 
 abbrev pub invariant-loop-number : goal.invariant-loop-number

@@ -1,9 +1,5 @@
-use Rattle.std.proofs.lemmas.Grind.{common_steps}
+use Rattle.at_journal.proofs.Prelude.{common_steps, length-map, sum_by_more, log_lengths, get_or-log_lengths}
 use Rattle.std.proofs.Common.{arith, ◌<◌, length}
-use Rattle.std.proofs.lemmas.List.{length-map}
-use Rattle.std.proofs.lemmas.List.Sums.{sum_by_more}
-use Rattle.at_log.specs.ClosingTerms.{log_lengths}
-use Rattle.at_log.proofs.Laws.PublicationKeys.{get_or-log_lengths}
 use Rattle.at_journal.proofs.order.total_of.Goals as goal
 
 pub loop-p-preserved : goal.loop-p-preserved

@@ -1,5 +1,5 @@
 use Rattle.std.proofs.Common.{◌≡◌, ◌^◌, ◌≤◌, ◌*◌, sum, take}
-use Rattle.at_log.specs.ClosingTerms.{log_lengths}
+use Rattle.at_journal.proofs.Prelude.{log_lengths}
 use Rattle.at_journal.proofs.order.total_of.Given as goal
 
 abbrev pub invariant-loop-p : goal.invariant-loop-p

@@ -1,5 +1,5 @@
 use Rattle.std.proofs.Common.{arith}
-use Rattle.std.proofs.lemmas.Grind.{common_steps}
+use Rattle.at_journal.proofs.Prelude.{common_steps}
 use Rattle.at_journal.proofs.positions.empty_lists.Goals as goal
 
 pub loop-list-preserved : goal.loop-list-preserved

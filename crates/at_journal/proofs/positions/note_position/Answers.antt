@@ -1,8 +1,5 @@
-use Rattle.std.proofs.lemmas.Grind.{common_steps}
+use Rattle.at_journal.proofs.Prelude.{common_steps, set, get_or-map, map-set, IsOnAccount, with_position}
 use Rattle.std.proofs.Common.{◌≡◌, ◌<◌, subst, ◌++◌, [], ◌∷◌, ap, arith, length, map, get_or, sym, ◌∙◌}
-use Rattle.std.proofs.Math.ListN.{set}
-use Rattle.std.proofs.lemmas.List.{get_or-map, map-set}
-use Rattle.at_journal.specs.Positions.{IsOnAccount, with_position}
 use Rattle.at_journal.proofs.RoundPositions.{with_position-next}
 use Rattle.at_journal.proofs.positions.note_position.Goals as goal
 

@@ -1,7 +1,5 @@
 use Rattle.std.proofs.Common.{◌≡◌, ◌<◌, ◌+◌, ◌++◌, [], ◌∷◌, ap, arith, get_or, length, map, refl, subst, sym, ◌∙◌}
-use Rattle.std.proofs.Math.ListN.{set}
-use Rattle.std.proofs.lemmas.List.{get_or-map, length-map, map-set}
-use Rattle.at_journal.specs.Order.{no_number}
+use Rattle.at_journal.proofs.Prelude.{set, get_or-map, length-map, map-set, no_number}
 use Rattle.at_journal.proofs.OwnPositions.{HasFound, HasFound-more, HasFound-none}
 use Rattle.at_journal.proofs.positions.own_positions.Goals as goal
 

@@ -1,9 +1,5 @@
-use Rattle.std.proofs.lemmas.Grind.{common_steps}
+use Rattle.at_journal.proofs.Prelude.{common_steps, length-map, publication_at, journal_order, HasRoundPositions, IsOnAccount, with_position}
 use Rattle.std.proofs.Common.{◌≡◌, ◌+◌, ◌<◌, [], ap, arith, length, map, replicate, sym, subst, take, ◌∙◌}
-use Rattle.std.proofs.lemmas.List.{length-map}
-use Rattle.at_history.specs.BoardState.{publication_at}
-use Rattle.at_log.specs.JournalOrder.{journal_order}
-use Rattle.at_journal.specs.Positions.{HasRoundPositions, IsOnAccount, with_position}
 use Rattle.at_journal.proofs.NamedLaws.{entry-published_in, length-published_in}
 use Rattle.at_journal.proofs.RoundPositions.{HasRoundPositions-more, HasRoundPositions-none, IsOnAccount-journal_order}
 use Rattle.at_journal.proofs.positions.round_positions.Goals as goal

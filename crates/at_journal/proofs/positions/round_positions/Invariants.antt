@@ -1,6 +1,5 @@
 use Rattle.std.proofs.Common.{length, map, take}
-use Rattle.at_log.specs.JournalOrder.{journal_order}
-use Rattle.at_journal.specs.Positions.{HasRoundPositions}
+use Rattle.at_journal.proofs.Prelude.{journal_order, HasRoundPositions}
 use Rattle.at_journal.proofs.positions.round_positions.Given as goal
 
 abbrev pub invariant-loop-position : goal.invariant-loop-position

@@ -1,5 +1,5 @@
 use Rattle.std.proofs.Common.{◌∙◌, sym, arith}
-use Rattle.std.proofs.lemmas.Grind.{common_steps}
+use Rattle.at_ledger.proofs.Prelude.{common_steps}
 use Rattle.at_ledger.proofs.Owners.{owners_fault-drop_good, owners_fault-drop_bad, owners_fault-drop_all}
 use Rattle.at_ledger.proofs.draft.checked_owners.Goals as goal
 

@@ -1,5 +1,5 @@
 use Rattle.std.proofs.Common.{◌≡◌, length, take, drop}
-use Rattle.at_ledger.specs.Draft.{owners_fault}
+use Rattle.at_ledger.proofs.Prelude.{owners_fault}
 use Rattle.at_ledger.proofs.draft.checked_owners.Given as goal
 
 abbrev pub invariant-loop-owner : goal.invariant-loop-owner

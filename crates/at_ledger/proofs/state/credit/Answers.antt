@@ -1,7 +1,5 @@
 use Rattle.std.proofs.Common.{◌<◌, length, sym, ◌∙◌, arith}
-use Rattle.std.proofs.lemmas.Grind.{common_steps}
-use Rattle.std.proofs.lemmas.List.Elements.{All-get_or}
-use Rattle.std.proofs.lemmas.List.Sums.{get_or-le-sum_by}
+use Rattle.at_ledger.proofs.Prelude.{common_steps, All-get_or, get_or-le-sum_by}
 use Rattle.at_ledger.proofs.Credited.{amount_of-drop_more, credited-drop_more, credited-drop_all, sum-set_more}
 use Rattle.at_ledger.proofs.state.credit.Goals as goal
 

@@ -1,6 +1,5 @@
 use Rattle.std.proofs.Common.{◌≡◌, ◌+◌, drop, sum}
-use Rattle.at_ledger.specs.Call.{amount_of}
-use Rattle.at_ledger.specs.State.{credited}
+use Rattle.at_ledger.proofs.Prelude.{amount_of, credited}
 use Rattle.at_ledger.proofs.state.credit.Given as goal
 
 abbrev pub invariant-loop-i : goal.invariant-loop-i

@@ -1,5 +1,5 @@
 use Rattle.std.proofs.Common.{arith}
-use Rattle.std.proofs.lemmas.Grind.{common_steps}
+use Rattle.at_loading.proofs.Prelude.{common_steps}
 use Rattle.at_loading.proofs.asked.asked_by.Goals as goal
 
 pub returns-in-make-clause-asked : goal.returns-in-make-clause-asked

@@ -1,5 +1,5 @@
 use Rattle.std.proofs.Common.{arith}
-use Rattle.std.proofs.lemmas.Grind.{common_steps}
+use Rattle.at_loading.proofs.Prelude.{common_steps}
 use Rattle.at_loading.proofs.asked.verify_asked.Goals as goal
 
 pub returns-clause-asked : goal.returns-clause-asked

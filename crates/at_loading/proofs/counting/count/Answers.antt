@@ -1,8 +1,5 @@
 use Rattle.std.proofs.Common.{◌≡◌, ◌∙◌, ap, length, refl, sym, string_bytes, Err}
-use Rattle.std.proofs.lemmas.List.{length-map}
-use Rattle.at_ledger.proofs.FileLists.{length-contents_of}
-use Rattle.at_loading.specs.Loading.{loaded_shown, named_book}
-use Rattle.at_loading.specs.Words.{form_shown}
+use Rattle.at_loading.proofs.Prelude.{length-map, length-contents_of, loaded_shown, named_book, form_shown}
 use Rattle.at_loading.proofs.CountLaws.{All-IsCount, CountsRead-counted, MayReach-counted, MayRefuse-counted}
 use Rattle.at_loading.proofs.Laws.MayRefuse.{refusal_of}
 use Rattle.at_loading.proofs.counting.count.Goals as goal

@@ -1,5 +1,5 @@
 use Rattle.std.proofs.Common.{◌≡◌, ◌∙◌, ◌<◌, ap, get_or, length, arith}
-use Rattle.at_loading.specs.Counting.{IsCount}
+use Rattle.at_loading.proofs.Prelude.{IsCount}
 use Rattle.at_loading.proofs.CountLaws.{IsCount-at, sum_by-number_more}
 use Rattle.at_loading.proofs.counting.total.Goals as goal
 

@@ -1,5 +1,5 @@
 use Rattle.std.proofs.Common.{◌≡◌, ◌*◌, ◌≤◌, take, sum, sum_by}
-use Rattle.at_ledger.specs.Files.{contents_of}
+use Rattle.at_loading.proofs.Prelude.{contents_of}
 use Rattle.at_loading.proofs.counting.total.Given as goal
 
 abbrev pub invariant-loop-file : goal.invariant-loop-file

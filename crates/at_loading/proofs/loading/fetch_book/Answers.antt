@@ -1,7 +1,6 @@
 use Rattle.std.proofs.Common.{Err, ap, refl, arith}
-use Rattle.std.proofs.lemmas.Grind.{common_steps}
+use Rattle.at_loading.proofs.Prelude.{common_steps, book_loaded, fetched}
 use Rattle.at_loading.proofs.Laws.MayRefuse.{MayRefuse-whole, book-read_fault, made-refused, memory-read_fault, refusal_of}
-use Rattle.at_loading.specs.Loading.{book_loaded, fetched}
 use Rattle.at_loading.proofs.loading.fetch_book.Goals as goal
 
 pub returns-in-Err : goal.returns-in-Err

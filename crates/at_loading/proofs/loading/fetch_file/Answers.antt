@@ -1,5 +1,5 @@
 use Rattle.std.proofs.Common.{inl, inr, refl, arith}
-use Rattle.std.proofs.lemmas.Grind.{common_steps}
+use Rattle.at_loading.proofs.Prelude.{common_steps}
 use Rattle.at_loading.proofs.Laws.MayRefuse.{long-read_fault, made-refused, memory-read_fault, read_fault-file}
 use Rattle.at_loading.proofs.loading.fetch_file.Goals as goal
 

@@ -1,11 +1,8 @@
 use Rattle.std.proofs.Common.{◌≡◌, ◌∙◌, ap, refl, arith, length, sym, Err}
-use Rattle.std.proofs.lemmas.List.{length-map}
+use Rattle.at_loading.proofs.Prelude.{length-map, length-contents_of, words_of, all_loaded, named_book}
 use Rattle.std.specs.Prelude.{string_bytes}
-use Rattle.at_ledger.proofs.FileLists.{length-contents_of}
-use Rattle.at_loading.specs.Words.{words_of}
 use Rattle.at_loading.proofs.Laws.FilesLoaded.{MayReach-file, loaded-files, loaded-refused}
 use Rattle.at_loading.proofs.Laws.MayRefuse.{MayRefuse-whole, later-then, made-refused, refusal_of}
-use Rattle.at_loading.specs.Loading.{all_loaded, named_book}
 use Rattle.at_loading.proofs.loading.load_all.Goals as goal
 
 pub returns-in-Err : goal.returns-in-Err

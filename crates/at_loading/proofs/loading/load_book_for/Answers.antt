@@ -1,10 +1,8 @@
 use Rattle.std.proofs.Common.{◌≡◌, ◌∙◌, ap, refl, arith, length, Err}
-use Rattle.std.proofs.lemmas.List.{length-map}
+use Rattle.at_loading.proofs.Prelude.{length-map, words_of, all_loaded, book_loaded, named_book}
 use Rattle.std.specs.Prelude.{string_bytes}
-use Rattle.at_loading.specs.Words.{words_of}
 use Rattle.at_loading.proofs.Laws.FilesLoaded.{MayReach-book, loaded-count}
 use Rattle.at_loading.proofs.Laws.MayRefuse.{MayRefuse-whole, made-refused, refusal_of, usage-read_fault}
-use Rattle.at_loading.specs.Loading.{all_loaded, book_loaded, named_book}
 use Rattle.at_loading.proofs.loading.load_book_for.Goals as goal
 
 pub returns-in-Err : goal.returns-in-Err

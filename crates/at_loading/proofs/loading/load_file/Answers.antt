@@ -1,9 +1,6 @@
 use Rattle.std.proofs.Common.{◌+◌, ◌≡◌, ℕ, Err, List, Ok, OnOk, Result, ap, refl, arith}
-use Rattle.std.proofs.lemmas.Result.{IfErr-weaker, IfOk-weaker}
-use Rattle.at_report.specs.declared.status.Status.{Status}
-use Rattle.at_report.specs.Lines.{Word}
+use Rattle.at_loading.proofs.Prelude.{IfErr-weaker, IfOk-weaker, Status, Word, Files, Giving, fetched, file_loaded, named_book}
 use Rattle.at_loading.proofs.Laws.MayRefuse.{HasFileNumbers-file, MayRefuse-file, MayRefuse-whole, refusal_of}
-use Rattle.at_loading.specs.Loading.{Files, Giving, fetched, file_loaded, named_book}
 use Rattle.at_loading.proofs.loading.load_file.Goals as goal
 
 on_any : {A E : Type 0} (r : Result A E) (P : Type 0) → P → OnOk r P

@@ -1,11 +1,5 @@
-use Rattle.std.proofs.lemmas.Grind.{common_steps}
+use Rattle.at_loading.proofs.Prelude.{common_steps, length-map, take_all, All-push, contents_of, contents_of-nil, contents_of-pushed, length-contents_of, words_of, IsSpelled, named_book}
 use Rattle.std.proofs.Common.{◌≡◌, ◌∙◌, ◌<◌, [], ◌∷◌, Err, ap, get_or, length, refl, string_bytes, sym, take, arith, length-append}
-use Rattle.std.proofs.lemmas.List.{length-map, take_all}
-use Rattle.std.proofs.lemmas.List.Elements.{All-push}
-use Rattle.at_ledger.specs.Files.{contents_of}
-use Rattle.at_ledger.proofs.FileLists.{contents_of-nil, contents_of-pushed, length-contents_of}
-use Rattle.at_loading.specs.Words.{words_of}
-use Rattle.at_loading.specs.Loading.{IsSpelled, named_book}
 use Rattle.at_loading.proofs.Laws.FilesLoaded.{EachSpells-push, files_loaded-nil, files_loaded-refused_at, files_loaded-take_more, get_or-words_of, same_length}
 use Rattle.at_loading.proofs.Laws.MayRefuse.{MayRefuse-whole, later-kept, made-refused, memory-read_fault, refusal_of}
 use Rattle.at_loading.proofs.loading.load_files.Goals as goal

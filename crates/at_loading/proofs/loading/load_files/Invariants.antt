@@ -1,8 +1,5 @@
 use Rattle.std.proofs.Common.{◌≡◌, true, Ok, take, length, All}
-use Rattle.at_ledger.specs.Files.{contents_of}
-use Rattle.at_io.specs.Shelf.{SameFiles}
-use Rattle.at_loading.specs.Words.{words_of}
-use Rattle.at_loading.specs.Loading.{EachSpells, IsSpelled, files_loaded, named_book}
+use Rattle.at_loading.proofs.Prelude.{contents_of, SameFiles, words_of, EachSpells, IsSpelled, files_loaded, named_book}
 use Rattle.at_loading.proofs.loading.load_files.Given as goal
 
 abbrev pub invariant-loop-process : goal.invariant-loop-process

@@ -1,10 +1,6 @@
 use Rattle.std.proofs.Common.{◌≡◌, ◌∙◌, ap, refl, arith, length, sym, Err}
-use Rattle.std.proofs.lemmas.List.{length-map}
+use Rattle.at_loading.proofs.Prelude.{length-map, length-contents_of, payments, calls_given, loaded, named_book, form_shown, words_of}
 use Rattle.std.specs.Prelude.{string_bytes}
-use Rattle.at_ledger.proofs.FileLists.{length-contents_of}
-use Rattle.at_loading.specs.Faults.Kind.{payments}
-use Rattle.at_loading.specs.Loading.{calls_given, loaded, named_book}
-use Rattle.at_loading.specs.Words.{form_shown, words_of}
 use Rattle.at_loading.proofs.Laws.FilesLoaded.{MayReach-file, loaded-files, loaded-refused}
 use Rattle.at_loading.proofs.Laws.MayRefuse.{MayRefuse-whole, made-refused, refusal_of}
 use Rattle.at_loading.proofs.Laws.SpelledLoaded.{IsPlayable-each}

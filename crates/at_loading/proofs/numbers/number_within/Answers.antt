@@ -1,5 +1,5 @@
 use Rattle.std.proofs.Common.{arith}
-use Rattle.std.proofs.lemmas.Grind.{common_steps}
+use Rattle.at_loading.proofs.Prelude.{common_steps}
 use Rattle.at_loading.proofs.numbers.number_within.Goals as goal
 
 pub overflow_cast-result : goal.overflow_cast-result

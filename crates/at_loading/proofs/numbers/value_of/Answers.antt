@@ -1,5 +1,5 @@
 use Rattle.std.proofs.Common.{arith}
-use Rattle.std.proofs.lemmas.Grind.{common_steps}
+use Rattle.at_loading.proofs.Prelude.{common_steps}
 use Rattle.at_loading.proofs.numbers.value_of.Goals as goal
 
 pub returns-in_err-n-clause-below : goal.returns-in_err-n-clause-below

@@ -1,9 +1,5 @@
-use Rattle.std.proofs.lemmas.Grind.{common_steps}
+use Rattle.at_loading.proofs.Prelude.{common_steps, length_push, length-map, All-push, number_of, small, words_of}
 use Rattle.std.proofs.Common.{◌≡◌, ◌^◌, ◌<◌, [], get_or, length, sym, ◌∙◌, ap, arith}
-use Rattle.std.proofs.lemmas.List.{length_push, length-map}
-use Rattle.std.proofs.lemmas.List.Elements.{All-push}
-use Rattle.at_base.specs.Numbers.{number_of}
-use Rattle.at_loading.specs.Words.{small, words_of}
 use Rattle.at_loading.proofs.Laws.FilesLoaded.{get_or-words_of}
 use Rattle.at_loading.proofs.ValueLaws.{values_named-take_more}
 use Rattle.at_loading.proofs.numbers.values_of.Goals as goal

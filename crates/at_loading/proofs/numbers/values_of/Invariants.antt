@@ -1,5 +1,5 @@
 use Rattle.std.proofs.Common.{◌≡◌, ◌^◌, ◌<◌, length, take, All, Some}
-use Rattle.at_loading.specs.Words.{values_named, words_of}
+use Rattle.at_loading.proofs.Prelude.{values_named, words_of}
 use Rattle.at_loading.proofs.numbers.values_of.Given as goal
 
 -- so many words are values

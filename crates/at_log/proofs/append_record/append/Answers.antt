@@ -1,14 +1,7 @@
 use Rattle.std.proofs.Common.{◌≡◌, ◌<◌, length, refl, ap, ◌∙◌, arith}
-use Rattle.at_ledger.specs.Book.{BookTerms}
-use Rattle.at_history.proofs.Laws.Fronts.{length-IsFront}
-use Rattle.at_board.specs.declared.knowledge.Knowledge.{Knowledge}
-use Rattle.at_board.specs.Words.Addresses.{record_width}
-use Rattle.at_board.specs.Knowledge.Parts.{own_part}
-use Rattle.at_board.specs.Words.Packed.{record_words}
+use Rattle.at_log.proofs.Prelude.{BookTerms, length-IsCut, Knowledge, record_width, own_part, record_words, Record, published_by}
 use Rattle.at_log.proofs.Laws.StoredWords.{FitsNext-MayAppend, IsStoring-more, MayPublish-IsStoring, MayStoreWord-IsStoring, Publishes-IsStoring}
 use Rattle.at_log.proofs.Laws.LastRecord.{IsLast-Publishes}
-use Rattle.at_log.specs.declared.record.Record.{Record}
-use Rattle.at_log.specs.ClosingTerms.{published_by}
 use Rattle.at_log.proofs.append_record.append.Goals.{After-processes-width}
 use Rattle.at_log.proofs.append_record.append.Goals as goal
 
@@ -27,7 +20,7 @@ record_word-word-requires-clause-word c =
       arith,
       c.loop-j-test.true,
       processes (goal.at.record_word-word-requires-clause-word c).After-processes-width,
-      length-IsFront c.args.board.now.book.processes x.view c.args.seat.now.knows.seen c.requires.record.view.front,
+      length-IsCut c.args.board.now.book.processes x.view c.args.seat.now.knows.seen c.requires.record.view.cut,
     )
 
 pub store_record_word-requires-clause-word : goal.store_record_word-requires-clause-word

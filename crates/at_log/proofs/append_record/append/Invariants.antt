@@ -1,8 +1,5 @@
 use Rattle.std.proofs.Common.{◌≡◌}
-use Rattle.at_board.specs.Counting.{raised}
-use Rattle.at_board.specs.Words.Packed.{record_words}
-use Rattle.at_log.specs.Appending.{IsStoring}
-use Rattle.at_log.specs.ClosingTerms.{published_by}
+use Rattle.at_log.proofs.Prelude.{raised, record_words, IsStoring, published_by}
 use Rattle.at_log.proofs.append_record.append.Given as goal
 
 -- so many words are stored, a step for each

@@ -1,12 +1,5 @@
 use Rattle.std.proofs.Common.{◌≡◌, [], get_or, ap, ◌∙◌, arith}
-use Rattle.std.proofs.lemmas.Grind.{same_number_lists}
-use Rattle.std.proofs.lemmas.List.{get_or_append_left}
-use Rattle.at_history.specs.BoardState.{publication_at}
-use Rattle.at_history.specs.Publications.{publications_of}
-use Rattle.at_history.specs.declared.publication.Publication.{Publication}
-use Rattle.at_board.specs.Ends.Closing.{records_of}
-use Rattle.at_board.specs.Words.Packed.{entry_words, record_words}
-use Rattle.at_board.specs.declared.words.TheConstants.{RECORD_WORDS}
+use Rattle.at_log.proofs.Prelude.{same_number_lists, get_or_append_left, publication_at, publications_of, Publication, records_of, entry_words, record_words, RECORD_WORDS}
 use Rattle.at_log.proofs.Laws.EndedRecords.{get_or-records_of, length-records_of}
 use Rattle.at_log.proofs.ended_words.ended_entry.Goals as goal
 

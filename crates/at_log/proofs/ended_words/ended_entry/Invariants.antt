@@ -1,5 +1,5 @@
 use Rattle.std.proofs.Common.{◌≡◌, ℕ, ◌<◌, get_or, length}
-use Rattle.at_board.specs.declared.words.TheConstants.{RECORD_WORDS}
+use Rattle.at_log.proofs.Prelude.{RECORD_WORDS}
 use Rattle.at_log.proofs.Laws.EndedRecords.{ended_word}
 use Rattle.at_log.proofs.ended_words.ended_entry.Given as goal
 

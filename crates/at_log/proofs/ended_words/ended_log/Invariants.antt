@@ -1,6 +1,5 @@
 use Rattle.std.proofs.Common.{◌≡◌, ◌≤◌, length}
-use Rattle.std.specs.Vec.{vec_capacity, vec_len}
-use Rattle.at_board.specs.Ends.Closing.{records_of}
+use Rattle.at_log.proofs.Prelude.{vec_capacity, vec_len, records_of}
 use Rattle.at_log.proofs.Laws.EndedRecords.{AreFirstRecords}
 use Rattle.at_log.proofs.ended_words.ended_log.Given as goal
 

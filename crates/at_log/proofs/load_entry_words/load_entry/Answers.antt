@@ -1,15 +1,5 @@
 use Rattle.std.proofs.Common.{◌≡◌, get_or, set, sym, subst, ◌∙◌, arith, below_more}
-use Rattle.std.proofs.lemmas.Grind.{same_number_lists}
-use Rattle.std.proofs.lemmas.List.{get_or_append_left, get_or-set_other, get_or-set_same, length-set}
-use Rattle.at_history.specs.declared.publication.Publication.{Publication}
-use Rattle.at_board.specs.declared.knowledge.Knowledge.{Knowledge}
-use Rattle.at_history.specs.BoardState.{publication_at}
-use Rattle.at_history.specs.Publications.{publications_of}
-use Rattle.at_board.proofs.Counting.{stepped-stepped}
-use Rattle.at_board.specs.Knowledge.Records.{IsRecordWord}
-use Rattle.at_board.specs.Knowledge.Seats.{SeatTerms}
-use Rattle.at_board.specs.Words.Packed.{entry_words}
-use Rattle.at_board.specs.declared.words.TheConstants.{RECORD_WORDS}
+use Rattle.at_log.proofs.Prelude.{same_number_lists, get_or_append_left, get_or-set_other, get_or-set_same, length-set, Publication, Knowledge, publication_at, publications_of, stepped-stepped, IsRecordWord, SeatTerms, entry_words, RECORD_WORDS}
 use Rattle.at_log.proofs.load_entry_words.load_entry.Goals as goal
 
 pub loop-j-preserved : goal.loop-j-preserved

@@ -1,7 +1,5 @@
 use Rattle.std.proofs.Common.{◌≡◌, ℕ, ◌<◌, get_or, length}
-use Rattle.at_board.specs.Counting.{stepped}
-use Rattle.at_board.specs.Knowledge.Records.{IsRecordWord}
-use Rattle.at_board.specs.declared.words.TheConstants.{RECORD_WORDS}
+use Rattle.at_log.proofs.Prelude.{stepped, IsRecordWord, RECORD_WORDS}
 use Rattle.at_log.proofs.load_entry_words.load_entry.Given as goal
 
 -- so many words are loaded, a step for each

@@ -1,11 +1,5 @@
 use Rattle.std.proofs.Common.{◌≡◌, ◌+◌, ◌^◌, ◌<◌, length, sym, ap, subst, ◌∙◌, arith}
-use Rattle.std.proofs.lemmas.List.{length-set}
-use Rattle.at_ledger.specs.Book.{BookTerms, IsBook}
-use Rattle.at_board.specs.Knowledge.Records.{IsRecordWord}
-use Rattle.at_board.specs.Knowledge.Seats.{SeatTerms}
-use Rattle.at_history.specs.Histories.{IsHistory}
-use Rattle.at_board.specs.declared.words.TheConstants.{RECORD_WORDS}
-use Rattle.at_board.proofs.Counting.{stepped-stepped}
+use Rattle.at_log.proofs.Prelude.{length-set, BookTerms, IsBook, IsRecordWord, SeatTerms, IsHistory, RECORD_WORDS, stepped-stepped}
 use Rattle.at_log.proofs.Laws.SeenRecords.{IsLoaded, IsLoaded-more, IsViewOf-IsLoaded, small-IsRecordWord}
 use Rattle.at_log.proofs.load_view_words.load_view.Goals.{After-load_record_word-count, After-processes-processes}
 use Rattle.at_log.proofs.load_view_words.load_view.Goals as goal

@@ -1,5 +1,5 @@
 use Rattle.std.proofs.Common.{◌≡◌, length}
-use Rattle.at_board.specs.Counting.{stepped}
+use Rattle.at_log.proofs.Prelude.{stepped}
 use Rattle.at_log.proofs.Laws.SeenRecords.{IsLoaded}
 use Rattle.at_log.proofs.load_view_words.load_view.Given as goal
 

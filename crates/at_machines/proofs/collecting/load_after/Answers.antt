@@ -1,4 +1,4 @@
-use Rattle.at_history.proofs.Laws.Prefixes.{IsPrefix-trans}
+use Rattle.at_machines.proofs.Prelude.{IsPrefix-trans}
 use Rattle.at_machines.proofs.CollectingLaws.{LoadsLength-LearnsOverview}
 use Rattle.at_machines.proofs.collecting.load_after.Goals as goal
 

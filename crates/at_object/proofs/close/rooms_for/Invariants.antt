@@ -1,8 +1,5 @@
 use Rattle.std.proofs.Common.{◌≡◌, ℕ, ◌<◌, ◌≤◌, [], Vec, Global, length, get_or}
-use Rattle.std.specs.Vec.{vec_capacity}
-use Rattle.at_board.specs.Knowledge.Parts.{own_part}
-use Rattle.at_log.specs.declared.record.Record.{Record}
-use Rattle.at_object.specs.Passes.{PassTerms}
+use Rattle.at_object.proofs.Prelude.{vec_capacity, own_part, Record, PassTerms}
 use Rattle.at_object.proofs.close.rooms_for.Given as goal
 
 -- so many lists are made

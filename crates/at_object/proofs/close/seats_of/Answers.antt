@@ -1,9 +1,5 @@
 use Rattle.std.proofs.Common.{◌≡◌, List, [], ◌∷◌, ◌++◌, map, sym, ap, subst, ◌∙◌, append_assoc, arith}
-use Rattle.std.proofs.lemmas.List.Elements.{All-push}
-use Rattle.at_board.specs.Knowledge.Seats.{SeatTerms}
-use Rattle.at_object.specs.Parted.{IsAtRest}
-use Rattle.at_object.specs.Passes.{PassTerms, seat_of}
-use Rattle.std.specs.List.{All}
+use Rattle.at_object.proofs.Prelude.{All-push, SeatTerms, IsAtRest, PassTerms, seat_of, All}
 use Rattle.at_object.proofs.close.seats_of.Goals as goal
 
 pub loop-pass-preserved : goal.loop-pass-preserved

@@ -1,8 +1,5 @@
 use Rattle.std.proofs.Common.{◌≡◌, ◌+◌, ◌≤◌, ◌++◌, map}
-use Rattle.std.specs.List.{All}
-use Rattle.std.specs.Vec.{vec_capacity, vec_len}
-use Rattle.at_object.specs.Parted.{IsAtRest}
-use Rattle.at_object.specs.Passes.{seat_of}
+use Rattle.at_object.proofs.Prelude.{All, vec_capacity, vec_len, IsAtRest, seat_of}
 use Rattle.at_object.proofs.close.seats_of.Given as goal
 
 -- the seats are those that were taken, and those of the other passes. There is room for these

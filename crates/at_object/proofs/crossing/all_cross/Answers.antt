@@ -1,4 +1,4 @@
-use denote.Param.Send.{sendable}
+use Rattle.at_object.proofs.Prelude.{sendable}
 use Rattle.at_object.proofs.Sharing.{pass_send}
 use Rattle.at_object.proofs.crossing.all_cross.Goals as goal
 

@@ -1,10 +1,6 @@
 use Rattle.std.proofs.Common.{◌≡◌, List, [], ◌∷◌, ◌++◌, refl, sym, ap, subst, ◌∙◌, length, append_assoc, arith}
-use Rattle.std.proofs.lemmas.Grind.{common_steps}
-use Rattle.std.proofs.lemmas.List.{length-append}
-use Rattle.at_board.specs.Knowledge.Seats.{SeatTerms}
+use Rattle.at_object.proofs.Prelude.{common_steps, length-append, SeatTerms, pass_of, IsPass, PassTerms}
 use Rattle.at_object.proofs.Laws.NewPasses.{AreNewPasses-all, AreNewSoFar, AreNewSoFar-more, IsPass-starting, new_seat-at}
-use Rattle.at_object.specs.Parted.{pass_of}
-use Rattle.at_object.specs.Passes.{IsPass, PassTerms}
 use Rattle.at_object.proofs.ledger.passes_for.Goals as goal
 
 pub invariant_of-push : goal.invariant_of-push

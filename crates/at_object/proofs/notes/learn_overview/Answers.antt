@@ -1,4 +1,4 @@
-use Rattle.at_history.specs.Publications.{longer}
+use Rattle.at_object.proofs.Prelude.{longer}
 use Rattle.at_object.proofs.Laws.Learning.{IsOfOnePass-learned, Stands-learned, sent_by-learned}
 use Rattle.at_object.proofs.notes.learn_overview.Goals as goal
 

@@ -1,5 +1,5 @@
 use Rattle.std.proofs.Common.{◌≡◌, map, take}
-use Rattle.at_orders.specs.Replies.{range_at}
+use Rattle.at_orders.proofs.Prelude.{range_at}
 use Rattle.at_orders.proofs.alone.openings.Given as goal
 
 abbrev pub invariant-loop-account : goal.invariant-loop-account

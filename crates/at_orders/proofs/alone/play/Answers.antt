@@ -1,15 +1,6 @@
 use Rattle.std.proofs.Common.{◌≡◌, ◌+◌, ◌++◌, ◌⊎◌, ℕ, [], ◌∷◌, Some, List, length, get_or, sym, ap, subst, ◌∙◌, arith}
 use Rattle.std.specs.Prelude.{slice_get}
-use Rattle.std.specs.Vec.{with_items}
-use Rattle.std.proofs.lemmas.List.{with_items_is}
-use Rattle.std.proofs.lemmas.Option.{slice_get-get_or}
-use Rattle.at_ledger.specs.Call.{IsCallOn}
-use Rattle.at_ledger.specs.State.{LedgerState, step}
-use Rattle.at_ledger.specs.declared.call.Call.{Call}
-use Rattle.at_ledger.specs.declared.call.Reply.{Reply}
-use Rattle.at_orders.specs.Alone.{IsAloneTo, Names, alone_at, range_in}
-use Rattle.at_orders.specs.Replies.{range_with}
-use Rattle.at_orders.specs.declared.replies.Range.{Range}
+use Rattle.at_orders.proofs.Prelude.{with_items, with_items_is, slice_get-get_or, IsCallOn, LedgerState, step, Call, Reply, IsAloneTo, Names, alone_at, range_in, range_with, Range}
 use Rattle.at_orders.proofs.Covering.{alone-along, alone-next, alone-none}
 use Rattle.at_orders.proofs.Playing.{alone-begun, alone-book, alone-played}
 use Rattle.at_orders.proofs.alone.play.Goals as goal

@@ -1,5 +1,5 @@
 use Rattle.std.proofs.Common.{◌≡◌}
-use Rattle.at_orders.specs.Alone.{IsAloneTo, alone_at}
+use Rattle.at_orders.proofs.Prelude.{IsAloneTo, alone_at}
 use Rattle.at_orders.proofs.alone.play.Given as goal
 
 abbrev pub invariant-loop-call : goal.invariant-loop-call

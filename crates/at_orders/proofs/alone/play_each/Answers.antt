@@ -1,12 +1,5 @@
-use Rattle.std.proofs.lemmas.Grind.{common_steps}
+use Rattle.at_orders.proofs.Prelude.{common_steps, contents_of, get_or-contents_of, length-contents_of, IsCallOn, Call, AreAlone, IsAlone, asked_in_file, Alone}
 use Rattle.std.proofs.Common.{◌≡◌, ◌+◌, ◌<◌, [], List, length, get_or, All, sym, subst, ◌∙◌, arith}
-use Rattle.at_ledger.specs.Files.{contents_of}
-use Rattle.at_ledger.proofs.FileLists.{get_or-contents_of, length-contents_of}
-use Rattle.at_ledger.specs.Call.{IsCallOn}
-use Rattle.at_ledger.specs.declared.call.Call.{Call}
-use Rattle.at_orders.specs.Alone.{AreAlone, IsAlone}
-use Rattle.at_orders.specs.Covered.{asked_in_file}
-use Rattle.at_orders.specs.declared.alone.Alone.{Alone}
 use Rattle.at_orders.proofs.Playing.{alone-pushed}
 use Rattle.at_orders.proofs.Sums.{term-up}
 use Rattle.at_orders.proofs.alone.play_each.Goals as goal

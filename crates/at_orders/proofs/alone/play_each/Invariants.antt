@@ -1,5 +1,4 @@
-use Rattle.at_ledger.specs.Files.{contents_of}
-use Rattle.at_orders.specs.Alone.{AreAlone}
+use Rattle.at_orders.proofs.Prelude.{contents_of, AreAlone}
 use Rattle.at_orders.proofs.alone.play_each.Given as goal
 
 abbrev pub invariant-loop-process : goal.invariant-loop-process

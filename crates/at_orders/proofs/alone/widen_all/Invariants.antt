@@ -1,7 +1,5 @@
 use Rattle.std.proofs.Common.{◌≡◌, ◌⊎◌, ℕ, ◌<◌, get_or, length}
-use Rattle.at_ledger.specs.State.{balance_of}
-use Rattle.at_orders.specs.Alone.{range_in}
-use Rattle.at_orders.specs.Replies.{range_with}
+use Rattle.at_orders.proofs.Prelude.{balance_of, range_in, range_with}
 use Rattle.at_orders.proofs.alone.widen_all.Given as goal
 
 abbrev pub invariant-loop-i : goal.invariant-loop-i

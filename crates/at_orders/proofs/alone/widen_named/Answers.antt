@@ -1,8 +1,6 @@
-use Rattle.std.proofs.lemmas.Grind.{common_steps}
+use Rattle.at_orders.proofs.Prelude.{common_steps, IsCallOn-more, BookTerms}
 use Rattle.std.proofs.Common.{⊎_elim, ◌<◌, length, get_or, sym, ◌∙◌, arith, ◌^◌, ap}
 use Rattle.at_orders.proofs.Playing.{names-none, names-pays, source-in, widened-both, widened-more, widened-source}
-use Rattle.at_ledger.proofs.Calls.{IsCallOn-more}
-use Rattle.at_ledger.specs.Book.{BookTerms}
 use Rattle.at_orders.proofs.alone.widen_named.Goals as goal
 
 -- the source is an account

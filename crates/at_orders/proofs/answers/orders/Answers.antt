@@ -1,5 +1,5 @@
 use Rattle.std.proofs.Common.{arith}
-use Rattle.std.proofs.lemmas.Grind.{common_steps}
+use Rattle.at_orders.proofs.Prelude.{common_steps}
 use Rattle.at_orders.proofs.answers.orders.Goals as goal
 
 pub covered_answers-requires-clause-covered : goal.covered_answers-requires-clause-covered

@@ -1,14 +1,5 @@
-use Rattle.std.proofs.lemmas.Grind.{common_steps}
+use Rattle.at_orders.proofs.Prelude.{common_steps, with_items, get_or-map, length-map, with_items_is, contents_of, get_or-contents_of, length-contents_of, AccountTerms, no_account, BookTerms, account_of, IsCallOn, Call, AreShort, AreTaken, OpeningsCover, asked_in_file, asked_in_files}
 use Rattle.std.proofs.Common.{◌≡◌, ℕ, ◌+◌, ◌<◌, [], List, length, get_or, All, sym, ap, subst, ◌∙◌, arith}
-use Rattle.std.specs.Vec.{with_items}
-use Rattle.std.proofs.lemmas.List.{get_or-map, length-map, with_items_is}
-use Rattle.at_ledger.specs.Files.{contents_of}
-use Rattle.at_ledger.proofs.FileLists.{get_or-contents_of, length-contents_of}
-use Rattle.at_ledger.specs.Account.{AccountTerms, no_account}
-use Rattle.at_ledger.specs.Book.{BookTerms, account_of}
-use Rattle.at_ledger.specs.Call.{IsCallOn}
-use Rattle.at_ledger.specs.declared.call.Call.{Call}
-use Rattle.at_orders.specs.Covered.{AreShort, AreTaken, OpeningsCover, asked_in_file, asked_in_files}
 use Rattle.at_orders.proofs.Sums.{sum-more, sum-push, sum-zero}
 use Rattle.at_orders.proofs.covered.is_covered.Goals as goal
 

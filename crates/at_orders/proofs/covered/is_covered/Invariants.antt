@@ -1,7 +1,5 @@
 use Rattle.std.proofs.Common.{◌≡◌, ℕ, ◌+◌, ◌<◌, get_or, length}
-use Rattle.at_ledger.specs.Files.{contents_of}
-use Rattle.at_ledger.specs.Book.{account_of}
-use Rattle.at_orders.specs.Covered.{asked_in_files}
+use Rattle.at_orders.proofs.Prelude.{contents_of, account_of, asked_in_files}
 use Rattle.at_orders.proofs.covered.is_covered.Given as goal
 
 abbrev pub invariant-loop-process : goal.invariant-loop-process

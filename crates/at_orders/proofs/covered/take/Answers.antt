@@ -1,6 +1,5 @@
 use Rattle.std.proofs.Common.{arith, ◌^◌, length}
-use Rattle.std.proofs.lemmas.Grind.{common_steps}
-use Rattle.at_ledger.proofs.Calls.{IsCallOn-more}
+use Rattle.at_orders.proofs.Prelude.{common_steps, IsCallOn-more}
 use Rattle.at_orders.proofs.covered.take.Goals as goal
 
 pub bounds-left-source-2 : goal.bounds-left-source-2

@@ -1,7 +1,5 @@
-use Rattle.std.proofs.lemmas.Grind.{common_steps}
+use Rattle.at_orders.proofs.Prelude.{common_steps, sum_by-cons, sum_by_more_le, asked_by_call}
 use Rattle.std.proofs.Common.{[], ap, arith}
-use Rattle.std.proofs.lemmas.List.Sums.{sum_by-cons, sum_by_more_le}
-use Rattle.at_orders.specs.Covered.{asked_by_call}
 use Rattle.at_orders.proofs.covered.take_all.Goals as goal
 
 pub returns-then-not-take-clause-short : goal.returns-then-not-take-clause-short

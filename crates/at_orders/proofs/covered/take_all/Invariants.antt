@@ -1,5 +1,5 @@
 use Rattle.std.proofs.Common.{◌≡◌, length, take}
-use Rattle.at_orders.specs.Covered.{AreTaken}
+use Rattle.at_orders.proofs.Prelude.{AreTaken}
 use Rattle.at_orders.proofs.covered.take_all.Given as goal
 
 abbrev pub invariant-loop-call : goal.invariant-loop-call

@@ -1,9 +1,5 @@
-use Rattle.std.proofs.lemmas.Grind.{common_steps}
+use Rattle.at_orders.proofs.Prelude.{common_steps, contents_of, contents_of-pushed, AreFilesAnswers, Replies}
 use Rattle.std.proofs.Common.{◌+◌, List, sym, subst, arith}
-use Rattle.at_ledger.specs.Files.{contents_of}
-use Rattle.at_ledger.proofs.FileLists.{contents_of-pushed}
-use Rattle.at_orders.specs.Alone.{AreFilesAnswers}
-use Rattle.at_orders.specs.declared.replies.Replies.{Replies}
 use Rattle.at_orders.proofs.Answering.{files-answers-more}
 use Rattle.at_orders.proofs.covered_answers.covered_answers.Goals as goal
 

@@ -1,5 +1,4 @@
-use Rattle.at_ledger.specs.Files.{contents_of}
-use Rattle.at_orders.specs.Alone.{AreFilesAnswers}
+use Rattle.at_orders.proofs.Prelude.{contents_of, AreFilesAnswers}
 use Rattle.at_orders.proofs.covered_answers.covered_answers.Given as goal
 
 abbrev pub invariant-loop-process : goal.invariant-loop-process

@@ -1,7 +1,5 @@
 use Rattle.std.proofs.Common.{◌≡◌, ℕ, ◌-◌, sym, ap, ◌∙◌, arith}
-use Rattle.at_ledger.specs.Book.{account_of}
-use Rattle.at_orders.specs.Alone.{at_else, ranges_of}
-use Rattle.at_orders.specs.declared.replies.Range.{Range}
+use Rattle.at_orders.proofs.Prelude.{account_of, at_else, ranges_of, Range}
 use Rattle.at_orders.proofs.Sums.{sum-else-at, sum-else-off, sum-zero}
 use Rattle.at_orders.proofs.covered_answers.falls_and_rises.Goals as goal
 use Rattle.at_orders.proofs.covered_answers.falls_and_rises.Goals.{then-other-process, else-other-process}

@@ -1,5 +1,5 @@
 use Rattle.std.proofs.Common.{◌≡◌, ◌≤◌, ◌*◌, ◌^◌}
-use Rattle.at_orders.specs.Alone.{falls_of, ranges_of, rises_of}
+use Rattle.at_orders.proofs.Prelude.{falls_of, ranges_of, rises_of}
 use Rattle.at_orders.proofs.covered_answers.falls_and_rises.Given as goal
 
 abbrev pub invariant-loop-other : goal.invariant-loop-other

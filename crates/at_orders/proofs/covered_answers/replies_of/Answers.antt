@@ -1,10 +1,5 @@
-use Rattle.at_ledger.specs.declared.call.Call.{Call}
-use Rattle.at_ledger.proofs.FileLists.{get_or-contents_of}
-use Rattle.std.proofs.lemmas.Grind.{common_steps}
+use Rattle.at_orders.proofs.Prelude.{Call, get_or-contents_of, common_steps, contents_of, AreFirstAnswers, Replies}
 use Rattle.std.proofs.Common.{◌+◌, List, sym, subst, arith, ◌≡◌, ◌∙◌, ap, length}
-use Rattle.at_ledger.specs.Files.{contents_of}
-use Rattle.at_orders.specs.Alone.{AreFirstAnswers}
-use Rattle.at_orders.specs.declared.replies.Replies.{Replies}
 use Rattle.at_orders.proofs.Answering.{first-answers-more}
 use Rattle.at_orders.proofs.covered_answers.replies_of.Goals as goal
 

@@ -1,5 +1,4 @@
-use Rattle.at_ledger.specs.Files.{contents_of}
-use Rattle.at_orders.specs.Alone.{AreFirstAnswers}
+use Rattle.at_orders.proofs.Prelude.{contents_of, AreFirstAnswers}
 use Rattle.at_orders.proofs.covered_answers.replies_of.Given as goal
 
 abbrev pub invariant-loop-i : goal.invariant-loop-i

@@ -1,11 +1,5 @@
-use Rattle.std.proofs.lemmas.Grind.{common_steps}
+use Rattle.at_orders.proofs.Prelude.{common_steps, contents_of, length-contents_of, Call, Comes, AreJust, no_replies, replies_with, Replies}
 use Rattle.std.proofs.Common.{◌≡◌, List, length, sym, ap, subst, ◌∙◌, arith}
-use Rattle.at_ledger.specs.Files.{contents_of}
-use Rattle.at_ledger.proofs.FileLists.{length-contents_of}
-use Rattle.at_ledger.specs.declared.call.Call.{Call}
-use Rattle.at_orders.specs.Orders.{Comes}
-use Rattle.at_orders.specs.Replies.{AreJust, no_replies, replies_with}
-use Rattle.at_orders.specs.declared.replies.Replies.{Replies}
 use Rattle.at_orders.proofs.Answering.{alones-all, call-known, covered-are, payment-answer, read-answer, read-fits, reply-known}
 use Rattle.at_orders.proofs.covered_answers.reply_to.Goals as goal
 

@@ -1,9 +1,5 @@
-use Rattle.std.proofs.lemmas.Grind.{common_steps}
+use Rattle.at_orders.proofs.Prelude.{common_steps, IsPlayable, contents_of, contents_of-pushed, get_or-contents_of, length-contents_of, Call, AreAllCountedBefore, AreCountedBefore}
 use Rattle.std.proofs.Common.{ℕ, ◌+◌, List, [], take, sym, subst, ◌∙◌, arith}
-use Rattle.at_ledger.specs.Files.{IsPlayable, contents_of}
-use Rattle.at_ledger.proofs.FileLists.{contents_of-pushed, get_or-contents_of, length-contents_of}
-use Rattle.at_ledger.specs.declared.call.Call.{Call}
-use Rattle.at_orders.specs.Walk.{AreAllCountedBefore, AreCountedBefore}
 use Rattle.at_orders.proofs.Counting.{all-counted-more}
 use Rattle.at_orders.proofs.ground.count_all_before.Goals as goal
 

@@ -1,6 +1,5 @@
 use Rattle.std.proofs.Common.{take}
-use Rattle.at_ledger.specs.Files.{contents_of}
-use Rattle.at_orders.specs.Walk.{AreAllCountedBefore}
+use Rattle.at_orders.proofs.Prelude.{contents_of, AreAllCountedBefore}
 use Rattle.at_orders.proofs.ground.count_all_before.Given as goal
 
 abbrev pub invariant-loop-file : goal.invariant-loop-file

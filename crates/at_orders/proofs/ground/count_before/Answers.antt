@@ -1,12 +1,6 @@
 use Rattle.std.proofs.Common.{◌≡◌, ℕ, ◌+◌, ◌^◌, ◌<◌, ◌∷◌, [], List, get_or, length, take, sym, ap, subst, ◌∙◌, arith}
-use Rattle.std.proofs.lemmas.List.{length-append, length-set}
-use Rattle.std.proofs.lemmas.Grind.{get_or_default_zero, common_steps}
-use Rattle.std.proofs.lemmas.Option.{slice_get_within}
+use Rattle.at_orders.proofs.Prelude.{length-append, length-set, get_or_default_zero, common_steps, slice_get_within, IsCallOn, Call, IsCallOn-more, payments_from}
 use Rattle.std.specs.Prelude.{is_some}
-use Rattle.at_ledger.specs.Call.{IsCallOn}
-use Rattle.at_ledger.specs.declared.call.Call.{Call}
-use Rattle.at_ledger.proofs.Calls.{IsCallOn-more}
-use Rattle.at_orders.specs.Stages.{payments_from}
 use Rattle.at_orders.proofs.Counting.{before-more, counts-payment, counts-read, payments_from-few}
 use Rattle.at_orders.proofs.Placing.{first-known}
 use Rattle.at_orders.proofs.ground.count_before.Goals as goal

@@ -1,8 +1,6 @@
 use Rattle.std.proofs.Common.{◌≡◌, ◌<◌, ℕ, Some, length, get_or, take}
 use Rattle.std.specs.Prelude.{slice_get}
-use Rattle.at_ledger.specs.Call.{first_account}
-use Rattle.at_ledger.specs.declared.call.Call.{Call}
-use Rattle.at_orders.specs.Stages.{payments_from}
+use Rattle.at_orders.proofs.Prelude.{first_account, Call, payments_from}
 use Rattle.at_orders.proofs.ground.count_before.Given as goal
 
 abbrev pub invariant-loop-call : goal.invariant-loop-call

@@ -1,16 +1,8 @@
-use Rattle.std.proofs.lemmas.Grind.{common_steps}
+use Rattle.at_orders.proofs.Prelude.{common_steps, Call, AreHeard, IsSeen, Stage, append_assoc, take_all, take_more, slice_get-get_or, Reply, no_replies, replies_with, Replies}
 use Rattle.std.proofs.Common.{◌≡◌, ℕ, ◌+◌, ◌≤◌, ◌++◌, set, take, Some, [], ◌∷◌, List, length, get_or, sym, ap, subst, ◌∙◌, arith}
 use Rattle.std.specs.Prelude.{slice_get}
-use Rattle.at_ledger.specs.declared.call.Call.{Call}
-use Rattle.at_orders.specs.Walk.{AreHeard, IsSeen}
-use Rattle.at_orders.specs.declared.stage.Stage.{Stage}
 use Rattle.at_orders.proofs.Seen.{call-placed, next-call}
 use Rattle.at_orders.proofs.Walking.{heard-push, heard-skip}
-use Rattle.std.proofs.lemmas.List.{append_assoc, take_all, take_more}
-use Rattle.std.proofs.lemmas.Option.{slice_get-get_or}
-use Rattle.at_ledger.specs.declared.call.Reply.{Reply}
-use Rattle.at_orders.specs.Replies.{no_replies, replies_with}
-use Rattle.at_orders.specs.declared.replies.Replies.{Replies}
 use Rattle.at_orders.proofs.heard.hear.Goals as goal
 use Rattle.at_orders.proofs.heard.hear.Goals.{then-i-file, else-i-file}
 

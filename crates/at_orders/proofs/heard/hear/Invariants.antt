@@ -1,6 +1,5 @@
 use Rattle.std.proofs.Common.{◌++◌, List, [], get_or, take}
-use Rattle.at_orders.specs.Walk.{AreHeard}
-use Rattle.at_orders.specs.declared.stage.Stage.{Stage}
+use Rattle.at_orders.proofs.Prelude.{AreHeard, Stage}
 use Rattle.at_orders.proofs.heard.hear.Given as goal
 
 abbrev pub invariant-loop-stage : goal.invariant-loop-stage

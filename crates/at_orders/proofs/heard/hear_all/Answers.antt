@@ -1,16 +1,6 @@
-use Rattle.std.proofs.lemmas.Grind.{common_steps}
+use Rattle.at_orders.proofs.Prelude.{common_steps, map-set, with_items_is, with_items, Global, contents_of, get_or-contents_of, length-contents_of, BookTerms, Replies, Stage, GroundTerms, AreHeard, AreHeardInPart}
 use Rattle.std.proofs.Common.{◌≡◌, ℕ, ◌+◌, ◌<◌, [], List, length, get_or, set, sym, ap, subst, ◌∙◌, arith}
-use Rattle.std.proofs.lemmas.List.{map-set, with_items_is}
-use Rattle.std.specs.Vec.{with_items}
 use Rattle.std.specs.Prelude.{Vec}
-use Rattle.std.specs.Global.{Global}
-use Rattle.at_ledger.specs.Files.{contents_of}
-use Rattle.at_ledger.proofs.FileLists.{get_or-contents_of, length-contents_of}
-use Rattle.at_ledger.specs.Book.{BookTerms}
-use Rattle.at_orders.specs.declared.replies.Replies.{Replies}
-use Rattle.at_orders.specs.declared.stage.Stage.{Stage}
-use Rattle.at_orders.specs.Stages.{GroundTerms}
-use Rattle.at_orders.specs.Walk.{AreHeard, AreHeardInPart}
 use Rattle.at_orders.proofs.Walking.{part-all, part-more}
 use Rattle.at_orders.proofs.heard.hear_all.Goals as goal
 

@@ -1,7 +1,5 @@
 use Rattle.std.proofs.Common.{List, length}
-use Rattle.at_ledger.specs.Files.{contents_of}
-use Rattle.at_orders.specs.Walk.{AreAllHeard, AreHeardInPart}
-use Rattle.at_orders.specs.declared.stage.Stage.{Stage}
+use Rattle.at_orders.proofs.Prelude.{contents_of, AreAllHeard, AreHeardInPart, Stage}
 use Rattle.at_orders.proofs.heard.hear_all.Given as goal
 
 abbrev pub invariant-loop-process : goal.invariant-loop-process

@@ -1,12 +1,5 @@
-use Rattle.std.proofs.lemmas.Grind.{common_steps}
+use Rattle.at_orders.proofs.Prelude.{common_steps, get_or-replicate, length-replicate, contents_of, contents_of-pushed, Call, no_replies, AreAllHeard, Replies}
 use Rattle.std.proofs.Common.{◌≡◌, ℕ, ◌+◌, ◌<◌, [], List, length, get_or, replicate, sym, subst, ap, ◌∙◌, arith}
-use Rattle.std.proofs.lemmas.List.{get_or-replicate, length-replicate}
-use Rattle.at_ledger.specs.Files.{contents_of}
-use Rattle.at_ledger.proofs.FileLists.{contents_of-pushed}
-use Rattle.at_ledger.specs.declared.call.Call.{Call}
-use Rattle.at_orders.specs.Replies.{no_replies}
-use Rattle.at_orders.specs.Walk.{AreAllHeard}
-use Rattle.at_orders.specs.declared.replies.Replies.{Replies}
 use Rattle.at_orders.proofs.Walking.{all-heard-more, heard-none}
 use Rattle.at_orders.proofs.heard.silent.Goals as goal
 

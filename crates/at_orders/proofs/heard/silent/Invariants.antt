@@ -1,6 +1,5 @@
 use Rattle.std.proofs.Common.{[]}
-use Rattle.at_ledger.specs.Files.{contents_of}
-use Rattle.at_orders.specs.Walk.{AreAllHeard}
+use Rattle.at_orders.proofs.Prelude.{contents_of, AreAllHeard}
 use Rattle.at_orders.proofs.heard.silent.Given as goal
 
 abbrev pub invariant-loop-process : goal.invariant-loop-process

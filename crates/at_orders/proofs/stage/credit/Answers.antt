@@ -1,6 +1,5 @@
-use Rattle.std.proofs.lemmas.Grind.{common_steps}
+use Rattle.at_orders.proofs.Prelude.{common_steps, TargetPair}
 use Rattle.std.proofs.Common.{◌≡◌, ℕ, ◌+◌, ◌<◌, Some, None, List, length, get_or, set, sym, ap, subst, ◌∙◌, arith}
-use Rattle.at_ledger.specs.Call.{TargetPair}
 use Rattle.at_orders.proofs.Crediting.{IsCreditedTo, credited-all, credited-fits, credited-kept, credited-other}
 use Rattle.at_orders.proofs.stage.credit.Goals as goal
 use Rattle.at_orders.proofs.stage.credit.Goals.{in-Some, in_default}

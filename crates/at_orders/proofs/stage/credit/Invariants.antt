@@ -1,5 +1,5 @@
 use Rattle.std.proofs.Common.{◌≡◌, ℕ, List, length}
-use Rattle.at_orders.specs.Walk.{AreKept}
+use Rattle.at_orders.proofs.Prelude.{AreKept}
 use Rattle.at_orders.proofs.Crediting.{IsCreditedTo}
 use Rattle.at_orders.proofs.stage.credit.Given as goal
 

@@ -1,6 +1,5 @@
-use Rattle.std.proofs.lemmas.Grind.{common_steps}
+use Rattle.at_orders.proofs.Prelude.{common_steps, AreKept}
 use Rattle.std.proofs.Common.{ℕ, ◌-◌, List, get_or, set, subst, arith}
-use Rattle.at_orders.specs.Walk.{AreKept}
 use Rattle.at_orders.proofs.Keeping.{kept-set}
 use Rattle.at_orders.proofs.stage.debit.Goals as goal
 

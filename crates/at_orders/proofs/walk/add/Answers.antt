@@ -1,7 +1,5 @@
-use Rattle.std.proofs.lemmas.Grind.{common_steps}
+use Rattle.at_orders.proofs.Prelude.{common_steps, Grows, HasStage, Stage}
 use Rattle.std.proofs.Common.{Contains, List, sym, subst, arith}
-use Rattle.at_orders.specs.Walk.{Grows, HasStage}
-use Rattle.at_orders.specs.declared.stage.Stage.{Stage}
 use Rattle.at_orders.proofs.Seen.{has_same_numbers, inserts, same-numbers}
 use Rattle.at_orders.proofs.walk.add.Goals as goal
 

@@ -1,7 +1,5 @@
-use Rattle.std.proofs.lemmas.Grind.{common_steps}
+use Rattle.at_orders.proofs.Prelude.{common_steps, first_stage, Stage}
 use Rattle.std.proofs.Common.{◌≡◌, ◌≤◌, ◌⊎◌, Contains, length, ap, [], List, subst, arith}
-use Rattle.at_orders.specs.Stages.{first_stage}
-use Rattle.at_orders.specs.declared.stage.Stage.{Stage}
 use Rattle.at_orders.proofs.Seen.{walked-first}
 use Rattle.at_orders.proofs.walk.begin.Goals as goal
 

@@ -1,6 +1,5 @@
 use Rattle.std.proofs.Common.{ap, arith}
-use Rattle.at_ledger.specs.Book.{BookTerms}
-use Rattle.std.proofs.lemmas.Grind.{common_steps}
+use Rattle.at_orders.proofs.Prelude.{BookTerms, common_steps}
 use Rattle.at_orders.proofs.Walking.{grows-trans, next-more}
 use Rattle.at_orders.proofs.walk.look.Goals as goal
 

@@ -1,5 +1,5 @@
 use Rattle.std.proofs.Common.{◌+◌, ◌<◌, ℕ, sum}
-use Rattle.at_orders.specs.Walk.{AreLevel, Grows, HasNext}
+use Rattle.at_orders.proofs.Prelude.{AreLevel, Grows, HasNext}
 use Rattle.at_orders.proofs.walk.look.Given as goal
 
 abbrev pub invariant-loop-process : goal.invariant-loop-process

@@ -1,8 +1,5 @@
-use Rattle.std.proofs.lemmas.Grind.{common_steps}
+use Rattle.at_orders.proofs.Prelude.{common_steps, take_all, take_more, Stage, AreLevel, HasAllNext}
 use Rattle.std.proofs.Common.{◌≡◌, ℕ, ◌+◌, ◌++◌, [], ◌∷◌, All, List, sum, take, sym, ap, subst, ◌∙◌, arith}
-use Rattle.std.proofs.lemmas.List.{take_all, take_more}
-use Rattle.at_orders.specs.declared.stage.Stage.{Stage}
-use Rattle.at_orders.specs.Walk.{AreLevel, HasAllNext}
 use Rattle.at_orders.proofs.Seen.{has_same_numbers, numbers-same}
 use Rattle.at_orders.proofs.Walking.{apart-distinct, looked-more}
 use Rattle.at_orders.proofs.walk.next_level.Goals as goal

@@ -1,5 +1,5 @@
 use Rattle.std.proofs.Common.{ℕ, ◌+◌, ◌≤◌, All, length, take}
-use Rattle.at_orders.specs.Walk.{AreApart, AreLevel, HasAllNext}
+use Rattle.at_orders.proofs.Prelude.{AreApart, AreLevel, HasAllNext}
 use Rattle.at_orders.proofs.walk.next_level.Given as goal
 
 abbrev pub invariant-loop-stage : goal.invariant-loop-stage

@@ -1,11 +1,5 @@
-use Rattle.std.proofs.lemmas.Grind.{common_steps}
+use Rattle.at_orders.proofs.Prelude.{common_steps, ltb-false, on_ok_weaker, GroundTerms, StageTerms, stage_after, Call, HasNext, HasStage, IsNextCall, StandsFor, Stage}
 use Rattle.std.proofs.Common.{◌≡◌, ◌+◌, ◌<◌, [], length, get_or, sum, sym, subst, arith}
-use Rattle.std.proofs.lemmas.Bool.{ltb-false}
-use Rattle.std.proofs.lemmas.Result.{on_ok_weaker}
-use Rattle.at_orders.specs.Stages.{GroundTerms, StageTerms, stage_after}
-use Rattle.at_ledger.specs.declared.call.Call.{Call}
-use Rattle.at_orders.specs.Walk.{HasNext, HasStage, IsNextCall, StandsFor}
-use Rattle.at_orders.specs.declared.stage.Stage.{Stage}
 use Rattle.at_orders.proofs.Seen.{call-known, call-placed, level-with, next-call, next-none, next-seen, sum-after}
 use Rattle.at_orders.proofs.walk.turn.Goals as goal
 

@@ -1,12 +1,6 @@
 use Rattle.std.proofs.Common.{◌≡◌, ◌∙◌, ℕ, ◌+◌, ◌++◌, All, BuildHasherDefault, Err, FoldHasher, HashSet, List, length, sym, ap, subst, arith}
-use Rattle.std.proofs.lemmas.List.{length-append}
+use Rattle.at_orders.proofs.Prelude.{length-append, IsErrAnd, contents_of, TooManyOrders, Replies, Stage, AreAllHeard, AreLevel, IsNextLevel, IsSeen, IsWalked}
 use Rattle.std.specs.Prelude.{Ok, Result}
-use Rattle.std.specs.Result.{IsErrAnd}
-use Rattle.at_ledger.specs.Files.{contents_of}
-use Rattle.at_orders.specs.declared.error.OrdersError.TheVariants.{TooManyOrders}
-use Rattle.at_orders.specs.declared.replies.Replies.{Replies}
-use Rattle.at_orders.specs.declared.stage.Stage.{Stage}
-use Rattle.at_orders.specs.Walk.{AreAllHeard, AreLevel, IsNextLevel, IsSeen, IsWalked}
 use Rattle.at_orders.proofs.Walking.{more-stages, walked-next}
 use Rattle.at_orders.proofs.walk.walk_level.Goals as goal
 

@@ -1,7 +1,5 @@
 use Rattle.std.proofs.Common.{◌≡◌, ◌+◌, [], length, subst, arith}
-use Rattle.std.proofs.lemmas.Grind.{common_steps}
-use Rattle.at_ledger.specs.Files.{contents_of}
-use Rattle.at_orders.specs.Walk.{IsWalked}
+use Rattle.at_orders.proofs.Prelude.{common_steps, contents_of, IsWalked}
 use Rattle.at_orders.proofs.Walking.{answers, length-none, walked-all}
 use Rattle.at_orders.proofs.walk.walk_on.Goals as goal
 

@@ -1,6 +1,5 @@
 use Rattle.std.proofs.Common.{◌+◌, ◌-◌, ◌≤◌, length}
-use Rattle.at_ledger.specs.Files.{contents_of}
-use Rattle.at_orders.specs.Walk.{IsWalked}
+use Rattle.at_orders.proofs.Prelude.{contents_of, IsWalked}
 use Rattle.at_orders.proofs.walk.walk_on.Given as goal
 
 abbrev pub invariant-loop-alloc : goal.invariant-loop-alloc

@@ -1,6 +1,5 @@
 use Rattle.std.proofs.Common.{ℕ, ◌∙◌, Option, ap, arith, get_or, sym}
-use Rattle.at_board.specs.declared.step.BoardStep.{BoardStep}
-use Rattle.at_pages.specs.Arrows.{asker_loaded, decides_at, unless_own}
+use Rattle.at_pages.proofs.Prelude.{BoardStep, asker_loaded, decides_at, unless_own}
 use Rattle.at_pages.proofs.TurnLaws.{decided_for-by, decides_at-read, length-decided, own_turn-read}
 use Rattle.at_pages.proofs.arrows.decided_for.Goals as goal
 

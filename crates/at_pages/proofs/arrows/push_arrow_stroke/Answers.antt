@@ -1,5 +1,5 @@
 use Rattle.std.proofs.Common.{◌≡◌, ◌+◌, ◌++◌, ℕ, List, append_assoc, codes, decimal}
-use Rattle.at_pages.specs.Arrows.{arrow_path, arrow_words}
+use Rattle.at_pages.proofs.Prelude.{arrow_path, arrow_words}
 use Rattle.at_pages.proofs.arrows.push_arrow_stroke.Goals as goal
 
 -- seven texts after another

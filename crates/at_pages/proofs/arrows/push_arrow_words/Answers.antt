@@ -1,5 +1,5 @@
 use Rattle.std.proofs.Common.{append_assoc, codes}
-use Rattle.at_files.specs.Names.{process_name}
+use Rattle.at_pages.proofs.Prelude.{process_name}
 use Rattle.at_pages.proofs.arrows.push_arrow_words.Goals as goal
 
 pub returns : goal.returns

@@ -1,5 +1,5 @@
 use Rattle.std.proofs.Common.{ℕ, ◌∙◌, ◌++◌, List, ap}
-use Rattle.at_pages.specs.Arrows.{arrows_from}
+use Rattle.at_pages.proofs.Prelude.{arrows_from}
 use Rattle.at_pages.proofs.TextLaws.{flat_map-range_more}
 use Rattle.at_pages.proofs.arrows.push_arrows.Goals as goal
 

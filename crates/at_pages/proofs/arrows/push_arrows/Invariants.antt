@@ -1,6 +1,5 @@
 use Rattle.std.proofs.Common.{◌≡◌, ◌++◌, flat_map}
-use Rattle.std.specs.List.{range_with_len}
-use Rattle.at_pages.specs.Arrows.{arrows_from}
+use Rattle.at_pages.proofs.Prelude.{range_with_len, arrows_from}
 use Rattle.at_pages.proofs.arrows.push_arrows.Given as goal
 
 -- the arrows of the processes so far are there

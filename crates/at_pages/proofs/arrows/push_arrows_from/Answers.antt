@@ -1,7 +1,5 @@
 use Rattle.std.proofs.Common.{ℕ, ◌<◌, ◌∙◌, ◌++◌, List, Option, ap, arith, length}
-use Rattle.at_stepper.specs.declared.replaying.TurnMade.{TurnMade}
-use Rattle.at_pages.specs.Arrows.{arrow_text, decided_for}
-use Rattle.at_pages.specs.Turns.{own_turn}
+use Rattle.at_pages.proofs.Prelude.{TurnMade, arrow_text, decided_for, own_turn}
 use Rattle.at_pages.proofs.TextLaws.{flat_map-range_more}
 use Rattle.at_pages.proofs.TurnLaws.{own_turn-read}
 use Rattle.at_pages.proofs.arrows.push_arrows_from.Goals as goal

@@ -1,7 +1,5 @@
 use Rattle.std.proofs.Common.{◌≡◌, ◌++◌, flat_map}
-use Rattle.std.specs.List.{range_with_len}
-use Rattle.at_pages.specs.Arrows.{arrow_text, decided_for}
-use Rattle.at_pages.specs.Turns.{own_turn}
+use Rattle.at_pages.proofs.Prelude.{range_with_len, arrow_text, decided_for, own_turn}
 use Rattle.at_pages.proofs.arrows.push_arrows_from.Given as goal
 
 -- the arrows of the turns so far are there

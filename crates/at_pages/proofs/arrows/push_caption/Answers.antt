@@ -1,6 +1,5 @@
 use Rattle.std.proofs.Common.{◌≡◌, ◌++◌, ℕ, List, append_assoc, codes}
-use Rattle.at_pages.specs.Arrows.{arrow_words}
-use Rattle.at_pages.specs.Places.{caption_line, caption_place, place_text}
+use Rattle.at_pages.proofs.Prelude.{arrow_words, caption_line, caption_place, place_text}
 use Rattle.at_pages.proofs.arrows.push_caption.Goals as goal
 
 -- five texts after another

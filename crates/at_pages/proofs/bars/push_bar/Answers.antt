@@ -1,10 +1,5 @@
 use Rattle.std.proofs.Common.{◌≡◌, ◌∙◌, ◌++◌, ℕ, List, ap, append_assoc}
-use Rattle.at_files.specs.Names.{NameList}
-use Rattle.at_ledger.specs.Files.{contents_of}
-use Rattle.at_ledger.specs.declared.call.Call.{Call}
-use Rattle.at_traces.specs.TraceText.{reply_field}
-use Rattle.at_pages.specs.Bars.{answer_text, bar_text, spanned_call, label_if, rect_text, words_text}
-use Rattle.at_pages.specs.declared.spans.Span.{Span}
+use Rattle.at_pages.proofs.Prelude.{NameList, contents_of, Call, reply_field, answer_text, bar_text, spanned_call, label_if, rect_text, words_text, Span}
 use Rattle.at_pages.proofs.bars.push_bar.Goals as goal
 
 -- three texts after another

@@ -1,7 +1,5 @@
 use Rattle.std.proofs.Common.{ℕ, ◌∙◌, ◌++◌, List, ap}
-use Rattle.at_ledger.specs.Files.{contents_of}
-use Rattle.at_pages.specs.Bars.{bar_text, begins_next, span_in}
-use Rattle.at_pages.specs.declared.spans.Span.{Span}
+use Rattle.at_pages.proofs.Prelude.{contents_of, bar_text, begins_next, span_in, Span}
 use Rattle.at_pages.proofs.TextLaws.{flat_map-range_more}
 use Rattle.at_pages.proofs.bars.push_bars.Goals as goal
 

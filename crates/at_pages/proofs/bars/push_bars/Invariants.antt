@@ -1,7 +1,5 @@
 use Rattle.std.proofs.Common.{◌≡◌, ◌++◌, flat_map}
-use Rattle.std.specs.List.{range_with_len}
-use Rattle.at_ledger.specs.Files.{contents_of}
-use Rattle.at_pages.specs.Bars.{bar_text, begins_next, span_in}
+use Rattle.at_pages.proofs.Prelude.{range_with_len, contents_of, bar_text, begins_next, span_in}
 use Rattle.at_pages.proofs.bars.push_bars.Given as goal
 
 -- the bars so far are there

@@ -1,6 +1,5 @@
 use Rattle.std.proofs.Common.{◌≡◌, ℕ, List, ◌++◌, append_assoc, codes, decimal}
-use Rattle.at_files.specs.Names.{process_name}
-use Rattle.at_pages.specs.Places.{lane_place, lane_width, name_line, place_text}
+use Rattle.at_pages.proofs.Prelude.{process_name, lane_place, lane_width, name_line, place_text}
 use Rattle.at_pages.proofs.bars.push_lane.Goals as goal
 
 -- nine texts after another

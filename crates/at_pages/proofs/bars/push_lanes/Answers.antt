@@ -1,5 +1,5 @@
 use Rattle.std.proofs.Common.{ℕ, ◌∙◌, ◌++◌, List, ap}
-use Rattle.at_pages.specs.Bars.{lane_text}
+use Rattle.at_pages.proofs.Prelude.{lane_text}
 use Rattle.at_pages.proofs.TextLaws.{flat_map-range_more}
 use Rattle.at_pages.proofs.bars.push_lanes.Goals as goal
 

@@ -1,5 +1,5 @@
 use Rattle.std.proofs.Common.{◌≡◌, ◌++◌}
-use Rattle.at_pages.specs.Bars.{lanes_text}
+use Rattle.at_pages.proofs.Prelude.{lanes_text}
 use Rattle.at_pages.proofs.bars.push_lanes.Given as goal
 
 -- the lanes so far are there

@@ -1,6 +1,5 @@
 use Rattle.std.proofs.Common.{◌≡◌, ℕ, List, ◌++◌, append_assoc, codes, decimal}
-use Rattle.at_pages.specs.Places.{bar_left, bar_top, bar_width, place_text}
-use Rattle.at_pages.specs.declared.spans.Span.{Span}
+use Rattle.at_pages.proofs.Prelude.{bar_left, bar_top, bar_width, place_text, Span}
 use Rattle.at_pages.proofs.bars.push_rect_begin.Goals as goal
 
 -- five texts after another

@@ -1,5 +1,5 @@
 use Rattle.std.proofs.Common.{◌≡◌, ◌++◌, ℕ, List, append_assoc, codes}
-use Rattle.at_pages.specs.Places.{borrow_line, caption_place, place_text}
+use Rattle.at_pages.proofs.Prelude.{borrow_line, caption_place, place_text}
 use Rattle.at_pages.proofs.curves.push_borrow_text.Goals as goal
 
 -- three texts after another

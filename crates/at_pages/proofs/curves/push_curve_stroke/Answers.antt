@@ -1,5 +1,5 @@
 use Rattle.std.proofs.Common.{◌≡◌, ◌+◌, ◌++◌, ℕ, List, append_assoc, codes, decimal}
-use Rattle.at_pages.specs.Curves.{curve_path}
+use Rattle.at_pages.proofs.Prelude.{curve_path}
 use Rattle.at_pages.proofs.curves.push_curve_stroke.Goals as goal
 
 -- seven texts after another

@@ -1,5 +1,5 @@
 use Rattle.std.proofs.Common.{ℕ, ◌∙◌, ◌++◌, List, ap}
-use Rattle.at_pages.specs.Curves.{curves_from}
+use Rattle.at_pages.proofs.Prelude.{curves_from}
 use Rattle.at_pages.proofs.TextLaws.{flat_map-range_more}
 use Rattle.at_pages.proofs.curves.push_curves.Goals as goal
 

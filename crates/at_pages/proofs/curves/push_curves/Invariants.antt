@@ -1,6 +1,5 @@
 use Rattle.std.proofs.Common.{◌≡◌, ◌++◌, flat_map}
-use Rattle.std.specs.List.{range_with_len}
-use Rattle.at_pages.specs.Curves.{curves_from}
+use Rattle.at_pages.proofs.Prelude.{range_with_len, curves_from}
 use Rattle.at_pages.proofs.curves.push_curves.Given as goal
 
 -- the curves from the lanes so far are there

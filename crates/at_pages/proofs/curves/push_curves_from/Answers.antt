@@ -1,10 +1,5 @@
 use Rattle.std.proofs.Common.{ℕ, ◌<◌, ◌∙◌, ◌++◌, List, Option, None, false, ap, arith, length, subst, sym, take}
-use Rattle.std.proofs.lemmas.List.{take_more}
-use Rattle.at_stepper.specs.InTurns.{turn_at}
-use Rattle.at_stepper.specs.declared.replaying.TurnMade.{TurnMade}
-use Rattle.at_pages.specs.Curves.{curve_text, curve_to, publishing_turn, publishing_turns}
-use Rattle.at_pages.specs.Loading.{AreLoads}
-use Rattle.at_pages.specs.declared.loads.LoadNumbers.{LoadNumbers}
+use Rattle.at_pages.proofs.Prelude.{take_more, turn_at, TurnMade, curve_text, curve_to, publishing_turn, publishing_turns, AreLoads, LoadNumbers}
 use Rattle.at_pages.proofs.TextLaws.{flat_map-range_more}
 use Rattle.at_pages.proofs.curves.push_curves_from.Goals as goal
 

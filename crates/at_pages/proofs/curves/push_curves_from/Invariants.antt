@@ -1,7 +1,5 @@
 use Rattle.std.proofs.Common.{◌≡◌, ◌++◌, flat_map, take}
-use Rattle.std.specs.List.{range_with_len}
-use Rattle.at_pages.specs.Curves.{curve_to}
-use Rattle.at_pages.specs.Loading.{AreLoads}
+use Rattle.at_pages.proofs.Prelude.{range_with_len, curve_to, AreLoads}
 use Rattle.at_pages.proofs.curves.push_curves_from.Given as goal
 
 -- the curves to the turns so far are there, and it is known what these have loaded

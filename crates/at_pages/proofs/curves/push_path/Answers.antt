@@ -1,5 +1,5 @@
 use Rattle.std.proofs.Common.{◌≡◌, ◌++◌, ℕ, List, append_assoc, codes, decimal}
-use Rattle.at_pages.specs.Places.{facing_edge, lane_place, middle_of, time_place}
+use Rattle.at_pages.proofs.Prelude.{facing_edge, lane_place, middle_of, time_place}
 use Rattle.at_pages.proofs.curves.push_path.Goals as goal
 
 -- four points after another, each behind a letter

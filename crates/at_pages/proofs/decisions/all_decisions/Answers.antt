@@ -1,10 +1,5 @@
 use Rattle.std.proofs.Common.{ℕ, ◌<◌, ◌∙◌, ◌++◌, ◌∷◌, [], Bool, false, List, None, ap, arith, length, map, subst, sym, take}
-use Rattle.std.specs.List.{range_with_len}
-use Rattle.std.proofs.lemmas.List.{take_more}
-use Rattle.std.proofs.lemmas.List.FromFn.{map-range_with_len_more}
-use Rattle.at_stepper.specs.declared.replaying.TurnMade.{TurnMade}
-use Rattle.at_pages.specs.Arrows.{decides_at}
-use Rattle.at_pages.specs.Deciding.{AreExchanged}
+use Rattle.at_pages.proofs.Prelude.{range_with_len, take_more, map-range_with_len_more, TurnMade, decides_at, AreExchanged}
 use Rattle.at_pages.proofs.decisions.all_decisions.Goals as goal
 
 pub loop-i-preserved : goal.loop-i-preserved

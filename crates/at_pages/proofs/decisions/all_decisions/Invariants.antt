@@ -1,7 +1,5 @@
 use Rattle.std.proofs.Common.{◌≡◌, map, take}
-use Rattle.std.specs.List.{range_with_len}
-use Rattle.at_pages.specs.Arrows.{decides_at}
-use Rattle.at_pages.specs.Deciding.{AreExchanged}
+use Rattle.at_pages.proofs.Prelude.{range_with_len, decides_at, AreExchanged}
 use Rattle.at_pages.proofs.decisions.all_decisions.Given as goal
 
 -- of the turns so far it is known, and the cells are those that they have exchanged

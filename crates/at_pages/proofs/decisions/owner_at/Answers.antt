@@ -1,6 +1,5 @@
 use Rattle.std.proofs.Common.{arith, sym}
-use Rattle.std.proofs.lemmas.Option.{slice_get_past}
-use Rattle.at_ledger.specs.Book.{account_of}
+use Rattle.at_pages.proofs.Prelude.{slice_get_past, account_of}
 use Rattle.at_pages.proofs.TurnLaws.{owner-none}
 use Rattle.at_pages.proofs.decisions.owner_at.Goals as goal
 use Rattle.at_pages.proofs.decisions.owner_at.Goals.{else-account-accounts-via-then-account-accounts+else-slot-owner_count, else-account-accounts-via-else-account-accounts}

@@ -1,5 +1,5 @@
 use Rattle.std.proofs.Common.{◌∙◌, sym}
-use Rattle.at_ledger.proofs.FileLists.{get_or-contents_of}
+use Rattle.at_pages.proofs.Prelude.{get_or-contents_of}
 use Rattle.at_pages.proofs.files.file_of.Goals as goal
 
 pub returns : goal.returns

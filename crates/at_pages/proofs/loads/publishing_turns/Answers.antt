@@ -1,5 +1,5 @@
 use Rattle.std.proofs.Common.{ℕ, ◌∙◌, ◌++◌, ◌∷◌, [], Bool, List, ap, cond, sym}
-use Rattle.at_pages.specs.Curves.{is_publication_of}
+use Rattle.at_pages.proofs.Prelude.{is_publication_of}
 use Rattle.at_pages.proofs.TextLaws.{filter-range_more}
 use Rattle.at_pages.proofs.loads.publishing_turns.Goals as goal
 

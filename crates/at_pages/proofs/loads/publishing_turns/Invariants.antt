@@ -1,6 +1,5 @@
 use Rattle.std.proofs.Common.{◌≡◌, filter}
-use Rattle.std.specs.List.{range_with_len}
-use Rattle.at_pages.specs.Curves.{is_publication_of}
+use Rattle.at_pages.proofs.Prelude.{range_with_len, is_publication_of}
 use Rattle.at_pages.proofs.loads.publishing_turns.Given as goal
 
 -- those of the turns so far are there

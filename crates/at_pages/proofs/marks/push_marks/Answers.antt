@@ -1,6 +1,5 @@
 use Rattle.std.proofs.Common.{ℕ, ◌∙◌, ◌++◌, List, ap}
-use Rattle.at_stepper.specs.InTurns.{turn_at}
-use Rattle.at_pages.specs.Marks.{mark_text}
+use Rattle.at_pages.proofs.Prelude.{turn_at, mark_text}
 use Rattle.at_pages.proofs.TextLaws.{flat_map-range_more}
 use Rattle.at_pages.proofs.marks.push_marks.Goals as goal
 

@@ -1,7 +1,5 @@
 use Rattle.std.proofs.Common.{◌≡◌, ◌++◌, flat_map}
-use Rattle.std.specs.List.{range_with_len}
-use Rattle.at_stepper.specs.InTurns.{turn_at}
-use Rattle.at_pages.specs.Marks.{mark_text}
+use Rattle.at_pages.proofs.Prelude.{range_with_len, turn_at, mark_text}
 use Rattle.at_pages.proofs.marks.push_marks.Given as goal
 
 -- the marks of the turns so far are there

@@ -1,14 +1,5 @@
 use Rattle.std.proofs.Common.{◌≡◌, ◌<◌, ◌∙◌, ◌++◌, [], ℕ, All, List, ap, arith, length, subst, sym}
-use Rattle.at_kinds.specs.Sentence.{sentence_text}
-use Rattle.at_ledger.specs.Files.{contents_of}
-use Rattle.at_ledger.specs.declared.call.Call.{Call}
-use Rattle.at_ledger.specs.declared.call.Line.{Line}
-use Rattle.at_stepper.specs.declared.replaying.TurnMade.{TurnMade}
-use Rattle.at_pages.specs.PageText.{picture_text}
-use Rattle.at_pages.specs.Spans.{all_spans}
-use Rattle.at_pages.specs.Tables.{items_text, rows_text}
-use Rattle.at_pages.specs.declared.parts.TheConstants.{CALLS, END, HEAD, JOURNAL, KEY, PICTURE}
-use Rattle.at_pages.specs.declared.spans.Span.{Span}
+use Rattle.at_pages.proofs.Prelude.{sentence_text, contents_of, Call, Line, TurnMade, picture_text, all_spans, items_text, rows_text, CALLS, END, HEAD, JOURNAL, KEY, PICTURE, Span}
 use Rattle.at_pages.proofs.page.page_text.Goals as goal
 
 -- ten texts, one after another

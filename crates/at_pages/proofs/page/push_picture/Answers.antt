@@ -1,12 +1,5 @@
 use Rattle.std.proofs.Common.{◌≡◌, ◌++◌, ℕ, List, append_assoc, codes, length}
-use Rattle.at_ledger.specs.Files.{contents_of}
-use Rattle.at_pages.specs.Arrows.{arrows_text}
-use Rattle.at_pages.specs.Bars.{bars_text, lanes_text}
-use Rattle.at_pages.specs.Curves.{curves_text}
-use Rattle.at_pages.specs.Marks.{marks_text}
-use Rattle.at_pages.specs.PageText.{size_text}
-use Rattle.at_pages.specs.Spans.{all_spans}
-use Rattle.at_pages.specs.declared.parts.TheConstants.{SHAPES}
+use Rattle.at_pages.proofs.Prelude.{contents_of, arrows_text, bars_text, lanes_text, curves_text, marks_text, size_text, all_spans, SHAPES}
 use Rattle.at_pages.proofs.page.push_picture.Goals as goal
 
 -- eight texts after another

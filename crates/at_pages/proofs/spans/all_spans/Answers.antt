@@ -1,6 +1,5 @@
 use Rattle.std.proofs.Common.{◌≡◌, ℕ, ◌<◌, ◌++◌, ◌∙◌, All, List, [], ap, arith, subst, sym}
-use Rattle.at_pages.specs.Spans.{all_spans, spans_of}
-use Rattle.at_pages.specs.declared.spans.Span.{Span}
+use Rattle.at_pages.proofs.Prelude.{all_spans, spans_of, Span}
 use Rattle.at_pages.proofs.SpanLaws.{All-all_spans}
 use Rattle.at_pages.proofs.TextLaws.{flat_map-range_more}
 use Rattle.at_pages.proofs.spans.all_spans.Goals as goal

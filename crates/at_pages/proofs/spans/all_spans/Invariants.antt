@@ -1,5 +1,5 @@
 use Rattle.std.proofs.Common.{◌≡◌}
-use Rattle.at_pages.specs.Spans.{all_spans}
+use Rattle.at_pages.proofs.Prelude.{all_spans}
 use Rattle.at_pages.proofs.spans.all_spans.Given as goal
 
 -- the calls of the processes so far are there

@@ -1,9 +1,5 @@
 use Rattle.std.proofs.Common.{ℕ, ◌++◌, ◌<◌, ◌∙◌, List, ap, append_assoc, arith, length, sym}
-use Rattle.at_stepper.specs.InTurns.{turn_at}
-use Rattle.at_stepper.specs.declared.replaying.TurnMade.{TurnMade}
-use Rattle.at_pages.specs.Making.{after_turn, ended_by}
-use Rattle.at_pages.specs.declared.spans.Making.{Making}
-use Rattle.at_pages.specs.declared.spans.Span.{Span}
+use Rattle.at_pages.proofs.Prelude.{turn_at, TurnMade, after_turn, ended_by, Making, Span}
 use Rattle.at_pages.proofs.SpanLaws.{making_at, making_at-more, spans_by, spans_by-more}
 use Rattle.at_pages.proofs.spans.push_spans.Goals as goal
 

@@ -1,5 +1,5 @@
 use Rattle.std.proofs.Common.{◌≡◌, ◌++◌}
-use Rattle.at_pages.specs.Making.{IsFew}
+use Rattle.at_pages.proofs.Prelude.{IsFew}
 use Rattle.at_pages.proofs.SpanLaws.{making_at, spans_by}
 use Rattle.at_pages.proofs.spans.push_spans.Given as goal
 

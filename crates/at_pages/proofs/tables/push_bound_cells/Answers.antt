@@ -1,8 +1,5 @@
 use Rattle.std.proofs.Common.{◌≡◌, ◌<◌, ◌++◌, List, Option, OnOk, append-nil, arith, length, subst, sym}
-use Rattle.at_ledger.specs.Files.{contents_of}
-use Rattle.at_ledger.specs.declared.call.Call.{Call}
-use Rattle.at_ledger.proofs.FileLists.{length-contents_of}
-use Rattle.at_pages.specs.Tables.{bound_cells, cells_text}
+use Rattle.at_pages.proofs.Prelude.{contents_of, Call, length-contents_of, bound_cells, cells_text}
 use Rattle.at_pages.proofs.FileLaws.{call-known, call-none, call-some}
 use Rattle.at_pages.proofs.tables.push_bound_cells.Goals as goal
 

@@ -1,5 +1,5 @@
 use Rattle.std.proofs.Common.{◌≡◌, ◌++◌, ◌∷◌, [], ℕ, List, append_assoc, append-nil, codes, decimal, flat_map}
-use Rattle.at_costs.specs.Bounds.{most_exchanges, most_steps}
+use Rattle.at_pages.proofs.Prelude.{most_exchanges, most_steps}
 use Rattle.at_pages.proofs.tables.push_bounds.Goals as goal
 
 -- what a function gives of two words

@@ -1,5 +1,5 @@
 use Rattle.std.proofs.Common.{◌≡◌, ◌++◌, ◌∷◌, [], ℕ, List, append_assoc, append-nil, codes, decimal, flat_map}
-use Rattle.at_pages.specs.declared.spans.Span.{Span}
+use Rattle.at_pages.proofs.Prelude.{Span}
 use Rattle.at_pages.proofs.tables.push_count_cells.Goals as goal
 
 -- what a function gives of three words

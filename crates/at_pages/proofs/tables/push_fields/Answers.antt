@@ -1,8 +1,5 @@
 use Rattle.std.proofs.Common.{◌≡◌, ◌++◌, ◌∷◌, [], ℕ, List, append_assoc, append-nil, codes, flat_map}
-use Rattle.at_files.specs.Names.{account_name}
-use Rattle.at_kinds.specs.CallFields.{call_word, kind_word}
-use Rattle.at_kinds.specs.Kinds.{kind_of}
-use Rattle.at_ledger.specs.Call.{first_account}
+use Rattle.at_pages.proofs.Prelude.{account_name, call_word, kind_word, kind_of, first_account}
 use Rattle.at_pages.proofs.tables.push_fields.Goals as goal
 
 -- what a function gives of three words

@@ -1,5 +1,5 @@
 use Rattle.std.proofs.Common.{ℕ, ◌<◌, ◌∙◌, ◌++◌, List, ap, length, arith}
-use Rattle.at_pages.specs.Tables.{item_text}
+use Rattle.at_pages.proofs.Prelude.{item_text}
 use Rattle.at_pages.proofs.TextLaws.{flat_map-item_more}
 use Rattle.at_pages.proofs.tables.push_items.Goals as goal
 

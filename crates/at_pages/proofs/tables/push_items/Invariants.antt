@@ -1,5 +1,5 @@
 use Rattle.std.proofs.Common.{◌≡◌, ◌++◌, take}
-use Rattle.at_pages.specs.Tables.{items_text}
+use Rattle.at_pages.proofs.Prelude.{items_text}
 use Rattle.at_pages.proofs.tables.push_items.Given as goal
 
 -- the lines so far are there

@@ -1,11 +1,5 @@
 use Rattle.std.proofs.Common.{◌≡◌, ◌+◌, ◌++◌, ◌∷◌, [], ℕ, List, append_assoc, append-nil, codes, decimal, flat_map}
-use Rattle.std.proofs.lemmas.Grind.{flat_map-append}
-use Rattle.at_files.specs.Names.{process_name}
-use Rattle.at_ledger.specs.Files.{contents_of}
-use Rattle.at_traces.specs.TraceText.{reply_field}
-use Rattle.at_pages.specs.Bars.{spanned_call}
-use Rattle.at_pages.specs.Tables.{bound_cells, call_cells, count_cells}
-use Rattle.at_pages.specs.declared.spans.Span.{Span}
+use Rattle.at_pages.proofs.Prelude.{flat_map-append, process_name, contents_of, reply_field, spanned_call, bound_cells, call_cells, count_cells, Span}
 use Rattle.at_pages.proofs.tables.push_row.Goals as goal
 
 -- the parts of a row, one after another

@@ -1,6 +1,5 @@
 use Rattle.std.proofs.Common.{◌≡◌, ◌++◌, take}
-use Rattle.at_ledger.specs.Files.{contents_of}
-use Rattle.at_pages.specs.Tables.{rows_text}
+use Rattle.at_pages.proofs.Prelude.{contents_of, rows_text}
 use Rattle.at_pages.proofs.tables.push_rows.Given as goal
 
 -- the rows so far are there

@@ -1,7 +1,5 @@
 use Rattle.std.proofs.Common.{ℕ, ◌<◌, ◌==◌, ◌∙◌, ◌++◌, ◌∷◌, [], All, Bool, List, ap, arith, cond, length, subst, sym}
-use Rattle.std.proofs.lemmas.List.Elements.{All-append}
-use Rattle.at_stepper.specs.InTurns.{turn_at}
-use Rattle.at_stepper.specs.declared.replaying.TurnMade.{TurnMade}
+use Rattle.at_pages.proofs.Prelude.{All-append, turn_at, TurnMade}
 use Rattle.at_pages.proofs.TextLaws.{filter-range_more}
 use Rattle.at_pages.proofs.TurnLaws.{All-if}
 use Rattle.at_pages.proofs.turns.own_turns.Goals as goal

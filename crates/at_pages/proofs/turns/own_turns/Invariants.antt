@@ -1,6 +1,5 @@
 use Rattle.std.proofs.Common.{◌≡◌, ◌<◌, ◌==◌, All, filter, length}
-use Rattle.std.specs.List.{range_with_len}
-use Rattle.at_stepper.specs.InTurns.{turn_at}
+use Rattle.at_pages.proofs.Prelude.{range_with_len, turn_at}
 use Rattle.at_pages.proofs.turns.own_turns.Given as goal
 
 -- those of the turns so far are there

@@ -1,5 +1,4 @@
-use Rattle.at_loading.specs.Words.{wanted_of, words_of}
-use Rattle.at_commands.proofs.Laws.Formless.{Leaves-formless}
+use Rattle.at_program.proofs.Prelude.{wanted_of, words_of, Leaves-formless}
 use Rattle.at_program.proofs.serving.serve.Goals as goal
 
 pub returns-clause-files : goal.returns-clause-files

@@ -1,5 +1,5 @@
 use Rattle.std.proofs.Common.{◌<◌, length, arith}
-use Rattle.at_report.specs.Lines.{line_shown}
+use Rattle.at_report.proofs.Prelude.{line_shown}
 use Rattle.at_report.proofs.PieceLaws.{LeadsOn-more}
 use Rattle.at_report.proofs.by_threads.some_lines.Goals as goal
 

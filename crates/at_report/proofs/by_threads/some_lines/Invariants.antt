@@ -1,4 +1,4 @@
-use Rattle.at_report.specs.Pieces.{LeadsOn}
+use Rattle.at_report.proofs.Prelude.{LeadsOn}
 use Rattle.at_report.proofs.by_threads.some_lines.Given as goal
 
 abbrev pub invariant-loop-i : goal.invariant-loop-i

@@ -1,6 +1,5 @@
 use Rattle.std.proofs.Common.{◌≡◌, ℕ, Some, below_more, ap, subst, arith, refl}
-use Rattle.at_files.specs.Names.{process_name}
-use Rattle.at_report.specs.Lines.{IsFirstWord}
+use Rattle.at_report.proofs.Prelude.{process_name, IsFirstWord}
 use Rattle.at_report.proofs.ReportLaws.{IsWord-process_name, one_process}
 use Rattle.at_report.proofs.first_word.process_of.Goals as goal
 

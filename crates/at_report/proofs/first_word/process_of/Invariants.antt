@@ -1,6 +1,5 @@
 use Rattle.std.proofs.Common.{ℕ, ◌<◌}
-use Rattle.at_files.specs.Names.{process_name}
-use Rattle.at_report.specs.Lines.{IsFirstWord}
+use Rattle.at_report.proofs.Prelude.{process_name, IsFirstWord}
 use Rattle.at_report.proofs.first_word.process_of.Given as goal
 
 abbrev pub invariant-loop-process : goal.invariant-loop-process

@@ -1,5 +1,5 @@
 use Rattle.std.proofs.Common.{arith}
-use Rattle.std.proofs.lemmas.Grind.{common_steps}
+use Rattle.at_report.proofs.Prelude.{common_steps}
 use Rattle.at_report.proofs.lines.push_call.Goals as goal
 
 pub returns-in_ok-push_word-in-Pay-2-clause-begun : goal.returns-in_ok-push_word-in-Pay-2-clause-begun

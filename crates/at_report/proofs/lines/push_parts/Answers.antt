@@ -1,6 +1,5 @@
-use Rattle.std.proofs.lemmas.Grind.{common_steps}
+use Rattle.at_report.proofs.Prelude.{common_steps, call_words, reply_word, spaced}
 use Rattle.std.proofs.Common.{◌≡◌, ◌++◌, ◌∷◌, [], decimal, append_assoc, arith}
-use Rattle.at_report.specs.Lines.{call_words, reply_word, spaced}
 use Rattle.at_report.proofs.LineLaws.{OnErr-starts_before, line_text-parts}
 use Rattle.at_report.proofs.lines.push_parts.Goals as goal
 

@@ -1,5 +1,5 @@
 use Rattle.std.proofs.Common.{◌≡◌, ◌++◌, take}
-use Rattle.at_report.specs.Lines.{spaced, targets_words}
+use Rattle.at_report.proofs.Prelude.{spaced, targets_words}
 use Rattle.at_report.proofs.lines.push_targets.Given as goal
 
 abbrev pub invariant-loop-i : goal.invariant-loop-i

@@ -1,5 +1,5 @@
 use Rattle.std.proofs.Common.{arith}
-use Rattle.std.proofs.lemmas.Grind.{common_steps}
+use Rattle.at_report.proofs.Prelude.{common_steps}
 use Rattle.at_report.proofs.lines.push_word.Goals as goal
 
 pub returns-clause-begun : goal.returns-clause-begun

@@ -1,4 +1,4 @@
-use Rattle.std.proofs.lemmas.Grind.{common_steps}
+use Rattle.at_report.proofs.Prelude.{common_steps}
 use Rattle.std.proofs.Common.{◌<◌, ◌∙◌, [], length, refl, sym, arith}
 use Rattle.at_report.proofs.NodeTexts.{nodes_from-none, nodes_from-take_more}
 use Rattle.at_report.proofs.nodes.nodes_text.Goals as goal

@@ -1,6 +1,5 @@
 use Rattle.std.proofs.Common.{◌≡◌, take}
-use Rattle.at_report.specs.Lines.{lines_text}
-use Rattle.at_report.specs.Nodes.{nodes_from}
+use Rattle.at_report.proofs.Prelude.{lines_text, nodes_from}
 use Rattle.at_report.proofs.nodes.nodes_text.Given as goal
 
 abbrev pub invariant-loop-node : goal.invariant-loop-node

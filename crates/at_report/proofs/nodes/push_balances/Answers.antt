@@ -1,6 +1,5 @@
 use Rattle.std.proofs.Common.{◌≡◌, ◌∙◌, ◌++◌}
-use Rattle.at_report.specs.Lines.{line_text}
-use Rattle.at_report.specs.Nodes.{node_balance_words}
+use Rattle.at_report.proofs.Prelude.{line_text, node_balance_words}
 use Rattle.at_report.proofs.LineLaws.{lines_text-map_more}
 use Rattle.at_report.proofs.nodes.push_balances.Goals as goal
 

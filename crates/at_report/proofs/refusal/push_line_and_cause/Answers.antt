@@ -1,5 +1,5 @@
 use Rattle.std.proofs.Common.{arith}
-use Rattle.std.proofs.lemmas.Grind.{common_steps}
+use Rattle.at_report.proofs.Prelude.{common_steps}
 use Rattle.at_report.proofs.refusal.push_line_and_cause.Goals as goal
 
 pub push_text-requires-2 : goal.push_text-requires-2

@@ -1,4 +1,4 @@
-use Rattle.std.proofs.lemmas.Grind.{common_steps}
+use Rattle.at_report.proofs.Prelude.{common_steps}
 use Rattle.std.proofs.Common.{codes, arith}
 use Rattle.at_report.proofs.LineLaws.{append-four}
 use Rattle.at_report.proofs.refusal.push_usage.Goals as goal

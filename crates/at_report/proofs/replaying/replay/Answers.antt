@@ -1,12 +1,5 @@
-use Rattle.std.proofs.lemmas.Grind.{common_steps}
+use Rattle.at_report.proofs.Prelude.{common_steps, get_or-map, length-map, LedgerState, step, Call, Line, asked_in, run_from, last-take_more, run_from-nil, line_shown}
 use Rattle.std.proofs.Common.{◌≡◌, ◌∙◌, ◌+◌, ◌<◌, ℕ, List, take, get_or, length, sym, ap, refl, arith}
-use Rattle.std.proofs.lemmas.List.{get_or-map, length-map}
-use Rattle.at_ledger.specs.State.{LedgerState, step}
-use Rattle.at_ledger.specs.declared.call.Call.{Call}
-use Rattle.at_ledger.specs.declared.call.Line.{Line}
-use Rattle.at_ledger.specs.Run.{asked_in, run_from}
-use Rattle.at_ledger.proofs.Run.{last-take_more, run_from-nil}
-use Rattle.at_report.specs.Lines.{line_shown}
 use Rattle.at_report.proofs.replaying.replay.Goals as goal
 
 pub loop-i-init : goal.loop-i-init

@@ -1,5 +1,5 @@
 use Rattle.std.proofs.Common.{◌≡◌, take}
-use Rattle.at_ledger.specs.Run.{asked_in, run_from}
+use Rattle.at_report.proofs.Prelude.{asked_in, run_from}
 use Rattle.at_report.proofs.replaying.replay.Given as goal
 
 abbrev pub invariant-loop-i : goal.invariant-loop-i

@@ -1,7 +1,5 @@
-use Rattle.std.proofs.lemmas.Grind.{common_steps}
+use Rattle.at_report.proofs.Prelude.{common_steps, line_text, balance_words}
 use Rattle.std.proofs.Common.{◌≡◌, ◌∙◌, ◌++◌, arith}
-use Rattle.at_report.specs.Lines.{line_text}
-use Rattle.at_report.specs.Report.{balance_words}
 use Rattle.at_report.proofs.LineLaws.{lines_text-map_more, OnErr-starts_before}
 use Rattle.at_report.proofs.run_report.push_balances.Goals as goal
 

@@ -1,7 +1,5 @@
 use Rattle.std.proofs.Common.{◌≡◌, ◌++◌, map}
-use Rattle.std.specs.List.{range_with_len}
-use Rattle.at_report.specs.Lines.{lines_text}
-use Rattle.at_report.specs.Report.{balance_words}
+use Rattle.at_report.proofs.Prelude.{range_with_len, lines_text, balance_words}
 use Rattle.at_report.proofs.run_report.push_balances.Given as goal
 
 abbrev pub invariant-loop-account : goal.invariant-loop-account

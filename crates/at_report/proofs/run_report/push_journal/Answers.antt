@@ -1,6 +1,5 @@
-use Rattle.std.proofs.lemmas.Grind.{common_steps}
+use Rattle.at_report.proofs.Prelude.{common_steps, journal_words, line_shown}
 use Rattle.std.proofs.Common.{◌<◌, length, arith}
-use Rattle.at_report.specs.Lines.{journal_words, line_shown}
 use Rattle.at_report.proofs.LineLaws.{lines_text-take_more}
 use Rattle.at_report.proofs.run_report.push_journal.Goals as goal
 

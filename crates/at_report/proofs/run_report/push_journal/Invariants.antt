@@ -1,5 +1,5 @@
 use Rattle.std.proofs.Common.{◌≡◌, ◌++◌, take, map}
-use Rattle.at_report.specs.Lines.{lines_text, journal_words}
+use Rattle.at_report.proofs.Prelude.{lines_text, journal_words}
 use Rattle.at_report.proofs.run_report.push_journal.Given as goal
 
 abbrev pub invariant-loop-i : goal.invariant-loop-i

@@ -1,5 +1,5 @@
 use Rattle.std.proofs.Common.{arith}
-use Rattle.std.proofs.lemmas.Grind.{common_steps}
+use Rattle.at_report.proofs.Prelude.{common_steps}
 use Rattle.at_report.proofs.run_summary.done_in.Goals as goal
 
 pub returns : goal.returns

@@ -1,11 +1,5 @@
 use Rattle.std.proofs.Common.{◌≡◌, ◌∙◌, ◌++◌, ℕ, List, ap, sym}
-use Rattle.at_files.specs.Names.{NameList, plain_names}
-use Rattle.at_ledger.specs.Book.{BookTerms}
-use Rattle.at_ledger.specs.Run.{last_state}
-use Rattle.at_ledger.specs.State.{LedgerState}
-use Rattle.at_report.specs.Lines.{Words, lines_text}
-use Rattle.at_report.specs.Report.{audit_lines}
-use Rattle.at_report.specs.Summary.{done_in, made_lines, read_in}
+use Rattle.at_report.proofs.Prelude.{NameList, plain_names, BookTerms, last_state, LedgerState, Words, lines_text, audit_lines, done_in, made_lines, read_in}
 use Rattle.at_report.proofs.NodeTexts.{lines_text-append}
 use Rattle.at_report.proofs.run_summary.summary.Goals as goal
 

@@ -1,15 +1,5 @@
 use Rattle.std.proofs.Common.{◌≡◌, ◌∙◌, ℕ, true, Ok, List, Option, inl, inr, string_bytes, length, refl}
-use Rattle.std.specs.Result.{IfOk}
-use Rattle.std.proofs.lemmas.List.{length-map}
-use Rattle.at_object.specs.Closings.{ClosedTerms}
-use Rattle.at_loading.specs.Faults.{HasFileNumbers, IsWritten}
-use Rattle.at_loading.specs.Loading.{Loaded, MayReach, loaded}
-use Rattle.at_loading.specs.Words.{form_shown}
-use Rattle.at_loading.proofs.Laws.SpelledLoaded.{loaded-Spelled}
-use Rattle.at_shows.specs.Views.{ShowsRead}
-use Rattle.at_commands.specs.declared.ending.Printed.{Printed}
-use Rattle.at_commands.proofs.Endings.{Ends-faults, Ends-kept, Ends-refusal, LeavesOf-Ends, IfOk-kept, none-kept}
-use Rattle.at_shows.specs.Refused.{MayRefuseView}
+use Rattle.at_shows.proofs.Prelude.{IfOk, length-map, ClosedTerms, HasFileNumbers, IsWritten, Loaded, MayReach, loaded, form_shown, loaded-Spelled, ShowsRead, Printed, Ends-faults, Ends-kept, Ends-refusal, LeavesOf-Ends, IfOk-kept, none-kept, MayRefuseView}
 use Rattle.at_shows.proofs.Refusing.{AnswersView-exact, MayRefuseView-loaded, Refuses-view}
 use Rattle.at_shows.proofs.answering.answer_view.Goals as goal
 

@@ -1,8 +1,5 @@
 use Rattle.std.proofs.Common.{◌≡◌, ◌∙◌, Err, ap, string_bytes, sym}
-use Rattle.std.proofs.lemmas.List.{length-map}
-use Rattle.at_ledger.proofs.FileLists.{length-contents_of}
-use Rattle.at_loading.specs.Loading.{loaded_shown}
-use Rattle.at_report.specs.declared.status.Status.TheVariants.{ReadFault}
+use Rattle.at_shows.proofs.Prelude.{length-map, length-contents_of, loaded_shown, ReadFault}
 use Rattle.at_shows.proofs.answering.view_printed.Goals as goal
 
 pub returns-in-Err-clause-reached : goal.returns-in-Err-clause-reached

@@ -1,13 +1,5 @@
 use Rattle.std.proofs.Common.{◌≡◌, ◌∙◌, All, List, Vec, ap, arith, length, subst, sym}
-use Rattle.std.specs.Global.{Global}
-use Rattle.at_ledger.specs.Files.{IsPlayable, contents_of}
-use Rattle.at_ledger.specs.Run.{Whole}
-use Rattle.at_ledger.specs.declared.call.Call.{Call}
-use Rattle.at_ledger.proofs.FileLists.{length-contents_of}
-use Rattle.at_commands.proofs.Laws.Replays.{IsLineOn-played}
-use Rattle.at_pages.specs.PageText.{page_text}
-use Rattle.at_stepper.specs.Callers.{IsFile}
-use Rattle.at_stepper.specs.InTurns.{IsReplayBy}
+use Rattle.at_shows.proofs.Prelude.{Global, IsPlayable, contents_of, Whole, Call, length-contents_of, IsLineOn-played, page_text, IsFile, IsReplayBy}
 use Rattle.at_shows.proofs.picturing.pictured_text.Goals as goal
 
 -- the run is made of the same calls

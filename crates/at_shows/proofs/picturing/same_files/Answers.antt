@@ -1,9 +1,5 @@
 use Rattle.std.proofs.Common.{ℕ, ◌<◌, ◌∙◌, ◌++◌, ◌∷◌, [], List, Vec, ap, arith, get_or, length, sym, take}
-use Rattle.std.specs.Global.{Global}
-use Rattle.std.proofs.lemmas.List.{take_all, take_more}
-use Rattle.at_ledger.specs.Files.{contents_of}
-use Rattle.at_ledger.specs.declared.call.Call.{Call}
-use Rattle.at_ledger.proofs.FileLists.{contents_of-push, contents_of-pushed}
+use Rattle.at_shows.proofs.Prelude.{Global, take_all, take_more, contents_of, Call, contents_of-push, contents_of-pushed}
 use Rattle.at_shows.proofs.picturing.same_files.Goals as goal
 
 pub loop-calls-preserved : goal.loop-calls-preserved

@@ -1,5 +1,5 @@
 use Rattle.std.proofs.Common.{◌≡◌, take}
-use Rattle.at_ledger.specs.Files.{contents_of}
+use Rattle.at_shows.proofs.Prelude.{contents_of}
 use Rattle.at_shows.proofs.picturing.same_files.Given as goal
 
 -- the files so far are there

@@ -1,5 +1,4 @@
-use Rattle.at_loading.specs.Words.{words_of}
-use Rattle.at_shows.specs.Words.{showing_of}
+use Rattle.at_shows.proofs.Prelude.{words_of, showing_of}
 use Rattle.at_shows.proofs.Formless.{LeavesShown-formless}
 use Rattle.at_shows.proofs.showing.show_all.Goals as goal
 

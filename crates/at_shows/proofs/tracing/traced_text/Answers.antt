@@ -1,5 +1,5 @@
 use Rattle.std.proofs.Common.{◌∙◌, arith}
-use Rattle.at_ledger.proofs.FileLists.{length-contents_of}
+use Rattle.at_shows.proofs.Prelude.{length-contents_of}
 use Rattle.at_shows.proofs.tracing.traced_text.Goals as goal
 
 -- a replay's calls are numbered by 32 bits, and fewer than that

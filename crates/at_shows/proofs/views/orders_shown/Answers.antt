@@ -1,5 +1,5 @@
 use Rattle.std.proofs.Common.{◌∙◌, refl}
-use Rattle.at_ledger.specs.Files.{contents_of}
+use Rattle.at_shows.proofs.Prelude.{contents_of}
 use Rattle.at_shows.proofs.views.orders_shown.Goals as goal
 
 pub orders_text-requires-clause-answers : goal.orders_text-requires-clause-answers

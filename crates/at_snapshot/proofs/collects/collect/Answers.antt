@@ -1,8 +1,6 @@
 use Rattle.std.proofs.Common.{◌≡◌, ◌+◌, ◌<◌, subst, sym, ap, ◌∙◌, arith}
-use Rattle.at_ledger.specs.Book.{BookTerms, IsBook}
-use Rattle.at_board.specs.declared.knowledge.Knowledge.{Knowledge}
+use Rattle.at_snapshot.proofs.Prelude.{BookTerms, IsBook, Knowledge, IsCollecting}
 use Rattle.at_snapshot.proofs.Laws.Collects.{IsCollecting-load, IsCollect-IsCollecting, collect_of-IsCollecting}
-use Rattle.at_snapshot.specs.Collected.{IsCollecting}
 use Rattle.at_snapshot.proofs.collects.collect.Goals as goal
 
 pub loop-p-preserved : goal.loop-p-preserved

@@ -1,7 +1,5 @@
 use Rattle.std.proofs.Common.{◌≡◌}
-use Rattle.at_board.specs.Counting.{raised}
-use Rattle.at_board.specs.Knowledge.Seats.{IsOf}
-use Rattle.at_snapshot.specs.Collected.{IsCollecting}
+use Rattle.at_snapshot.proofs.Prelude.{raised, IsOf, IsCollecting}
 use Rattle.at_snapshot.proofs.collects.collect.Given as goal
 
 -- so many lengths are loaded

@@ -1,5 +1,5 @@
 use Rattle.std.proofs.Common.{ℕ, ◌<◌}
-use Rattle.at_snapshot.specs.Turns.{HasRisen}
+use Rattle.at_snapshot.proofs.Prelude.{HasRisen}
 use Rattle.at_snapshot.proofs.collects.risen.Given as goal
 
 -- no process so far has risen

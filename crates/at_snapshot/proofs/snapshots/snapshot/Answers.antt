@@ -1,11 +1,6 @@
 use Rattle.std.proofs.Common.{◌≡◌, ◌+◌, ◌<◌, ◌≤◌, refl, subst, sym, ap, ◌∙◌, arith}
-use Rattle.at_ledger.specs.Book.{BookTerms}
-use Rattle.at_board.specs.declared.knowledge.Knowledge.{Knowledge}
+use Rattle.at_snapshot.proofs.Prelude.{BookTerms, Knowledge, IsSnapping, turns_left, IsScanOf, ScanTerms, scan_after, snapshot_steps, view_steps}
 use Rattle.at_snapshot.proofs.Laws.Turns.{IsSnapped, IsSnapped-IsSnapping, IsSnapping-Again, IsSnapping-start, turns_left-Again}
-use Rattle.at_snapshot.specs.Snapping.{IsSnapping, turns_left}
-use Rattle.at_snapshot.specs.Scans.{IsScanOf, ScanTerms, scan_after}
-use Rattle.at_snapshot.specs.Snapshots.{snapshot_steps}
-use Rattle.at_snapshot.specs.Turns.{view_steps}
 use Rattle.at_snapshot.proofs.snapshots.snapshot.Goals as goal
 
 pub loop-counts-init : goal.loop-counts-init

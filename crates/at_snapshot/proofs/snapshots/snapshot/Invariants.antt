@@ -1,7 +1,5 @@
 use Rattle.std.proofs.Common.{◌≡◌, ℕ}
-use Rattle.at_board.specs.Counting.{raised}
-use Rattle.at_board.specs.Knowledge.Seats.{IsOf}
-use Rattle.at_snapshot.specs.Snapping.{IsSnapping, turns_left}
+use Rattle.at_snapshot.proofs.Prelude.{raised, IsOf, IsSnapping, turns_left}
 use Rattle.at_snapshot.proofs.snapshots.snapshot.Given as goal
 
 -- so many turns answered Again, in so many steps

@@ -1,15 +1,8 @@
 use Rattle.std.proofs.Common.{◌≡◌, ◌∙◌, ℕ, ◌+◌, ◌<◌, ◌≤◌, ◌++◌, ◌∷◌, [], List, Vec, Global, ap, arith, drop, get_or, length, map, refl, subst, sym, take}
-use Rattle.std.proofs.lemmas.Grind.{common_steps}
-use Rattle.std.proofs.lemmas.List.{length-drop, length-map, length_push, with_items_is}
-use Rattle.at_board.specs.Knowledge.Seats.{IsOf}
-use Rattle.at_ledger.specs.declared.call.Call.{Call}
-use Rattle.at_log.specs.Receipts.{lists_in}
+use Rattle.at_stepper.proofs.Prelude.{common_steps, length-drop, length-map, length_push, with_items_is, IsOf, Call, contents_of, BookTerms, CallerTerms, IsFile, AreBegunCallers, IsBegunCaller}
 use Rattle.at_stepper.proofs.SteppingLaws.{AreBegunCallers-all, HasRoom-next, IsFile-next, IsNewPass-next, IsOf-begun, calls-next, made-next, rest_next, seen-begun}
 use Rattle.at_stepper.proofs.TurnCounts.{some_of}
 use Rattle.at_stepper.proofs.beginning.run_of.Goals as goal
-use Rattle.at_ledger.specs.Book.{BookTerms}
-use Rattle.at_stepper.specs.Callers.{CallerTerms, IsFile}
-use Rattle.at_stepper.specs.Stepping.{AreBegunCallers, IsBegunCaller}
 
 pub new-requires-clause-stands : goal.new-requires-clause-stands
 new-requires-clause-stands c =
@@ -66,10 +59,10 @@ loop-calls-preserved c =
       finite = tt;
       starts = rest_next starts n start others start_is ∙ ap (λ k. drop k starts) count;
       files = rest_next files n file left file_is ∙ ap (λ k. drop k files) count;
-      calls = subst (λ (cs : List CallerTerms). map (λ (x : CallerTerms). x.calls) cs ≡ take (length cs) (lists_in files)) (sym more)
+      calls = subst (λ (cs : List CallerTerms). map (λ (x : CallerTerms). x.calls) cs ≡ take (length cs) (contents_of files)) (sym more)
           (calls-next ledger starts files n start others file left start_is file_is callers caller refl c.new.ensures kept.calls);
       made = subst (λ (cs : List CallerTerms). (p : ℕ) (f : List Call) (d : CallerTerms) → p < length cs
-          → IsBegunCaller ledger p (get_or (lists_in files) p f) (get_or cs p d)) (sym more)
+          → IsBegunCaller ledger p (get_or (contents_of files) p f) (get_or cs p d)) (sym more)
           (made-next ledger starts files n start others file left start_is file_is callers caller refl c.new.ensures c.requires.passes kept.made);
       room = omega (arith, kept.room, c.push_reserved.ensures.len, c.push_reserved.ensures.capacity, c.in-Some.ensures.steps.1);
     }
@@ -79,41 +72,41 @@ first_overview-overview-requires-clause-board c d =
     let files = c.args.files.items in
     let callers = c.loop-calls.callers.items in
     let none : c.loop-calls.calls-iterator.rest.items ≡ [] = grind (arith, common_steps) in
-    let all : length (lists_in files) ≤ length callers =
+    let all : length (contents_of files) ≤ length callers =
     omega (
       arith,
       length-map files (λ (f : Vec Call Global). f.items),
       length-drop (length callers) files,
       ap (λ (fs : List (Vec Call Global)). length fs) (sym c.loop-calls.invariant.files ∙ none),
     ) in
-    let begun = AreBegunCallers-all c.args.memory.ledger (lists_in files) callers all c.loop-calls.invariant.calls c.loop-calls.invariant.made in
-    let some : 0 < length (lists_in files) = omega (arith, c.requires.some, length-map files (λ (f : Vec Call Global). f.items)) in
+    let begun = AreBegunCallers-all c.args.memory.ledger (contents_of files) callers all c.loop-calls.invariant.calls c.loop-calls.invariant.made in
+    let some : 0 < length (contents_of files) = omega (arith, c.requires.some, length-map files (λ (f : Vec Call Global). f.items)) in
     subst (λ (cs : List CallerTerms). IsOf (get_or cs 0 d).seat c.args.memory.ledger) (sym c.deref_mut.ensures.value)
-    (IsOf-begun c.args.memory.ledger (lists_in files) callers d begun some)
+    (IsOf-begun c.args.memory.ledger (contents_of files) callers d begun some)
 
 pub returns : goal.returns
 returns c =
     let files = c.args.files.items in
     let callers = c.loop-calls.callers.items in
     let none : c.loop-calls.calls-iterator.rest.items ≡ [] = grind (arith, common_steps) in
-    let all : length (lists_in files) ≤ length callers =
+    let all : length (contents_of files) ≤ length callers =
     omega (
       arith,
       length-map files (λ (f : Vec Call Global). f.items),
       length-drop (length callers) files,
       ap (λ (fs : List (Vec Call Global)). length fs) (sym c.loop-calls.invariant.files ∙ none),
     ) in
-    let begun = AreBegunCallers-all c.args.memory.ledger (lists_in files) callers all c.loop-calls.invariant.calls c.loop-calls.invariant.made in
-    let some : 0 < length (lists_in files) = omega (arith, c.requires.some, length-map files (λ (f : Vec Call Global). f.items)) in
+    let begun = AreBegunCallers-all c.args.memory.ledger (contents_of files) callers all c.loop-calls.invariant.calls c.loop-calls.invariant.made in
+    let some : 0 < length (contents_of files) = omega (arith, c.requires.some, length-map files (λ (f : Vec Call Global). f.items)) in
     let told = c.first_overview-overview.ensures in
     let d = some_of callers 0 (omega (arith, some, all)) in
     let items = with_items_is c.loop-calls.callers c.first_overview-overview.new.callers (ap (λ (cs : List CallerTerms). length cs) told.same ∙ c.deref_mut.ensures.len)
     ∙ (told.same ∙ c.deref_mut.ensures.value) in
     record {
       ledger = refl;
-      callers = subst (λ (cs : List CallerTerms). AreBegunCallers c.args.memory.ledger (lists_in files) cs) (sym items) begun;
+      callers = subst (λ (cs : List CallerTerms). AreBegunCallers c.args.memory.ledger (contents_of files) cs) (sym items) begun;
       overview = told.overview;
       unpublished = told.seen d
           ∙ (ap (λ (cs : List CallerTerms). (get_or cs 0 d).seat.knows.seen) c.deref_mut.ensures.value
-          ∙ seen-begun c.args.memory.ledger (lists_in files) callers d begun some);
+          ∙ seen-begun c.args.memory.ledger (contents_of files) callers d begun some);
     }

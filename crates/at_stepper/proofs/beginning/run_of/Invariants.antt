@@ -1,9 +1,5 @@
 use Rattle.std.proofs.Common.{◌≡◌, ℕ, ◌+◌, ◌<◌, ◌≤◌, List, drop, length, get_or, map, take}
-use Rattle.std.specs.Vec.{vec_capacity, vec_len}
-use Rattle.at_ledger.specs.declared.call.Call.{Call}
-use Rattle.at_log.specs.Receipts.{lists_in}
-use Rattle.at_stepper.specs.Callers.{CallerTerms}
-use Rattle.at_stepper.specs.Stepping.{IsBegunCaller}
+use Rattle.at_stepper.proofs.Prelude.{vec_capacity, vec_len, Call, contents_of, CallerTerms, IsBegunCaller}
 use Rattle.at_stepper.proofs.beginning.run_of.Given as goal
 
 -- a caller is made of each start and file so far
@@ -13,8 +9,8 @@ invariant-loop-calls l = record {
   finite : (goal.iterator-loop-calls).is_finite l.calls-iterator;
   starts : l.others.rest.items ≡ drop (length l.callers.items) l.fn.memory.starts.items;
   files : l.calls-iterator.rest.items ≡ drop (length l.callers.items) l.fn.files.items;
-  calls : map (λ (caller : CallerTerms). caller.calls) l.callers.items ≡ take (length l.callers.items) (lists_in l.fn.files.items);
+  calls : map (λ (caller : CallerTerms). caller.calls) l.callers.items ≡ take (length l.callers.items) (contents_of l.fn.files.items);
   made : (p : ℕ) (file : List Call) (d : CallerTerms) → p < length l.callers.items →
-      IsBegunCaller l.fn.memory.ledger p (get_or (lists_in l.fn.files.items) p file) (get_or l.callers.items p d);
+      IsBegunCaller l.fn.memory.ledger p (get_or (contents_of l.fn.files.items) p file) (get_or l.callers.items p d);
   room : vec_len l.callers + l.calls-iterator.rest.len ≤ vec_capacity l.callers;
 }

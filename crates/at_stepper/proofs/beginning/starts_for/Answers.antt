@@ -1,13 +1,7 @@
 use Rattle.std.proofs.Common.{◌≡◌, ◌∙◌, ℕ, ◌<◌, ◌++◌, ◌∷◌, [], List, ap, append_assoc, arith, get_or, length, length-append, subst, sym}
-use Rattle.std.proofs.lemmas.List.{length-map, map-append}
-use Rattle.std.specs.Vec.{vec_capacity}
-use Rattle.at_log.specs.Receipts.{lists_in}
-use Rattle.at_object.specs.Parted.{HasMemoryFor}
-use Rattle.at_object.specs.Passes.{PassTerms}
+use Rattle.at_stepper.proofs.Prelude.{length-map, map-append, vec_capacity, contents_of, HasMemoryFor, PassTerms, passes_in, Start}
 use Rattle.at_stepper.proofs.SteppingLaws.{each_push, room_of_file}
 use Rattle.at_stepper.proofs.beginning.starts_for.Goals as goal
-use Rattle.at_stepper.specs.KeptStepping.{passes_in}
-use Rattle.at_stepper.specs.declared.caller.Start.{Start}
 
 pub loop-pass-preserved : goal.loop-pass-preserved
 loop-pass-preserved c =
@@ -33,7 +27,7 @@ loop-pass-preserved c =
     let count : c.len.result ≡ length starts = omega (arith, c.len.ensures, c.loop-pass.starts.ok.0) in
     let fits = room_of_file files (length starts) c.len.result c.len-calls.result c.index-files-len.result (vec_capacity list) within count
     c.index-files-len.is c.len-calls.ensures told.capacity in
-    let room : HasMemoryFor list (length (get_or (lists_in files) (length starts) [])) = (told.items, told.len, fits) in
+    let room : HasMemoryFor list (length (get_or (contents_of files) (length starts) [])) = (told.items, told.len, fits) in
     record {
       next = tt;
       finite = tt;
@@ -42,6 +36,6 @@ loop-pass-preserved c =
           ∙ (sym (append_assoc (passes_in starts) (pass ∷ []) left)
           ∙ ap (λ (ps : List PassTerms). ps ++ left) (sym (ap passes_in more ∙ map-append (λ (s : Start). s.pass) starts (start ∷ []))));
       room = subst (λ (all : List Start). (p : ℕ) (d : Start) → p < length all
-          → HasMemoryFor (get_or all p d).receipts (length (get_or (lists_in files) p []))) (sym more)
-          (each_push (λ p s. HasMemoryFor s.receipts (length (get_or (lists_in files) p []))) starts start kept.room room);
+          → HasMemoryFor (get_or all p d).receipts (length (get_or (contents_of files) p []))) (sym more)
+          (each_push (λ p s. HasMemoryFor s.receipts (length (get_or (contents_of files) p []))) starts start kept.room room);
     }

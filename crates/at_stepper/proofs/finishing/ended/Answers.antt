@@ -1,10 +1,7 @@
 use Rattle.std.proofs.Common.{◌∙◌, ◌^◌, ◌<◌, List, ap, length, map, subst, sym}
 use Rattle.std.specs.Prelude.{All}
-use Rattle.at_log.specs.declared.receipt.Receipt.{Receipt}
-use Rattle.at_log.specs.Receipts.{calls_of, lists_in}
+use Rattle.at_stepper.proofs.Prelude.{Receipt, calls_of, contents_of, IsAnsweredBy, caller_passes, Run}
 use Rattle.at_stepper.proofs.SteppingLaws.{AreAccountedFor-split, calls_left-at, calls_of-answered, few-answered}
-use Rattle.at_stepper.specs.KeptStepping.{IsAnsweredBy, caller_passes}
-use Rattle.at_stepper.specs.declared.run.Run.{Run}
 use Rattle.at_stepper.proofs.finishing.ended.Goals as goal
 
 pub parts-passes-requires-clause-idle : goal.parts-passes-requires-clause-idle
@@ -12,7 +9,7 @@ parts-passes-requires-clause-idle c = λ k d within. sym (calls_left-at c.args.r
 
 pub returns-clause-ended : goal.returns-clause-ended
 returns-clause-ended c =
-    let lists = lists_in c.parts-passes.result.1.items in
+    let lists = contents_of c.parts-passes.result.1.items in
     let callers = c.args.run.callers.items in
     let split = c.parts-passes.ensures in
     record {

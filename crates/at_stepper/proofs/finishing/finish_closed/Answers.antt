@@ -1,12 +1,7 @@
 use Rattle.std.proofs.Common.{◌∙◌, ap, subst, sym}
-use Rattle.at_journal.specs.Calls.{calls_in}
-use Rattle.at_journal.specs.Linearizable.{AreTimed, IsLinearizable}
-use Rattle.at_ledger.specs.Book.{BookTerms}
-use Rattle.at_log.specs.ClosingTerms.{ClosingTerms}
-use Rattle.at_log.specs.JournalOrder.{journal_lines}
+use Rattle.at_stepper.proofs.Prelude.{calls_in, AreTimed, IsLinearizable, BookTerms, ClosingTerms, journal_lines, stepper_terms}
 use Rattle.at_stepper.proofs.ClosedLaws.{published-closed}
 use Rattle.at_stepper.proofs.JournalLaws.{IsJournalOf-closed}
-use Rattle.at_stepper.specs.KeptStepping.{stepper_terms}
 use Rattle.at_stepper.proofs.finishing.finish_closed.Goals as goal
 
 pub returns-in-Ok-clause-journal : goal.returns-in-Ok-clause-journal

@@ -1,5 +1,5 @@
 use Rattle.std.proofs.Common.{◌≡◌, ℕ, ◌<◌, slice_index}
-use Rattle.at_stepper.specs.Stepping.{calls_left}
+use Rattle.at_stepper.proofs.Prelude.{calls_left}
 use Rattle.at_stepper.proofs.replaying.is_over.Given as goal
 
 -- those so far are idle

@@ -1,7 +1,6 @@
 use Rattle.std.proofs.Common.{◌≡◌, ◌∷◌, [], List, ℕ, arith, subst, sym}
-use Rattle.std.specs.List.{range_with_len}
+use Rattle.at_stepper.proofs.Prelude.{range_with_len, TurnBy}
 use Rattle.at_stepper.proofs.ReplayLaws.{HasGoneOn, HasGoneOn-all, HasGoneOn-more, IsSameRun-trans, TurnBy-then, range_push}
-use Rattle.at_stepper.specs.Replays.{TurnBy}
 use Rattle.at_stepper.proofs.replaying.make_round.Goals as goal
 
 pub loop-process-preserved : goal.loop-process-preserved

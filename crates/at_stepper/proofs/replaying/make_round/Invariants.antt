@@ -1,6 +1,5 @@
-use Rattle.std.specs.List.{range_with_len}
+use Rattle.at_stepper.proofs.Prelude.{range_with_len, IsSameRun, TurnBy}
 use Rattle.at_stepper.proofs.ReplayLaws.{HasGoneOn}
-use Rattle.at_stepper.specs.Replays.{IsSameRun, TurnBy}
 use Rattle.at_stepper.proofs.replaying.make_round.Given as goal
 
 -- the turns of the processes so far are made. None was where they were idle, and else fewer are left

@@ -1,8 +1,6 @@
 use Rattle.std.proofs.Common.{◌≡◌, ℕ, [], List, arith, subst, sym, take}
-use Rattle.std.proofs.lemmas.List.{take_all, take_more}
+use Rattle.at_stepper.proofs.Prelude.{take_all, take_more, HasTurnedBy, TurnMade}
 use Rattle.at_stepper.proofs.ReplayLaws.{HasTurnedBy-none, IsSameRun-refl, IsSameRun-trans, TurnAll-over}
-use Rattle.at_stepper.specs.Replays.{HasTurnedBy}
-use Rattle.at_stepper.specs.declared.replaying.TurnMade.{TurnMade}
 use Rattle.at_stepper.proofs.replaying.make_turns.Goals as goal
 
 pub loop-process-init : goal.loop-process-init

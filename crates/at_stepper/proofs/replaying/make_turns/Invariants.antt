@@ -1,8 +1,5 @@
 use Rattle.std.proofs.Common.{List, take}
-use Rattle.at_ledger.specs.Book.{BookTerms}
-use Rattle.at_ledger.specs.declared.call.Call.{Call}
-use Rattle.at_stepper.specs.Replays.{HasTurnedBy, IsSameRun}
-use Rattle.at_stepper.specs.Stepping.{IsNewStepper}
+use Rattle.at_stepper.proofs.Prelude.{BookTerms, Call, HasTurnedBy, IsSameRun, IsNewStepper}
 use Rattle.at_stepper.proofs.replaying.make_turns.Given as goal
 
 -- the turns by the schedule so far are made

@@ -1,15 +1,13 @@
 use Rattle.std.proofs.Common.{◌≡◌, ◌∙◌, ◌<◌, All, length, subst, sym}
-use Rattle.std.proofs.lemmas.List.{length-map}
-use Rattle.at_log.specs.Receipts.{lists_in}
+use Rattle.at_stepper.proofs.Prelude.{length-map, contents_of, TurnMade}
 use Rattle.at_stepper.proofs.EntryLaws.{known-AreTurnsOf}
 use Rattle.at_stepper.proofs.ReplyLaws.{replies-IsJournalOf}
-use Rattle.at_stepper.specs.declared.replaying.TurnMade.{TurnMade}
 use Rattle.at_stepper.proofs.replaying.replay.Goals as goal
 
 pub returns-in-Ok-finish-clause-replay : goal.returns-in-Ok-finish-clause-replay
 returns-in-Ok-finish-clause-replay c =
     let book = c.args.book.now in
-    let files = lists_in c.args.files.items in
+    let files = contents_of c.args.files.items in
     let made = c.in_ok-make_turns.ensures in
     let all = made.turned book files c.in-Ok.ensures.ok in
     let journal = c.in-Ok-finish.ensures.journal in
@@ -26,7 +24,7 @@ returns-in-Ok-finish-clause-replay c =
 pub returns-in-Ok-finish-clause-processes : goal.returns-in-Ok-finish-clause-processes
 returns-in-Ok-finish-clause-processes c =
     let book = c.args.book.now in
-    let files = lists_in c.args.files.items in
+    let files = contents_of c.args.files.items in
     let turns = (c.in_ok-make_turns.ensures.turned book files c.in-Ok.ensures.ok).1 in
     let count : length files ≡ book.processes = length-map c.args.files.items _ ∙ c.requires.count in
     subst (λ n. All (λ (t : TurnMade). t.process < n) c.make_turns.new.turns.items) count

@@ -1,5 +1,4 @@
-use Rattle.at_stepper.specs.Replays.{IsSameRun, TurnInRounds}
-use Rattle.at_stepper.specs.Stepping.{all_turns_left}
+use Rattle.at_stepper.proofs.Prelude.{IsSameRun, TurnInRounds, all_turns_left}
 use Rattle.at_stepper.proofs.replaying.run_out.Given as goal
 
 -- some rounds are made, and each but the last leaves fewer turns

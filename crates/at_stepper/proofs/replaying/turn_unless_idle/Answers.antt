@@ -1,9 +1,6 @@
 use Rattle.std.proofs.Common.{ℕ, ◌∙◌, ◌++◌, ◌<◌, ◌∷◌, [], List, arith, slice_index, subst, sym}
-use Rattle.std.proofs.lemmas.Bool.{eqb-false, eqb-true}
+use Rattle.at_stepper.proofs.Prelude.{eqb-false, eqb-true, TurnBy, calls_left, TurnMade}
 use Rattle.at_stepper.proofs.ReplayLaws.{TurnBy-idle, TurnBy-turned}
-use Rattle.at_stepper.specs.Replays.{TurnBy}
-use Rattle.at_stepper.specs.Stepping.{calls_left}
-use Rattle.at_stepper.specs.declared.replaying.TurnMade.{TurnMade}
 use Rattle.at_stepper.proofs.replaying.turn_unless_idle.Goals as goal
 
 pub returns-then-idle-clause-turned : goal.returns-then-idle-clause-turned

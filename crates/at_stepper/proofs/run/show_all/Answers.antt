@@ -1,10 +1,6 @@
 use Rattle.std.proofs.Common.{◌≡◌, ◌∙◌, ◌<◌, List, ap, arith, get_or, inl, inr, length, set, subst, sym}
-use Rattle.std.proofs.lemmas.Bool.{cases_eq}
-use Rattle.std.proofs.lemmas.List.{get_or_default, set-get_or}
-use Rattle.at_board.specs.Knowledge.Overviews.{OverviewTerms, TakesIn}
-use Rattle.at_history.specs.Publications.{count_of}
+use Rattle.at_stepper.proofs.Prelude.{cases_eq, get_or_default, set-get_or, OverviewTerms, TakesIn, count_of, CallerTerms}
 use Rattle.at_stepper.proofs.RunLaws.{overview-once_more}
-use Rattle.at_stepper.specs.Callers.{CallerTerms}
 use Rattle.at_stepper.proofs.run.show_all.Goals as goal
 
 pub loop-process-preserved : goal.loop-process-preserved

@@ -1,6 +1,5 @@
 use Rattle.std.proofs.Common.{◌≡◌, ℕ, ◌<◌, get_or, length}
-use Rattle.at_history.specs.Publications.{count_of}
-use Rattle.at_stepper.specs.Callers.{CallerTerms}
+use Rattle.at_stepper.proofs.Prelude.{count_of, CallerTerms}
 use Rattle.at_stepper.proofs.run.show_all.Given as goal
 
 -- nothing has changed, and the seats of the processes so far have all records of their processes

@@ -1,5 +1,5 @@
 use Rattle.std.proofs.Common.{arith}
-use Rattle.std.proofs.lemmas.Grind.{common_steps}
+use Rattle.at_verify.proofs.Prelude.{common_steps}
 use Rattle.at_verify.proofs.comparing.common.Goals as goal
 
 pub loop-i-preserved : goal.loop-i-preserved

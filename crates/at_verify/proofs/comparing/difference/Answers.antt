@@ -1,5 +1,5 @@
 use Rattle.std.proofs.Common.{sym, ◌∙◌, arith}
-use Rattle.std.proofs.lemmas.List.{take_all}
+use Rattle.at_verify.proofs.Prelude.{take_all}
 use Rattle.at_verify.proofs.comparing.difference.Goals as goal
 
 pub returns-clause-same : goal.returns-clause-same

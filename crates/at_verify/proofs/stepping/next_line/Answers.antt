@@ -1,11 +1,6 @@
-use Rattle.std.proofs.lemmas.Grind.{common_steps}
+use Rattle.at_verify.proofs.Prelude.{common_steps, nat_tests, slice_get-get_or, slice_get_within, contents_of, get_or-contents_of, length-contents_of, call_known-at}
 use Rattle.std.proofs.Common.{◌≡◌, ℕ, ◌+◌, ◌<◌, Bool, true, false, Option, None, nat_lt, [], length, get_or, Some, sym, ap, ◌∙◌, arith}
 use Rattle.std.specs.Prelude.{slice_get}
-use Rattle.std.proofs.lemmas.Bool.Decides.{nat_tests}
-use Rattle.std.proofs.lemmas.Option.{slice_get-get_or, slice_get_within}
-use Rattle.at_ledger.specs.Files.{contents_of}
-use Rattle.at_ledger.proofs.FileLists.{get_or-contents_of, length-contents_of}
-use Rattle.at_ledger.proofs.Made.{call_known-at}
 use Rattle.at_verify.proofs.Walking.{next_line-only}
 use Rattle.at_verify.proofs.stepping.next_line.Goals as goal
 

@@ -1,8 +1,5 @@
 use Rattle.std.proofs.Common.{◌≡◌, ℕ, ◌+◌, Ok, Result, refl, sym, ap, ◌∙◌}
-use Rattle.std.proofs.lemmas.List.{length-take-le}
-use Rattle.at_ledger.specs.Files.{contents_of}
-use Rattle.at_verify.specs.declared.verifying.Verdict.{Verdict}
-use Rattle.at_verify.specs.declared.verifying.Verdict.TheVariants.{No}
+use Rattle.at_verify.proofs.Prelude.{length-take-le, contents_of, Verdict, No}
 use Rattle.at_verify.proofs.Walking.{first_wrong, length-report, not_report}
 use Rattle.at_verify.proofs.verifying.verify.Goals as goal
 

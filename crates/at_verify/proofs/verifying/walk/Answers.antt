@@ -1,16 +1,5 @@
-use Rattle.std.proofs.lemmas.Grind.{common_steps}
+use Rattle.at_verify.proofs.Prelude.{common_steps, contents_of, length-contents_of, LedgerState, opening_state, Call, Line, take_rest, journal_words, line_text, lines_text, audit_lines, heading_words, ArePartedAt, DifferAt, PartsAt, none_made, sum-none, call_known, sum-le, sum-with_made}
 use Rattle.std.proofs.Common.{◌≡◌, ℕ, ◌+◌, ◌<◌, ◌≤◌, List, length, replicate, sum, sum_by, Option, None, Some, Ok, Result, refl, sym, ap, subst, ◌∙◌, arith}
-use Rattle.at_ledger.specs.Files.{contents_of}
-use Rattle.at_ledger.proofs.FileLists.{length-contents_of}
-use Rattle.at_ledger.specs.State.{LedgerState, opening_state}
-use Rattle.at_ledger.specs.declared.call.Call.{Call}
-use Rattle.at_ledger.specs.declared.call.Line.{Line}
-use Rattle.std.proofs.lemmas.List.{take_rest}
-use Rattle.at_report.specs.Lines.{journal_words, line_text, lines_text}
-use Rattle.at_report.specs.Report.{audit_lines, heading_words}
-use Rattle.at_verify.specs.Walk.{ArePartedAt, DifferAt, PartsAt}
-use Rattle.at_ledger.proofs.Continuing.{none_made, sum-none}
-use Rattle.at_ledger.proofs.Made.{call_known, sum-le, sum-with_made}
 use Rattle.at_verify.proofs.Walking.{audit-parts, audit-whole, heading-parts, heading-walked, line-missing, line-parts, line-walked}
 use Rattle.at_verify.proofs.verifying.walk.Goals as goal
 

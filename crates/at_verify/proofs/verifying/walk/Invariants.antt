@@ -1,5 +1,5 @@
 use Rattle.std.proofs.Common.{◌≡◌, sum}
-use Rattle.at_ledger.specs.Files.{contents_of}
+use Rattle.at_verify.proofs.Prelude.{contents_of}
 use Rattle.at_verify.proofs.Walking.{IsWalked}
 use Rattle.at_verify.proofs.verifying.walk.Given as goal
 

@@ -1,4 +1,4 @@
-use denote.Param.Send.{sendable}
+use Rattle.at_workers.proofs.Prelude.{sendable}
 use Rattle.at_workers.proofs.Sharing.{job_send}
 use Rattle.at_workers.proofs.crossing.all_cross.Goals as goal
 

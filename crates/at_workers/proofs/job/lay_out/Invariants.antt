@@ -1,6 +1,5 @@
 use Rattle.std.proofs.Common.{◌≡◌, ◌≤◌, ◌++◌, length}
-use Rattle.std.specs.Vec.{vec_capacity}
-use Rattle.at_log.specs.Receipts.{calls_of}
+use Rattle.at_workers.proofs.Prelude.{vec_capacity, calls_of}
 use Rattle.at_workers.proofs.job.lay_out.Given as goal
 
 -- the calls so far stand where their receipts are to be, and there is room for the others

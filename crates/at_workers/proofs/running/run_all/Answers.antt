@@ -1,5 +1,4 @@
-use denote.Param.Send.{sendable}
-use Rattle.at_workers.specs.Jobs.{Ran}
+use Rattle.at_workers.proofs.Prelude.{sendable, Ran}
 use Rattle.at_workers.proofs.Sharing.{job_send}
 use Rattle.at_workers.proofs.Zipped.{AllZip-each}
 use Rattle.at_workers.proofs.running.run_all.Goals as goal

@@ -1,12 +1,5 @@
 use Rattle.std.proofs.Common.{◌≡◌, ◌*◌, ◌<◌, ap, arith, refl, rules, subst, sym, ◌∙◌}
-use Rattle.at_board.specs.Knowledge.Seats.{BoardTerms}
-use Rattle.at_history.proofs.Laws.Prefixes.{IsPrefix-trans}
-use Rattle.at_history.specs.Histories.{IsHistory}
-use Rattle.at_history.specs.Publications.{IsPrefix}
-use Rattle.at_ledger.specs.declared.call.Call.TheVariants.{Transfer}
-use Rattle.at_agree.specs.Council.{shared_account, size_of, spent_account}
-use Rattle.at_agree.specs.Plan.{HasShareDecided, HasProposed, HasVoted, share_of, named_account}
-use Rattle.at_agree.specs.Voices.{HasMadeOneMore, HasRead, IsVoiceOf, VoiceTerms, process_of, seen_by}
+use Rattle.at_agree.proofs.Prelude.{BoardTerms, IsPrefix-trans, IsHistory, IsPrefix, Transfer, shared_account, size_of, spent_account, HasShareDecided, HasProposed, HasVoted, share_of, named_account, HasMadeOneMore, HasRead, IsVoiceOf, VoiceTerms, process_of, seen_by}
 use Rattle.at_agree.proofs.FourCalls.{HasShareDecided-IsPrefix, HasProposed-IsPrefix, HasProposed-answered, HasVoted-made}
 use Rattle.at_agree.proofs.VoiceCalls.{in_book}
 use Rattle.at_agree.proofs.council.Council.propose.Goals as goal

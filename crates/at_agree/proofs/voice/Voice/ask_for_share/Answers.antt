@@ -1,11 +1,5 @@
 use Rattle.std.proofs.Common.{◌≡◌, ◌+◌, ◌*◌, ◌<◌, List, ap, arith, length, rules, subst, ◌∙◌}
-use Rattle.at_ledger.specs.declared.call.Call.TheVariants.{Transfer}
-use Rattle.at_log.specs.Receipts.{asks_in}
-use Rattle.at_log.specs.declared.receipt.Receipt.{Receipt}
-use Rattle.at_object.specs.Passes.{IsPassOf, PassTerms, counted_anew}
-use Rattle.at_agree.specs.Council.{shared_account, spent_account}
-use Rattle.at_agree.specs.Plan.{HasShareDecided}
-use Rattle.at_agree.specs.Voices.{VoiceTerms, process_of}
+use Rattle.at_agree.proofs.Prelude.{Transfer, asks_in, Receipt, IsPassOf, PassTerms, counted_anew, shared_account, spent_account, HasShareDecided, VoiceTerms, process_of}
 use Rattle.at_agree.proofs.VoiceCalls.{HasShareDecided-asked, IsVoice-made, in_book, known_in, payment_steps-shared, slots_of-council}
 use Rattle.at_agree.proofs.voice.Voice.ask_for_share.Goals as goal
 

@@ -1,6 +1,5 @@
 use Rattle.std.proofs.Common.{subst}
-use Rattle.at_ledger.specs.declared.call.Call.TheVariants.{Read}
-use Rattle.at_agree.specs.Voices.{HasMadeOneMore, HasRead, VoiceTerms}
+use Rattle.at_agree.proofs.Prelude.{Read, HasMadeOneMore, HasRead, VoiceTerms}
 use Rattle.at_agree.proofs.voice.Voice.find.Goals as goal
 
 pub returns-clause-read : goal.returns-clause-read

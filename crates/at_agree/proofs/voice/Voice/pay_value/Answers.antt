@@ -1,8 +1,5 @@
 use Rattle.std.proofs.Common.{◌≡◌, ◌+◌, ◌<◌, List, [], ap, arith, length, rules, subst, ◌∙◌}
-use Rattle.at_log.specs.declared.receipt.Receipt.{Receipt}
-use Rattle.at_object.specs.Passes.{IsPassOf, PassTerms, Stands, counted_anew}
-use Rattle.at_agree.specs.Plan.{HasProposed}
-use Rattle.at_agree.specs.Voices.{VoiceTerms, process_of}
+use Rattle.at_agree.proofs.Prelude.{Receipt, IsPassOf, PassTerms, Stands, counted_anew, HasProposed, VoiceTerms, process_of}
 use Rattle.at_agree.proofs.VoiceCalls.{HasProposed-paid, IsVoice-made, in_book, is_shared-own, known_in, payment_steps-own}
 use Rattle.at_agree.proofs.voice.Voice.pay_value.Goals as goal
 

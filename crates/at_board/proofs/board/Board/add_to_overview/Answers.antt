@@ -1,14 +1,8 @@
 use Rattle.std.proofs.Common.{◌≡◌, List, length, sym, ap, subst, ◌∙◌, arith}
-use Rattle.std.proofs.lemmas.Grind.{common_steps}
-use Rattle.at_ledger.specs.Book.{BookTerms}
-use Rattle.at_history.specs.Histories.{IsHistory}
-use Rattle.at_history.specs.declared.publication.Publication.{Publication}
+use Rattle.at_board.proofs.Prelude.{common_steps, BookTerms, IsHistory, Publication, IsOverview, TakesIn, seen_alone, learned, Knowledge}
 use Rattle.at_board.proofs.StepLaws.Learn.{AreSeen-key, learns}
 use Rattle.at_board.proofs.StepLaws.Note.{word_count-some}
 use Rattle.at_board.proofs.StepLaws.Overview.{IsOverview-learned, TakesIn-met, sees_alone}
-use Rattle.at_board.specs.Knowledge.Overviews.{IsOverview, TakesIn, seen_alone}
-use Rattle.at_board.specs.Steps.Learn.{learned}
-use Rattle.at_board.specs.declared.knowledge.Knowledge.{Knowledge}
 use Rattle.at_board.proofs.board.Board.add_to_overview.Goals.{After-join_seat}
 use Rattle.at_board.proofs.board.Board.add_to_overview.Goals as goal
 

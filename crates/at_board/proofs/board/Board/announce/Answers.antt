@@ -1,19 +1,11 @@
 use Rattle.std.proofs.Common.{refl, ◌≡◌, ◌+◌, ℕ, sym, ap, subst, ◌∙◌, arith}
-use Rattle.std.proofs.lemmas.Grind.{common_steps}
-use Rattle.at_ledger.specs.Book.{BookTerms}
+use Rattle.at_board.proofs.Prelude.{common_steps, BookTerms, IsKept, Request, Knowledge, MayAnnounce, announced_of, index_of, word_count, Announces, HasSlot}
 use Rattle.at_board.proofs.KnowledgeLaws.Books.{to_caller, to_seat}
-use Rattle.at_board.specs.Knowledge.Seats.{IsKept}
 use Rattle.at_board.proofs.KnowledgeLaws.Kept.{IsKept-IsSeat, IsSeat-step}
 use Rattle.at_board.proofs.StepLaws.Announce.{HasCounts-announce, MayAnnounce-slot, announces_at, place-MayAnnounce}
 use Rattle.at_board.proofs.WordLaws.Addresses.{index_of-below}
 use Rattle.at_board.proofs.KnowledgeLaws.Asking.{same_slot}
 use Rattle.at_board.proofs.StepLaws.StoreRequestWord.{next_number}
-use Rattle.at_history.specs.declared.request.Request.{Request}
-use Rattle.at_board.specs.declared.knowledge.Knowledge.{Knowledge}
-use Rattle.at_board.specs.Steps.Announce.{MayAnnounce}
-use Rattle.at_board.specs.Words.Addresses.{announced_of, index_of, word_count}
-use Rattle.at_board.specs.Steps.Announce.{Announces}
-use Rattle.at_ledger.specs.Book.{HasSlot}
 use Rattle.at_board.proofs.board.Board.announce.Goals.{After-from, After-store}
 use Rattle.at_board.proofs.board.Board.announce.Goals as goal
 

@@ -1,5 +1,5 @@
 use Rattle.std.proofs.Common.{arith}
-use Rattle.std.proofs.lemmas.Grind.{common_steps}
+use Rattle.at_board.proofs.Prelude.{common_steps}
 use Rattle.at_board.proofs.board.Board.announced.Goals as goal
 
 pub announced-requires : goal.announced-requires

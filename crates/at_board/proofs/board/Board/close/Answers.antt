@@ -1,10 +1,7 @@
 use Rattle.std.proofs.Common.{sym, ap, subst, ◌∙◌, arith}
-use Rattle.std.proofs.lemmas.Grind.{common_steps}
-use Rattle.std.specs.Mem.Slots.{slots_items}
-use Rattle.at_ledger.specs.Book.{BookTerms}
+use Rattle.at_board.proofs.Prelude.{common_steps, slots_items, BookTerms, BoardTerms}
 use Rattle.at_board.proofs.EndLaws.Closed.{IsEnd-Final, IsLast}
 use Rattle.at_board.proofs.StepLaws.Note.{word_count-some}
-use Rattle.at_board.specs.Knowledge.Seats.{BoardTerms}
 use Rattle.at_board.proofs.board.Board.close.Goals as goal
 
 pub gather-last-requires-clause-words : goal.gather-last-requires-clause-words

@@ -1,18 +1,10 @@
 use Rattle.std.proofs.Common.{refl, ◌≡◌, sym, ap, subst, ◌∙◌, arith}
-use Rattle.std.proofs.lemmas.Grind.{common_steps}
-use Rattle.at_base.specs.Decision.{word_of}
-use Rattle.at_base.specs.declared.decision.Decision.{Decision}
+use Rattle.at_board.proofs.Prelude.{common_steps, word_of, Decision, IsKept, Request, Knowledge, MayPropose, Decides, word_after, IsAddress, cell_of, index_of, word_count}
 use Rattle.at_board.proofs.KnowledgeLaws.Books.{to_caller, to_seat}
-use Rattle.at_board.specs.Knowledge.Seats.{IsKept}
 use Rattle.at_board.proofs.KnowledgeLaws.Kept.{IsKept-IsSeat, IsSeat-step}
 use Rattle.at_board.proofs.StepLaws.Decide.{HasCounts-decided, decides_at}
 use Rattle.at_board.proofs.WordLaws.Addresses.{index_of-below}
 use Rattle.at_board.proofs.StepLaws.Decide.{IsAddress-MayPropose}
-use Rattle.at_history.specs.declared.request.Request.{Request}
-use Rattle.at_board.specs.declared.knowledge.Knowledge.{Knowledge}
-use Rattle.at_board.specs.Steps.Decide.{MayPropose}
-use Rattle.at_board.specs.Steps.Decide.{Decides, word_after}
-use Rattle.at_board.specs.Words.Addresses.{IsAddress, cell_of, index_of, word_count}
 use Rattle.at_board.proofs.board.Board.decide.Goals.{After-cell_index-index, After-compare_exchange-found, After-self}
 use Rattle.at_board.proofs.board.Board.decide.Goals as goal
 

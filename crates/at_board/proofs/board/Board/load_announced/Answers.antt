@@ -1,12 +1,9 @@
 use Rattle.std.proofs.Common.{refl, ◌≡◌, sym, ap, subst, ◌∙◌, arith}
-use Rattle.std.proofs.lemmas.Grind.{common_steps}
+use Rattle.at_board.proofs.Prelude.{common_steps, Knowledge, IsAddress, announced_of, index_of, word_count, LoadsAnnounced}
 use Rattle.at_board.proofs.KnowledgeLaws.Books.{to_caller}
 use Rattle.at_board.proofs.KnowledgeLaws.Kept.{IsKept-IsSeat, IsSeat-step}
 use Rattle.at_board.proofs.StepLaws.LoadAnnounced.{HasCounts-announced, loads_announced_at}
 use Rattle.at_board.proofs.WordLaws.Addresses.{index_of-below}
-use Rattle.at_board.specs.declared.knowledge.Knowledge.{Knowledge}
-use Rattle.at_board.specs.Words.Addresses.{IsAddress, announced_of, index_of, word_count}
-use Rattle.at_board.specs.Steps.LoadAnnounced.{LoadsAnnounced}
 use Rattle.at_board.proofs.board.Board.load_announced.Goals.{After-load-count}
 use Rattle.at_board.proofs.board.Board.load_announced.Goals as goal
 

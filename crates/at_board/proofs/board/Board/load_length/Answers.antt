@@ -1,13 +1,10 @@
 use Rattle.std.proofs.Common.{refl, ◌≡◌, ◌<◌, sym, ap, subst, ◌∙◌, arith}
-use Rattle.std.proofs.lemmas.Grind.{common_steps}
+use Rattle.at_board.proofs.Prelude.{common_steps, Knowledge, length_of, word_count, LoadsLength}
 use Rattle.at_board.proofs.KnowledgeLaws.Books.{to_caller}
 use Rattle.at_board.proofs.KnowledgeLaws.Kept.{IsKept-IsSeat, IsSeat-step, count_of-IsHistory}
 use Rattle.at_board.proofs.WordLaws.Addresses.{index_of-below}
 use Rattle.at_board.proofs.KnowledgeLaws.Counts.{HasCounts-load}
 use Rattle.at_board.proofs.StepLaws.Table.{index_of-length_of, loads_length_at}
-use Rattle.at_board.specs.declared.knowledge.Knowledge.{Knowledge}
-use Rattle.at_board.specs.Words.Addresses.{length_of, word_count}
-use Rattle.at_board.specs.Steps.LoadLength.{LoadsLength}
 use Rattle.at_board.proofs.board.Board.load_length.Goals.{After-load-length}
 use Rattle.at_board.proofs.board.Board.load_length.Goals as goal
 

@@ -1,15 +1,10 @@
 use Rattle.std.proofs.Common.{◌≡◌, sym, ap, subst, ◌∙◌, arith}
-use Rattle.std.proofs.lemmas.Grind.{common_steps}
+use Rattle.at_board.proofs.Prelude.{common_steps, IsKept, IsRecordWord, MayLoadWord, Knowledge, IsAddress, index_of, record_word, word_count}
 use Rattle.at_board.proofs.KnowledgeLaws.Books.{to_seat}
 use Rattle.at_board.proofs.KnowledgeLaws.Kept.{IsKept-IsSeat}
-use Rattle.at_board.specs.Knowledge.Seats.{IsKept}
-use Rattle.at_board.specs.Knowledge.Records.{IsRecordWord}
-use Rattle.at_board.specs.Steps.LoadRecordWord.{MayLoadWord}
-use Rattle.at_board.specs.declared.knowledge.Knowledge.{Knowledge}
 use Rattle.at_board.proofs.WordLaws.Addresses.{index_of-below}
 use Rattle.at_board.proofs.KnowledgeLaws.Records.{IsAddress-MayLoadWord}
 use Rattle.at_board.proofs.StepLaws.LoadRecordWord.{loads_word_at}
-use Rattle.at_board.specs.Words.Addresses.{IsAddress, index_of, record_word, word_count}
 use Rattle.at_board.proofs.board.Board.load_record_word.Goals.{After-self, After-record_index-index}
 use Rattle.at_board.proofs.board.Board.load_record_word.Goals as goal
 

@@ -1,16 +1,10 @@
 use Rattle.std.proofs.Common.{refl, ◌≡◌, sym, ap, subst, ◌∙◌, arith}
-use Rattle.std.proofs.lemmas.Grind.{common_steps}
-use Rattle.at_ledger.specs.Book.{BookTerms}
+use Rattle.at_board.proofs.Prelude.{common_steps, BookTerms, IsKept, Knowledge, IsAddress, index_of, request_word, word_count, MayLoadRequest, LoadsRequestWord}
 use Rattle.at_board.proofs.KnowledgeLaws.Books.{to_caller}
-use Rattle.at_board.specs.Knowledge.Seats.{IsKept}
 use Rattle.at_board.proofs.KnowledgeLaws.Kept.{IsKept-IsSeat, IsSeat-step}
 use Rattle.at_board.proofs.WordLaws.Addresses.{index_of-below}
 use Rattle.at_board.proofs.StepLaws.LoadRequestWord.{place-MayLoadRequest}
 use Rattle.at_board.proofs.StepLaws.LoadRequestWord.{HasCounts-request, loads_request_word_at}
-use Rattle.at_board.specs.declared.knowledge.Knowledge.{Knowledge}
-use Rattle.at_board.specs.Words.Addresses.{IsAddress, index_of, request_word, word_count}
-use Rattle.at_board.specs.Steps.LoadRequestWord.{MayLoadRequest}
-use Rattle.at_board.specs.Steps.LoadRequestWord.{LoadsRequestWord}
 use Rattle.at_board.proofs.board.Board.load_request_word.Goals.{After-self, After-load, After-request_index-index}
 use Rattle.at_board.proofs.board.Board.load_request_word.Goals as goal
 

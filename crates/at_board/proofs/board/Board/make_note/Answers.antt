@@ -1,7 +1,6 @@
 use Rattle.std.proofs.Common.{sym, ap, subst, ◌∙◌, arith}
-use Rattle.std.proofs.lemmas.Grind.{common_steps}
+use Rattle.at_board.proofs.Prelude.{common_steps, IsNote}
 use Rattle.at_board.proofs.StepLaws.Note.{IsNote-noted, notes, word_count-some}
-use Rattle.at_board.specs.Steps.Note.{IsNote}
 use Rattle.at_board.proofs.board.Board.make_note.Goals as goal
 
 pub split_seat-requires : goal.split_seat-requires

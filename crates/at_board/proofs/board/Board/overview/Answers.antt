@@ -1,8 +1,7 @@
 use Rattle.std.proofs.Common.{sym, ap, subst, ◌∙◌, arith}
-use Rattle.std.proofs.lemmas.Grind.{common_steps}
+use Rattle.at_board.proofs.Prelude.{common_steps, IsOverview}
 use Rattle.at_board.proofs.StepLaws.Note.{word_count-some}
 use Rattle.at_board.proofs.StepLaws.Overview.{IsOverview-seen_alone, sees_alone}
-use Rattle.at_board.specs.Knowledge.Overviews.{IsOverview}
 use Rattle.at_board.proofs.board.Board.overview.Goals as goal
 
 pub split_seat-requires : goal.split_seat-requires

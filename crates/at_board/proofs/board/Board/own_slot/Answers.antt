@@ -1,5 +1,5 @@
 use Rattle.std.proofs.Common.{arith}
-use Rattle.std.proofs.lemmas.Grind.{common_steps}
+use Rattle.at_board.proofs.Prelude.{common_steps}
 use Rattle.at_board.proofs.board.Board.own_slot.Goals as goal
 
 pub slot_of-requires : goal.slot_of-requires

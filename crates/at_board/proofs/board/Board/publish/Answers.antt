@@ -1,21 +1,12 @@
 use Rattle.std.proofs.Common.{refl, ◌≡◌, ◌+◌, ◌<◌, sym, ap, ◌∙◌, arith}
-use Rattle.std.proofs.lemmas.Grind.{common_steps}
-use Rattle.at_ledger.specs.Book.{log_room_of}
+use Rattle.at_board.proofs.Prelude.{common_steps, log_room_of, IsKept, log_room_of-le, Publication, Knowledge, MayPublish, length_of, word_count, Publishes, own_part}
 use Rattle.at_board.proofs.KnowledgeLaws.Books.{to_caller, to_seat}
 use Rattle.at_board.proofs.KnowledgeLaws.Kept.{IsKept-IsSeat, IsSeat-step}
-use Rattle.at_board.specs.Knowledge.Seats.{IsKept}
 use Rattle.at_board.proofs.StepLaws.LogRoom.{published-MayEnter}
 use Rattle.at_board.proofs.WordLaws.Addresses.{index_of-below}
 use Rattle.at_board.proofs.StepLaws.Publish.{publishes_at}
 use Rattle.at_board.proofs.KnowledgeLaws.Counts.{HasCounts-publish}
-use Rattle.at_history.proofs.Laws.Rooms.{log_room_of-le}
 use Rattle.at_board.proofs.StepLaws.Table.{index_of-length_of}
-use Rattle.at_history.specs.declared.publication.Publication.{Publication}
-use Rattle.at_board.specs.declared.knowledge.Knowledge.{Knowledge}
-use Rattle.at_board.specs.Steps.Publish.{MayPublish}
-use Rattle.at_board.specs.Words.Addresses.{length_of, word_count}
-use Rattle.at_board.specs.Steps.Publish.{Publishes}
-use Rattle.at_board.specs.Knowledge.Parts.{own_part}
 use Rattle.at_board.proofs.board.Board.publish.Goals.{After-from, After-store}
 use Rattle.at_board.proofs.board.Board.publish.Goals as goal
 

@@ -1,16 +1,10 @@
 use Rattle.std.proofs.Common.{refl, ◌≡◌, sym, ap, subst, ◌∙◌, arith}
-use Rattle.std.proofs.lemmas.Grind.{common_steps}
+use Rattle.at_board.proofs.Prelude.{common_steps, IsKept, Knowledge, MayStoreWord, index_of, record_word, word_count, StoresWord, own_part}
 use Rattle.at_board.proofs.KnowledgeLaws.Books.{to_seat}
-use Rattle.at_board.specs.Knowledge.Seats.{IsKept}
 use Rattle.at_board.proofs.KnowledgeLaws.Kept.{IsKept-IsSeat, IsSeat-step, next_record}
 use Rattle.at_board.proofs.WordLaws.Addresses.{index_of-below}
 use Rattle.at_board.proofs.KnowledgeLaws.Counts.{HasCounts-store}
 use Rattle.at_board.proofs.StepLaws.Table.{stores_word_at}
-use Rattle.at_board.specs.declared.knowledge.Knowledge.{Knowledge}
-use Rattle.at_board.specs.Steps.StoreRecordWord.{MayStoreWord}
-use Rattle.at_board.specs.Words.Addresses.{index_of, record_word, word_count}
-use Rattle.at_board.specs.Steps.StoreRecordWord.{StoresWord}
-use Rattle.at_board.specs.Knowledge.Parts.{own_part}
 use Rattle.at_board.proofs.board.Board.store_record_word.Goals.{After-record_index-index, After-seat, After-store}
 use Rattle.at_board.proofs.board.Board.store_record_word.Goals as goal
 

@@ -1,16 +1,9 @@
 use Rattle.std.proofs.Common.{refl, ◌≡◌, sym, ap, subst, ◌∙◌, arith}
-use Rattle.std.proofs.lemmas.Grind.{common_steps}
-use Rattle.at_ledger.specs.Book.{BookTerms}
+use Rattle.at_board.proofs.Prelude.{common_steps, BookTerms, IsKept, Knowledge, MayStoreRequest, index_of, request_word, word_count, StoresRequestWord, HasSlot}
 use Rattle.at_board.proofs.KnowledgeLaws.Books.{to_seat}
-use Rattle.at_board.specs.Knowledge.Seats.{IsKept}
 use Rattle.at_board.proofs.KnowledgeLaws.Kept.{IsKept-IsSeat, IsSeat-step}
 use Rattle.at_board.proofs.WordLaws.Addresses.{index_of-below}
 use Rattle.at_board.proofs.StepLaws.StoreRequestWord.{HasCounts-request_stored, MayStoreRequest-slot, next_number, place-MayStoreRequest, stores_request_word_at}
-use Rattle.at_board.specs.declared.knowledge.Knowledge.{Knowledge}
-use Rattle.at_board.specs.Steps.StoreRequestWord.{MayStoreRequest}
-use Rattle.at_board.specs.Words.Addresses.{index_of, request_word, word_count}
-use Rattle.at_board.specs.Steps.StoreRequestWord.{StoresRequestWord}
-use Rattle.at_ledger.specs.Book.{HasSlot}
 use Rattle.at_board.proofs.board.Board.store_request_word.Goals.{After-self, After-request_index-index, After-store}
 use Rattle.at_board.proofs.board.Board.store_request_word.Goals as goal
 

@@ -1,12 +1,7 @@
 use Rattle.std.proofs.Common.{◌≡◌, length, sym, ap, subst, ◌∙◌, arith}
-use Rattle.std.proofs.lemmas.Grind.{common_steps}
-use Rattle.at_ledger.specs.Book.{BookTerms}
+use Rattle.at_board.proofs.Prelude.{common_steps, BookTerms, Knowledge, Learns, learned, HasCounts, IsSeat}
 use Rattle.at_board.proofs.StepLaws.Learn.{AreSeen-key, HasCounts-learned, IsSeat-learned, Learns-learned, learns}
 use Rattle.at_board.proofs.StepLaws.Note.{word_count-some}
-use Rattle.at_board.specs.declared.knowledge.Knowledge.{Knowledge}
-use Rattle.at_board.specs.Steps.Learn.{Learns, learned}
-use Rattle.at_board.specs.Knowledge.Seats.{HasCounts}
-use Rattle.at_board.specs.Knowledge.Seats.{IsSeat}
 use Rattle.at_board.proofs.KnowledgeLaws.Kept.{IsKept-IsSeat}
 use Rattle.at_board.proofs.board.Board.take_in.Goals.{After-join_seat}
 use Rattle.at_board.proofs.board.Board.take_in.Goals as goal

@@ -1,15 +1,9 @@
 use Rattle.std.proofs.Common.{◌≡◌, ℕ, ◌<◌, length, get_or, map, sym, ap, subst, ◌∙◌, arith}
-use Rattle.std.specs.List.{range_with_len}
-use Rattle.std.proofs.lemmas.List.FromFn.{length-map-range_with_len}
-use Rattle.std.specs.Mem.Slots.{slots_counts, slots_items}
-use Rattle.at_ledger.specs.Book.{BookTerms}
+use Rattle.at_board.proofs.Prelude.{range_with_len, length-map-range_with_len, slots_counts, slots_items, BookTerms, log_room_of-le, EndTerms, records_in, records_of, length_of, record_width, record_word, word_at}
 use Rattle.at_board.proofs.EndLaws.Closed.{records_of-end_of}
 use Rattle.at_board.proofs.EndLaws.Reading.{get_or-get_elem}
 use Rattle.at_board.proofs.WordLaws.Addresses.{index_of-below}
-use Rattle.at_history.proofs.Laws.Rooms.{log_room_of-le}
 use Rattle.at_board.proofs.StepLaws.Table.{index_of-length_of}
-use Rattle.at_board.specs.Ends.Closing.{EndTerms, records_in, records_of}
-use Rattle.at_board.specs.Words.Addresses.{length_of, record_width, record_word, word_at}
 use Rattle.at_board.proofs.board_end.BoardEnd.length.Goals.{After-word}
 use Rattle.at_board.proofs.board_end.BoardEnd.length.Goals as goal
 

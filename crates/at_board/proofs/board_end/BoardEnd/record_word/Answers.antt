@@ -1,13 +1,8 @@
 use Rattle.std.proofs.Common.{◌≡◌, ℕ, ◌<◌, [], List, length, get_or, map, sym, ap, subst, ◌∙◌, arith}
-use Rattle.std.specs.List.{range_with_len}
-use Rattle.std.proofs.lemmas.List.FromFn.{get_or-map-range_with_len, length-map-range_with_len}
-use Rattle.std.specs.Mem.Slots.{slots_counts, slots_items}
-use Rattle.at_ledger.specs.Book.{BookTerms}
+use Rattle.at_board.proofs.Prelude.{range_with_len, get_or-map-range_with_len, length-map-range_with_len, slots_counts, slots_items, BookTerms, EndTerms, HasWords, end_of, records_in, records_of, IsAddress, length_of, record_width, record_word, word_at}
 use Rattle.at_board.proofs.EndLaws.Closed.{records_of-end_of}
 use Rattle.at_board.proofs.EndLaws.Reading.{get_or-get_elem}
 use Rattle.at_board.proofs.WordLaws.Addresses.{index_of-below}
-use Rattle.at_board.specs.Ends.Closing.{EndTerms, HasWords, end_of, records_in, records_of}
-use Rattle.at_board.specs.Words.Addresses.{IsAddress, length_of, record_width, record_word, word_at}
 use Rattle.at_board.proofs.board_end.BoardEnd.record_word.Goals as goal
 
 -- the record of a number, as it stands in the words

@@ -1,10 +1,8 @@
 use Rattle.std.proofs.Common.{◌≡◌, ◌+◌, ◌<◌, ◌^◌, arith}
-use Rattle.at_ledger.specs.Book.{BookTerms, IsBook}
+use Rattle.at_board.proofs.Prelude.{BookTerms, IsBook, announced_of, index_of, Layout}
 use Rattle.at_board.proofs.WordLaws.Addresses.{index_of-below}
 use Rattle.at_board.proofs.WordLaws.Sizes.{word_count-le}
 use Rattle.at_board.proofs.WordLaws.Slots.{index_of-announced_of}
-use Rattle.at_board.specs.Words.Addresses.{announced_of, index_of}
-use Rattle.at_board.specs.declared.layout.Layout.{Layout}
 use Rattle.at_board.proofs.layout.Layout.announced_index.Goals.{After-first_slot}
 use Rattle.at_board.proofs.layout.Layout.announced_index.Goals as goal
 

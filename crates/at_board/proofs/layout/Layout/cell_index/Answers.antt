@@ -1,10 +1,6 @@
 use Rattle.std.proofs.Common.{◌≡◌, ℕ, length, take, refl, ap, ◌∙◌, arith}
-use Rattle.std.proofs.lemmas.Grind.{common_steps}
-use Rattle.std.specs.List.{sum_by}
-use Rattle.std.proofs.lemmas.List.{take_all}
-use Rattle.at_ledger.specs.Book.{BookTerms}
+use Rattle.at_board.proofs.Prelude.{common_steps, sum_by, take_all, BookTerms, slots_of}
 use Rattle.at_board.proofs.WordLaws.Cells.{IsCellIndex, IsCellIndex-computed}
-use Rattle.at_ledger.specs.Account.{slots_of}
 use Rattle.at_board.proofs.layout.Layout.cell_index.Goals.{After-first_slot, After-request_room-room}
 use Rattle.at_board.proofs.layout.Layout.cell_index.Goals as goal
 

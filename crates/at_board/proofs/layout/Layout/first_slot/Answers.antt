@@ -1,6 +1,5 @@
 use Rattle.std.proofs.Common.{◌∙◌, arith}
-use Rattle.std.proofs.lemmas.Grind.{common_steps}
-use Rattle.std.proofs.lemmas.List.{get_or_read}
+use Rattle.at_board.proofs.Prelude.{common_steps, get_or_read}
 use Rattle.at_board.proofs.layout.Layout.first_slot.Goals as goal
 
 pub returns : goal.returns

@@ -1,13 +1,8 @@
 use Rattle.std.proofs.Common.{◌≡◌, ◌+◌, ◌*◌, length, take, ap, ◌∙◌, arith}
-use Rattle.std.proofs.lemmas.Grind.{common_steps}
-use Rattle.std.specs.List.{sum_by}
-use Rattle.std.proofs.lemmas.List.{take_all}
-use Rattle.at_ledger.specs.Book.{BookTerms}
+use Rattle.at_board.proofs.Prelude.{common_steps, sum_by, take_all, BookTerms, slots_of, request_word}
 use Rattle.at_board.proofs.WordLaws.Addresses.{index_of-below}
 use Rattle.at_board.proofs.WordLaws.Sizes.{word_count-le}
 use Rattle.at_board.proofs.WordLaws.Slots.{IsRequestAddress, index_of-request_word, request_index-computed}
-use Rattle.at_ledger.specs.Account.{slots_of}
-use Rattle.at_board.specs.Words.Addresses.{request_word}
 use Rattle.at_board.proofs.layout.Layout.request_index.Goals.{After-first_slot, After-request_room}
 use Rattle.at_board.proofs.layout.Layout.request_index.Goals as goal
 

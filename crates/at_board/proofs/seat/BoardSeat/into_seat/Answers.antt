@@ -1,5 +1,5 @@
 use Rattle.std.proofs.Common.{arith}
-use Rattle.std.proofs.lemmas.Grind.{common_steps}
+use Rattle.at_board.proofs.Prelude.{common_steps}
 use Rattle.at_board.proofs.seat.BoardSeat.into_seat.Goals as goal
 
 pub returns-clause-one_part : goal.returns-clause-one_part

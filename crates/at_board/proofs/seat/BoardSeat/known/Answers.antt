@@ -1,8 +1,6 @@
 use Rattle.std.proofs.Common.{ap, subst, arith}
-use Rattle.std.proofs.lemmas.Grind.{common_steps}
+use Rattle.at_board.proofs.Prelude.{common_steps, SeesForms, FitsNext}
 use Rattle.at_board.proofs.StepLaws.Forms.{FitsNext-IsSeat, SeesForms-IsSeat}
-use Rattle.at_board.specs.Knowledge.Records.{SeesForms}
-use Rattle.at_board.specs.Steps.Publish.{FitsNext}
 use Rattle.at_board.proofs.seat.BoardSeat.known.Goals as goal
 
 pub returns-clause-records : goal.returns-clause-records

@@ -1,8 +1,5 @@
-use Rattle.std.proofs.lemmas.Grind.{common_steps}
+use Rattle.at_broadcast.proofs.Prelude.{common_steps, IsPartitionPoint-from_clause, IsPartitionedBy-ltb, Credit, CreditList, amount_since}
 use Rattle.std.proofs.Common.{ℕ, ◌<◌, List, length, ap, sym, ◌∙◌, ltb, ltb-true, ltb-false, arith, rules}
-use Rattle.std.proofs.lemmas.List.Sorted.{IsPartitionPoint-from_clause, IsPartitionedBy-ltb}
-use Rattle.at_broadcast.specs.declared.credits.Credit.{Credit}
-use Rattle.at_broadcast.specs.Credits.{CreditList, amount_since}
 use Rattle.at_broadcast.proofs.CreditLaws.{amount_since-first, amount_since-none}
 use Rattle.at_broadcast.proofs.credits.Credits.since.Goals as goal
 

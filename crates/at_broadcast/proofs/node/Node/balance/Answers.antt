@@ -1,5 +1,5 @@
 use Rattle.std.proofs.Common.{pos, get_or, ap, subst, ◌∙◌}
-use Rattle.at_broadcast.specs.Node.{IsNode, NodeState}
+use Rattle.at_broadcast.proofs.Prelude.{IsNode, NodeState}
 use Rattle.at_broadcast.proofs.NodeLaws.{ShowsBalances-IsNode}
 use Rattle.at_broadcast.proofs.node.Node.balance.Goals as goal
 

@@ -1,5 +1,5 @@
 use Rattle.std.proofs.Common.{subst, sym}
-use Rattle.at_broadcast.specs.Node.{IsNode}
+use Rattle.at_broadcast.proofs.Prelude.{IsNode}
 use Rattle.at_broadcast.proofs.NodeLaws.{AgreesWithAll-IsNode, HasPrefixes-IsNode, IsOnlyClosed-IsNode, IsSolvent-IsNode, ShowsBalances-IsNode}
 use Rattle.at_broadcast.proofs.node.Node.deliver.Goals.{Then-is_delivered, After-from_residual, After-settle}
 use Rattle.at_broadcast.proofs.node.Node.deliver.Goals as goal

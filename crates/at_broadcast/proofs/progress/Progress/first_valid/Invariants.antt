@@ -1,6 +1,5 @@
 use Rattle.std.proofs.Common.{ℕ, ◌<◌}
-use Rattle.at_broadcast.specs.declared.message.Message.{Message}
-use Rattle.at_broadcast.specs.Validated.{IsValid}
+use Rattle.at_broadcast.proofs.Prelude.{Message, IsValid}
 use Rattle.at_broadcast.proofs.progress.Progress.first_valid.Given as goal
 
 abbrev pub invariant-loop-p : goal.invariant-loop-p

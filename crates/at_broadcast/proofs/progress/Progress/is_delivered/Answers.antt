@@ -1,5 +1,5 @@
 use Rattle.std.proofs.Common.{arith}
-use Rattle.std.proofs.lemmas.Grind.{common_steps}
+use Rattle.at_broadcast.proofs.Prelude.{common_steps}
 use Rattle.at_broadcast.proofs.progress.Progress.is_delivered.Goals as goal
 
 pub returns : goal.returns

@@ -1,27 +1,18 @@
-use Rattle.std.proofs.lemmas.Grind.{common_steps}
+use Rattle.at_broadcast.proofs.Prelude.{common_steps, range_with_len, sum_by, get_or_read, Covers, LogTerms, amount_since, message_credit, sum_of_first, NodeState, messages_of, no_sender, SenderState, credits_to}
 use Rattle.std.proofs.Common.{◌≡◌, ℕ, ◌+◌, ◌<◌, List, length, get_or, ap, sym, subst, ◌∙◌, add-one, zero-add, arith}
-use Rattle.std.specs.List.{range_with_len, sum_by}
-use Rattle.std.proofs.lemmas.List.{get_or_read}
-use Rattle.at_base.specs.Counts.{Covers}
-use Rattle.at_ledger.specs.Book.{BookTerms}
-use Rattle.at_broadcast.specs.Credits.{amount_since}
-use Rattle.at_broadcast.specs.Messages.{message_credit, sum_of_first}
-use Rattle.at_broadcast.specs.Node.{NodeState}
-use Rattle.at_broadcast.specs.Progress.{messages_of, no_sender}
-use Rattle.at_broadcast.specs.Sender.{SenderState, credits_to}
 use Rattle.at_broadcast.proofs.LeftLaws.{left_of, left_of-sum}
 use Rattle.at_broadcast.proofs.RangeLaws.{range-more}
 use Rattle.at_broadcast.proofs.progress.Progress.left_out.Goals as goal
 
 pub loop-q-preserved : goal.loop-q-preserved
 loop-q-preserved c =
-    let b : BookTerms = c.self.inside.book in
+    let b : LogTerms = c.self.inside.book in
     let senders : List SenderState = c.self.inside.senders.items in
     let counts : List ℕ = c.self.inside.validated in
     let deps : List ℕ = c.args.deps.now in
     let a : ℕ = c.args.account in
     let q : ℕ = c.loop-q.q in
-    let process : q < b.processes = omega (arith, c.loop-q-test.true, c.processes-q-end.ensures) in
+    let process : q < b.logs = omega (arith, c.loop-q-test.true, c.logs-q-end.ensures) in
     let inside : q < length senders = omega (arith, process, c.self.invariant.sized) in
     let known : a < length b.accounts = omega (arith, c.requires.account_in, ap (λ (s : NodeState). length s.book.accounts) c.self.view_is) in
     let read = get_or_read senders q c.index.result.now inside c.index.ensures no_sender in
@@ -37,14 +28,14 @@ loop-q-preserved c =
 
 pub returns-clause-sum : goal.returns-clause-sum
 returns-clause-sum c =
-    let b : BookTerms = c.self.inside.book in
+    let b : LogTerms = c.self.inside.book in
     let senders : List SenderState = c.self.inside.senders.items in
     let counts : List ℕ = c.self.inside.validated in
     let deps : List ℕ = c.args.deps.now in
     let a : ℕ = c.args.account in
     let known : a < length b.accounts = omega (arith, c.requires.account_in, ap (λ (s : NodeState). length s.book.accounts) c.self.view_is) in
     let covered = subst (λ (s : NodeState). Covers s.validated deps) (sym c.self.view_is) c.requires.covered in
-    let end : c.loop-q.q ≡ b.processes = omega (arith, c.loop-q-test.false, c.loop-q.auto.q-end, c.processes-q-end.ensures) in
+    let end : c.loop-q.q ≡ b.logs = omega (arith, c.loop-q-test.false, c.loop-q.auto.q-end, c.logs-q-end.ensures) in
     subst (λ (s : NodeState). c.loop-q.sum + sum_of_first (message_credit a) s.messages deps ≡ sum_of_first (message_credit a) s.messages s.validated) c.self.view_is
     (ap (λ n. n + sum_of_first (message_credit a) (messages_of senders) deps)
     (c.loop-q.invariant.summed ∙ ap (λ n. sum_by (left_of senders deps a) (range_with_len 0 n)) end)

@@ -1,58 +1,56 @@
-use Rattle.std.proofs.lemmas.Grind.{common_steps}
-use Rattle.std.proofs.Common.{◌≡◌, ℕ, ◌<◌, List, length, get_or, set, None, Ok, Err, ap, sym, subst, ◌∙◌, arith}
-use Rattle.std.specs.Result.{OnOk, OnErr}
-use Rattle.std.specs.declared.result.Result.{Result}
-use Rattle.std.specs.declared.alloc.AllocError.{AllocError}
-use Rattle.std.proofs.lemmas.Result.{on_ok_weaker}
-use Rattle.std.proofs.lemmas.List.{get_or_read, set-get_or}
-use Rattle.at_ledger.specs.Book.{BookTerms}
-use Rattle.at_broadcast.specs.declared.message.Message.{Message}
-use Rattle.at_broadcast.specs.Messages.{IsMessageOn, MessageList, message_of, with_message}
-use Rattle.at_broadcast.specs.Node.{NodeState}
-use Rattle.at_broadcast.specs.Progress.{IsProgress, messages_of, no_sender, sender_of}
-use Rattle.at_broadcast.specs.Sender.{SenderState, credits_to, stored}
-use Rattle.at_broadcast.proofs.ProgressLaws.{IsProgress-stored, messages_of-stored}
-use Rattle.at_broadcast.proofs.SenderLaws.{room-le}
+use Rattle.std.proofs.Common.{◌≡◌, ℕ, ◌<◌, List, [], length, set, None, Ok, Err, ap, sym, subst, ◌∙◌, arith}
+use Rattle.at_broadcast.proofs.Prelude.{OnOk, OnErr, Result, AllocError, on_err_weaker, on_ok_weaker, get_or_read, AreTargetsOn, LogTerms, Message, IsMessageOn, MessageList, message_of, with_message, NodeState, IsProgress, messages_of, no_sender, sender_of, IsStored, MakesRoom, SenderState}
+use Rattle.at_broadcast.proofs.ProgressLaws.{IsProgress-roomier, IsProgress-stored, messages_of-same, messages_of-stored}
 use Rattle.at_broadcast.proofs.progress.Progress.store.Goals.{After-index_mut}
 use Rattle.at_broadcast.proofs.progress.Progress.store.Goals as goal
 
 -- the sender that was read
 read : (c : After-index_mut) → c.index_mut.result.now ≡ sender_of c.self.inside.senders.items c.args.sender
 read c =
-    let process : c.args.sender < length c.self.inside.senders.items = omega (arith, c.self.invariant.sized, c.requires.sender_in, ap (λ (s : NodeState). s.book.processes) c.self.view_is) in
+    let process : c.args.sender < length c.self.inside.senders.items = omega (arith, c.self.invariant.sized, c.requires.sender_in, ap (λ (s : NodeState). s.book.logs) c.self.view_is) in
     get_or_read c.self.inside.senders.items c.args.sender c.index_mut.result.now process c.index_mut.ensures.value no_sender
 
-pub store-requires-clause-room : goal.store-requires-clause-room
-store-requires-clause-room c =
-    let process : c.args.sender < c.self.inside.book.processes = omega (arith, c.requires.sender_in, ap (λ (s : NodeState). s.book.processes) c.self.view_is) in
-    let target : c.args.message.now.to < length c.self.inside.book.accounts = omega (arith, c.requires.message_in.target, ap (λ (s : NodeState). length s.book.accounts) c.self.view_is) in
-    let small = room-le (length c.self.inside.book.accounts) (get_or c.self.inside.validated c.args.sender 0) c.args.message.now.to
-    (sender_of c.self.inside.senders.items c.args.sender) (c.self.invariant.credits c.args.sender process) target in
-    omega (arith, small, ap (λ (s : SenderState). (credits_to s c.args.message.now.to).room) (read c))
+pub store-requires-clause-targets : goal.store-requires-clause-targets
+store-requires-clause-targets c =
+    let process : c.args.sender < c.self.inside.book.logs = omega (arith, c.requires.sender_in, ap (λ (s : NodeState). s.book.logs) c.self.view_is) in
+    let accounts : length c.args.self.now.book.accounts ≡ length c.index_mut.result.now.credits =
+    sym (ap (λ (s : SenderState). length s.credits) (read c) ∙ ((c.self.invariant.credits c.args.sender process).sized ∙ ap (λ (s : NodeState). length s.book.accounts) c.self.view_is)) in
+    subst (λ (n : ℕ). AreTargetsOn n c.args.message.now.targets) accounts c.requires.message_in.targets
 
--- a fact that holds of the sender as it was and of the sender with the message
-either : (r : Result (Unit {0}) AllocError) (P : SenderState → Type 0) (old new after : SenderState)
-    → OnOk r (new ≡ after) → OnErr r (new ≡ old) → P old → P after → P new
-either (Ok _) P old new after ok err was is = subst P (sym ok) is
-either (Err _) P old new after ok err was is = subst P (sym err) was
+-- a sender that has more room alone
+abbrev KeepsSender : SenderState → SenderState → Type 0
+KeepsSender before after = (after.messages ≡ before.messages) × MakesRoom [] before after
+
+keeps : (r : Result (Unit {0}) AllocError) (before after : SenderState) → OnErr r (after.messages ≡ before.messages) → OnErr r (MakesRoom [] before after)
+    → OnErr r (KeepsSender before after)
+keeps (Ok _) before after messages makes = tt
+keeps (Err _) before after messages makes = (messages, makes)
+
+-- a fact of the sender that holds where the message is stored and where it isn't
+either : (r : Result (Unit {0}) AllocError) (Stored Kept : Type 0) (P : Type 0) → OnOk r Stored → OnErr r Kept → (Stored → P) → (Kept → P) → P
+either (Ok _) Stored Kept P ok err stored kept = stored ok
+either (Err _) Stored Kept P ok err stored kept = kept err
 
 pub invariant_of-self : goal.invariant_of-self
 invariant_of-self c =
-    let b : BookTerms = c.self.inside.book in
+    let b : LogTerms = c.self.inside.book in
     let counts : List ℕ = c.self.inside.validated in
     let senders : List SenderState = c.self.inside.senders.items in
     let balances : List ℕ = c.self.inside.balances.items in
     let p : ℕ = c.args.sender in
-    let process : p < b.processes = omega (arith, c.requires.sender_in, ap (λ (s : NodeState). s.book.processes) c.self.view_is) in
+    let m : Message = c.args.message.now in
+    let new : SenderState = c.store.new.self in
+    let process : p < b.logs = omega (arith, c.requires.sender_in, ap (λ (s : NodeState). s.book.logs) c.self.view_is) in
     let none = subst (λ (s : NodeState). message_of s.messages p c.args.number ≡ None) (sym c.self.view_is) c.requires.undelivered in
-    let known = subst (λ (s : NodeState). IsMessageOn s.book c.args.message.now) (sym c.self.view_is) c.requires.message_in in
-    let P : SenderState → Type 0 = λ s. IsProgress b counts (set senders p s) balances in
+    let known = subst (λ (s : NodeState). IsMessageOn s.book.logs (length s.book.accounts) m) (sym c.self.view_is) c.requires.message_in in
     let sender = read ((goal.at.invariant_of-self c).After-index_mut) in
-    either c.store.result P c.index_mut.result.now c.store.new.self (stored c.index_mut.result.now c.args.number c.args.message.now)
-    c.store.ensures.ok c.store.ensures.err
-    (subst P (sym sender) (subst (λ (l : List SenderState). IsProgress b counts l balances) (sym (set-get_or senders p no_sender)) c.self.invariant))
-    (subst (λ (s : SenderState). P (stored s c.args.number c.args.message.now)) (sym sender)
-    (IsProgress-stored b counts senders balances p c.args.number c.args.message.now c.self.invariant process c.requires.number_in none known))
+    either c.store.result (IsStored c.index_mut.result.now c.args.number m new) (KeepsSender c.index_mut.result.now new)
+    (IsProgress b counts (set senders p new) balances)
+    c.store.ensures.ok (keeps c.store.result c.index_mut.result.now new c.store.ensures.messages c.store.ensures.err)
+    (λ stored. IsProgress-stored b counts senders balances p c.args.number m new c.self.invariant process c.requires.number_in none known
+    (subst (λ (s : SenderState). IsStored s c.args.number m new) sender stored))
+    (λ kept. IsProgress-roomier b counts senders balances p new c.self.invariant process
+    (kept.0 ∙ ap (λ (s : SenderState). s.messages) sender) (subst (λ (s : SenderState). MakesRoom [] s new) sender kept.1))
 
 pub returns-clause-ok : goal.returns-clause-ok
 returns-clause-ok c =
@@ -60,11 +58,18 @@ returns-clause-ok c =
     let p : ℕ = c.args.sender in
     let number : ℕ = c.args.number in
     let m : Message = c.args.message.now in
+    let new : SenderState = c.store.new.self in
     on_ok_weaker c.store.result (λ ok.
     ap (λ (l : List MessageList). record { book = c.self.inside.book; messages = l; validated = c.self.inside.validated; balances = c.self.inside.balances.items })
-    (ap (λ (s : SenderState). messages_of (set senders p s)) (ok ∙ ap (λ (s : SenderState). stored s number m) (read ((goal.at.returns-clause-ok c).After-index_mut)))
-    ∙ messages_of-stored senders p number m)
+    (messages_of-stored senders p number m new (subst (λ (s : SenderState). IsStored s number m new) (read ((goal.at.returns-clause-ok c).After-index_mut)) ok))
     ∙ ap (λ (s : NodeState). record { book = s.book; messages = with_message s.messages p number m; validated = s.validated; balances = s.balances }) c.self.view_is) c.store.ensures.ok
 
 pub returns-clause-err : goal.returns-clause-err
-returns-clause-err c = grind (arith, common_steps)
+returns-clause-err c =
+    let senders : List SenderState = c.self.inside.senders.items in
+    let p : ℕ = c.args.sender in
+    let new : SenderState = c.store.new.self in
+    on_err_weaker c.store.result (λ kept.
+    ap (λ (l : List MessageList). record { book = c.self.inside.book; messages = l; validated = c.self.inside.validated; balances = c.self.inside.balances.items })
+    (messages_of-same senders p new (kept ∙ ap (λ (s : SenderState). s.messages) (read ((goal.at.returns-clause-err c).After-index_mut))))
+    ∙ c.self.view_is) c.store.ensures.messages

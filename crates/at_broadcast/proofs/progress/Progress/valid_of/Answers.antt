@@ -1,11 +1,5 @@
-use Rattle.std.proofs.lemmas.Grind.{common_steps}
+use Rattle.at_broadcast.proofs.Prelude.{common_steps, option_copied, get_or_read, IsMessageOn, MessageList, message_at, message_of, NodeState, messages_of, no_sender, SenderState}
 use Rattle.std.proofs.Common.{◌≡◌, ℕ, ◌<◌, List, Some, length, ap, sym, subst, ◌∙◌, arith}
-use Rattle.std.specs.Option.{option_copied}
-use Rattle.std.proofs.lemmas.List.{get_or_read}
-use Rattle.at_broadcast.specs.Messages.{IsMessageOn, MessageList, message_at, message_of}
-use Rattle.at_broadcast.specs.Node.{NodeState}
-use Rattle.at_broadcast.specs.Progress.{messages_of, no_sender}
-use Rattle.at_broadcast.specs.Sender.{SenderState}
 use Rattle.at_broadcast.proofs.ProgressLaws.{list_of-messages_of}
 use Rattle.at_broadcast.proofs.progress.Progress.valid_of.Goals as goal
 
@@ -13,12 +7,12 @@ pub is_valid-requires-clause-message_in : goal.is_valid-requires-clause-message_
 is_valid-requires-clause-message_in c =
     let senders : List SenderState = c.self.inside.senders.items in
     let p : ℕ = c.args.p in
-    let inside : p < length senders = omega (arith, c.requires, c.self.invariant.sized, ap (λ (s : NodeState). s.book.processes) c.self.view_is) in
+    let inside : p < length senders = omega (arith, c.requires, c.self.invariant.sized, ap (λ (s : NodeState). s.book.logs) c.self.view_is) in
     let read = get_or_read senders p c.index.result.now inside c.index.ensures no_sender in
     let there : message_of (messages_of senders) p c.get.result ≡ Some c.in_ok-message.message.now =
     ap (λ (l : MessageList). message_at l c.get.result) (list_of-messages_of senders p)
     ∙ (ap (λ (s : SenderState). message_at s.messages c.get.result) (sym read) ∙ (sym c.message.ensures ∙ ap option_copied c.in_ok-message.was)) in
-    subst (λ (s : NodeState). IsMessageOn s.book c.in_ok-message.message.now) c.self.view_is (c.self.invariant.known p c.get.result c.in_ok-message.message.now there)
+    subst (λ (s : NodeState). IsMessageOn s.book.logs (length s.book.accounts) c.in_ok-message.message.now) c.self.view_is (c.self.invariant.known p c.get.result c.in_ok-message.message.now there)
 
 pub returns-clause-some : goal.returns-clause-some
 returns-clause-some c = grind (arith, common_steps)

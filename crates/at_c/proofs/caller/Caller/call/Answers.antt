@@ -1,8 +1,5 @@
 use Rattle.std.proofs.Common.{◌<◌, length, subst, sym, ◌∙◌, vec_capacity}
-use Rattle.std.specs.Arc.{arc_value}
-use Rattle.at_ledger.specs.Call.{IsCallOn}
-use Rattle.at_c.specs.Callers.{OwnCallerTerms}
-use Rattle.at_c.specs.Shared.{SharedTerms}
+use Rattle.at_c.proofs.Prelude.{arc_value, IsCallOn, OwnCallerTerms, SharedTerms}
 use Rattle.at_c.proofs.Kept.{IsCaller-called}
 use Rattle.at_c.proofs.caller.Caller.call.Goals as goal
 

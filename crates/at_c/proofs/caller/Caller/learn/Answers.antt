@@ -1,5 +1,5 @@
 use Rattle.std.proofs.Common.{vec_capacity}
-use Rattle.std.specs.Arc.{arc_value}
+use Rattle.at_c.proofs.Prelude.{arc_value}
 use Rattle.at_c.proofs.Kept.{IsCaller-learned}
 use Rattle.at_c.proofs.caller.Caller.learn.Goals as goal
 

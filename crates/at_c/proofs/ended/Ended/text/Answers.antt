@@ -1,10 +1,5 @@
 use Rattle.std.proofs.Common.{length, subst, sym, List, All}
-use Rattle.at_ledger.specs.Book.{BookTerms}
-use Rattle.at_ledger.specs.Call.{IsLineOn}
-use Rattle.at_ledger.specs.Run.{Whole}
-use Rattle.at_ledger.specs.declared.call.Line.{Line}
-use Rattle.at_journal.specs.Calls.{calls_in}
-use Rattle.at_log.specs.ClosingTerms.{ClosingTerms}
+use Rattle.at_c.proofs.Prelude.{BookTerms, IsLineOn, Whole, Line, calls_in, ClosingTerms}
 use Rattle.at_c.proofs.Lines.{IsLineOn-closed}
 use Rattle.at_c.proofs.ended.Ended.text.Goals as goal
 

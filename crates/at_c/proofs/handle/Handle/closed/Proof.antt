@@ -2,12 +2,10 @@
 use Rattle.at_c.proofs.Walks.Steps.{[], ◌∷◌, ◌++◌, List, refl, sym, subst, Val, SProp, ent, emp, id⊢, ftrue, WpFn, ‵, raw, ◌⊛◌, ◌$◌, ◌∵◌, !, qed, by, move, keep, split, fsplit, fjoin, suffices, use0, lit, no_more, and_then, returns, enter, alloc_all, pass_all, free_all, look_at, get, sets, agg, fact, fact_i, tables, yes, owns, types_at, plain, null_ptr, ptr_val, nothing, Stays, stay_dropped, walk_of, Goes-dropped, None, proved_at, leaves, ◌≡◌}
 use Rattle.at_c.proofs.Walks.Boxes.{both}
 use Rattle.at_c.proofs.Walks.Handles.{R, Z, handle_in, heap_out, handle_good}
-use Rattle.at_c.specs.contracts.handle.Handle.closed.{ended, clauses}
+use Rattle.at_c.proofs.Prelude.{ended, clauses, Option, feq_i}
 use Rattle.at_c.specs.contracts.handle.Handle.closed.Key.{name as #self}
 use Rattle.at_c.proofs.handle.Handle.closed.Statement.{statement}
 use Rattle.at_c.proofs.handle.Handle.closed.Code as code
-use Rattle.std.specs.declared.option.Option.{Option}
-use types.Kit.{feq_i}
 
 pub closed_spec : {M : Type 1} → statement M
 closed_spec 𝓤 𝓛 𝓜 𝓡 wired =

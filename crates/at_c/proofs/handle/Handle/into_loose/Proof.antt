@@ -6,7 +6,7 @@ use Rattle.at_c.specs.contracts.handle.Handle.into_loose.{ended, clauses}
 use Rattle.at_c.specs.contracts.handle.Handle.into_loose.Key.{name as #self}
 use Rattle.at_c.proofs.handle.Handle.into_loose.Statement.{statement}
 use Rattle.at_c.proofs.handle.Handle.into_loose.Code as code
-use Rattle.std.specs.declared.option.Option.{Option}
+use Rattle.at_c.proofs.Prelude.{Option}
 
 pub into_loose_spec : {M : Type 1} → statement M
 into_loose_spec 𝓤 𝓛 𝓜 𝓡 wired =

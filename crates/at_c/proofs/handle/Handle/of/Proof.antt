@@ -6,10 +6,7 @@ use Rattle.at_c.specs.contracts.handle.Handle.of.{ended, clauses}
 use Rattle.at_c.specs.contracts.handle.Handle.of.Key.{name as #self}
 use Rattle.at_c.proofs.handle.Handle.of.Statement.{statement}
 use Rattle.at_c.proofs.handle.Handle.of.Code as code
-use Rattle.std.specs.declared.option.Option.{Option}
-use base.Fml.{fsep, feq}
-use types.Kit.{fpack, feq_i}
-use Rattle.std_alloc.specs.Box.Ownership.{box_owns}
+use Rattle.at_c.proofs.Prelude.{Option, fsep, feq, fpack, feq_i, box_owns}
 
 pub of_spec : {M : Type 1} → statement M
 of_spec 𝓤 𝓛 𝓜 𝓡 wired =

@@ -1,7 +1,5 @@
 use Rattle.std.proofs.Common.{List, subst}
-use Rattle.at_ledger.specs.Call.{TargetPair}
-use Rattle.at_ledger.specs.declared.call.Call.{Call}
-use Rattle.at_c.specs.Exports.{HandleAnswers, IsPayOut}
+use Rattle.at_c.proofs.Prelude.{TargetPair, Call, HandleAnswers, IsPayOut}
 use Rattle.at_c.proofs.Near.{HandleAnswers-near}
 use Rattle.at_c.proofs.handle.Handle.pay.Goals as goal
 

@@ -1,5 +1,5 @@
 use Rattle.std.proofs.Common.{length, sym, ap, ◌∙◌}
-use Rattle.at_c.specs.Ledgers.{OpenedTerms}
+use Rattle.at_c.proofs.Prelude.{OpenedTerms}
 use Rattle.at_c.proofs.Kept.{IsStillOpen-none}
 use Rattle.at_c.proofs.opened.Opened.take_back.Goals as goal
 

@@ -1,5 +1,5 @@
 use Rattle.std.proofs.Common.{◌≡◌, length}
-use Rattle.at_c.specs.Ledgers.{IsStillOpen}
+use Rattle.at_c.proofs.Prelude.{IsStillOpen}
 use Rattle.at_c.proofs.opened.Opened.take_back.Given as goal
 
 -- as many are back as were asked for

@@ -1,11 +1,6 @@
 use Rattle.std.proofs.Common.{ℕ, List, Some, sym, ap, ◌∙◌}
-use Rattle.at_ledger.specs.Account.{is_single}
-use Rattle.at_ledger.specs.Book.{BookTerms, account_of}
-use Rattle.at_ledger.specs.Call.{TargetPair}
-use Rattle.at_object.specs.Parted.{pass_of}
+use Rattle.at_calling.proofs.Prelude.{is_single, BookTerms, account_of, TargetPair, pass_of, PayingAloneTerms, first_step}
 use Rattle.at_calling.proofs.CallingLaws.{owner-refusal_of, refusal_in-payout, room-refusal_of}
-use Rattle.at_calling.specs.PayingAlone.{PayingAloneTerms}
-use Rattle.at_calling.specs.Calling.{first_step}
 use Rattle.at_calling.proofs.call_stage.CallStage.alone.Goals as goal
 
 pub start-paying-requires-clause-owner : goal.start-paying-requires-clause-owner

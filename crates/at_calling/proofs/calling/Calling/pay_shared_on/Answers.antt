@@ -1,22 +1,5 @@
 use Rattle.std.proofs.Common.{◌≡◌, ℕ, ◌<◌, ◌≤◌, ◌↔◌, IfSome, IsSome, Option, None, Some, false, true, refl, sym, ap, subst, ◌∙◌, arith}
-use Rattle.std.specs.List.{sum}
-use Rattle.at_ledger.specs.Book.{BookTerms}
-use Rattle.at_history.specs.Moves.{AreRuns}
-use Rattle.at_history.specs.Publications.{IsPrefix}
-use Rattle.at_board.specs.Counting.{raised}
-use Rattle.at_board.specs.Knowledge.Seats.{SeatTerms}
-use Rattle.at_board.specs.declared.knowledge.Knowledge.{Knowledge}
-use Rattle.at_fold.specs.Sums.{TotalSums}
-use Rattle.at_ledger.specs.Call.{payout_of}
-use Rattle.at_log.specs.declared.receipt.Receipt.{Receipt}
-use Rattle.at_object.specs.declared.parts.Rest.{Rest}
-use Rattle.at_object.specs.CallCounts.{with_one_call}
-use Rattle.at_calling.specs.Calling.{CallingTerms, MakesCallStep, call_turns_left, exchanges_made, steps_made}
-use Rattle.at_calling.specs.KeptCalling.{IsCallingSo, TakesCallTurn, calling_of}
-use Rattle.at_calling.specs.PayingShared.{PayingSharedTerms, share_exchanges_made, share_turns_left, share_turns_most}
-use Rattle.at_calling.specs.Reading.{newly_seen}
-use Rattle.at_calling.specs.declared.call_stage.CallStage.{CallStage}
-use Rattle.at_calling.specs.declared.call_stage.CallStage.TheVariants.{PayShared}
+use Rattle.at_calling.proofs.Prelude.{sum, BookTerms, AreRuns, IsPrefix, raised, SeatTerms, Knowledge, TotalSums, payout_of, Receipt, Rest, with_one_call, CallingTerms, MakesCallStep, call_turns_left, exchanges_made, steps_made, IsCallingSo, TakesCallTurn, calling_of, PayingSharedTerms, share_exchanges_made, share_turns_left, share_turns_most, newly_seen, CallStage, PayShared}
 use Rattle.at_calling.proofs.CallingTurns.{Leaves, TakesCallTurn-stages, calling_next, IsCallingSo-shared, Leaves-shared, few-shared, still-shared, way-shared}
 use Rattle.at_calling.proofs.calling.Calling.pay_shared_on.Goals.{After-known, After-count_one, After-self}
 use Rattle.at_calling.proofs.calling.Calling.pay_shared_on.Goals as goal

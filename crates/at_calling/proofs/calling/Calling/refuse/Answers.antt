@@ -1,18 +1,6 @@
 use Rattle.std.proofs.Common.{◌≡◌, Some, refl, sym, ap, subst, ◌∙◌, arith}
-use Rattle.at_history.specs.Moves.{AreRuns}
-use Rattle.at_ledger.specs.Book.{BookTerms}
-use Rattle.at_ledger.specs.declared.call.Reply.{Reply}
-use Rattle.at_board.specs.Knowledge.Seats.{SeatTerms}
-use Rattle.at_log.specs.declared.receipt.At.{At}
-use Rattle.at_log.specs.declared.receipt.At.TheVariants.{Previous}
-use Rattle.at_log.specs.declared.receipt.Receipt.{Receipt}
-use Rattle.at_object.specs.CallCounts.{with_one_call}
-use Rattle.at_object.specs.declared.parts.Rest.{Rest}
+use Rattle.at_calling.proofs.Prelude.{AreRuns, BookTerms, Reply, SeatTerms, At, Previous, Receipt, with_one_call, Rest, CallingTerms, exchanges_made, pass_before, steps_made, IsCallingSo, TakesCallTurn, calling_of, CallStage, Refuse, Refused}
 use Rattle.at_calling.proofs.CallingTurns.{IsCallWithin-none, Leaves, Leaves-refused, TakesCallTurn-stages, begins-refused, calling_next, undecided-refused, was-refused}
-use Rattle.at_calling.specs.Calling.{CallingTerms, exchanges_made, pass_before, steps_made}
-use Rattle.at_calling.specs.KeptCalling.{IsCallingSo, TakesCallTurn, calling_of}
-use Rattle.at_calling.specs.declared.call_stage.CallStage.{CallStage}
-use Rattle.at_calling.specs.declared.call_stage.CallStage.TheVariants.{Refuse, Refused}
 use Rattle.at_calling.proofs.calling.Calling.refuse.Goals.{After-self}
 use Rattle.at_calling.proofs.calling.Calling.refuse.Goals as goal
 

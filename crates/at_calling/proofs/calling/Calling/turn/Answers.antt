@@ -1,6 +1,5 @@
 use Rattle.std.proofs.Common.{◌≡◌, refl, sym, ap, ◌∙◌, arith}
-use Rattle.at_calling.specs.Calling.{CallingTerms, exchanges_of, steps_of}
-use Rattle.at_calling.specs.declared.call_stage.CallStage.TheVariants.{Refuse}
+use Rattle.at_calling.proofs.Prelude.{CallingTerms, exchanges_of, steps_of, Refuse}
 use Rattle.at_calling.proofs.calling.Calling.turn.Goals as goal
 
 pub refuse-requires-clause-mark : goal.refuse-requires-clause-mark

@@ -1,38 +1,9 @@
 use Rattle.std.proofs.Common.{◌≡◌, IsTrue, ℕ, ◌+◌, ◌-◌, ◌<◌, ◌≤◌, ◌≢◌, ◌↔◌, List, Option, IfSome, IsSome, None, Some, length, set, false, true, refl, sym, ap, subst, ◌∙◌, arith}
 use Rattle.std.specs.Prelude.{slice_index, sum}
-use Rattle.at_ledger.specs.Book.{BookTerms}
-use Rattle.at_ledger.specs.declared.call.Reply.{Reply}
-use Rattle.at_ledger.specs.declared.call.Reply.TheVariants.{Done}
-use Rattle.at_history.proofs.Laws.Prefixes.{IsPrefix-refl}
-use Rattle.at_history.specs.Publications.{IsPrefix}
-use Rattle.at_history.specs.Rounds.{owns_of}
-use Rattle.at_history.specs.declared.publication.Entry.{Entry}
-use Rattle.at_history.specs.declared.publication.Publication.{Publication}
-use Rattle.at_board.specs.Knowledge.Parts.{own_part}
-use Rattle.at_board.specs.Knowledge.Seats.{SeatTerms}
-use Rattle.at_board.specs.Steps.Publish.{Publishes}
-use Rattle.at_board.specs.Steps.StoreRecordWord.{StoresWord, with_word}
-use Rattle.at_board.specs.Words.Addresses.{record_width}
-use Rattle.at_board.specs.Words.Packed.{record_words}
-use Rattle.at_board.specs.declared.knowledge.Knowledge.{Knowledge}
-use Rattle.at_fold.specs.HasCounted.{HasCounted, StaysCounted}
-use Rattle.at_fold.specs.Sums.{TotalSums}
-use Rattle.at_log.specs.LastRecord.{IsLast}
-use Rattle.at_log.specs.declared.receipt.At.{At}
-use Rattle.at_log.specs.declared.receipt.At.TheVariants.{Own}
-use Rattle.at_object.specs.Payments.{single_steps}
-use Rattle.at_single.proofs.Laws.Paid.{IsPaid}
-use Rattle.at_single.specs.Looks.{HasLooked}
-use Rattle.at_single.specs.Standing.{IsOnlyOwner}
+use Rattle.at_calling.proofs.Prelude.{BookTerms, Reply, Done, IsPrefix-refl, IsPrefix, owns_of, Entry, Publication, own_part, SeatTerms, Publishes, StoresWord, with_word, record_width, record_words, Knowledge, HasCounted, StaysCounted, TotalSums, IsLast, At, Own, single_steps, IsPaid, HasLooked, IsOnlyOwner, IsAppendingThen, IsPayStageSo, TakesPayTurn, AnswersAlone, HasSameAsking, MakesPayStep, PayingAloneTerms, append_steps, pay_turns_left, LeavesTotals, SeesOthersStill, counted_so_far, Append, AppendingTerms, StoresNextWord, publication_of, IsWithin, IsWithinOneMore}
 use Rattle.at_calling.proofs.PayingAloneLaws.{HasCounted-IsPaid, HasSameAsking-Publishes, HasSameAsking-StoresWord, IsPrefix-Publishes, LeavesTotals-IsPaid, AnswersAlone-done, length-Publishes-lt, paying_next, published-IsPaid, published-with_part}
 use Rattle.at_calling.proofs.PayingAloneTurns.{TakesPayTurn-append, counting-append}
-use Rattle.at_calling.specs.KeptPayingAlone.{IsAppendingThen, IsPayStageSo, TakesPayTurn}
-use Rattle.at_calling.specs.PayingAlone.{AnswersAlone, HasSameAsking, MakesPayStep, PayingAloneTerms, append_steps, pay_turns_left}
-use Rattle.at_calling.specs.Reading.{LeavesTotals, SeesOthersStill, counted_so_far}
 use Rattle.at_calling.specs.contracts.paying_alone.PayingAlone.{the_view}
-use Rattle.at_calling.specs.declared.pay_stage.PayStage.TheVariants.{Append}
-use Rattle.at_machines.specs.Appending.{AppendingTerms, StoresNextWord, publication_of}
-use Rattle.at_machines.specs.Looking.{IsWithin, IsWithinOneMore}
 use Rattle.at_calling.proofs.paying_alone.PayingAlone.append_on.Goals.{After-self, After-turn-is_published}
 use Rattle.at_calling.proofs.paying_alone.PayingAlone.append_on.Goals as goal
 
@@ -162,31 +133,31 @@ returns-clause-turned c = λ seen.
     let a : AppendingTerms = c.in-Append.appending in
     let x : Knowledge = c.turn-is_published.new.seat.knows in
     let now : TotalSums = c.count_own.new.self in
-    let front : List ℕ = a.rec.view in
+    let cut : List ℕ = a.rec.view in
     let told = c.turn-is_published.ensures in
     let so = c.self.invariant in
     let done = c.if-not-is_published.false in
     let all : a.stored ≡ record_width b = told.ends.0 done in
     let has_paid = paid at done in
     let looked_at = (appends at).looked_at in
-    let one = published-IsPaid t.start.book t.start a.start t.was t.totals front t.from t.targets looked_at so.owner so.room x has_paid in
+    let one = published-IsPaid t.start.book t.start a.start t.was t.totals cut t.from t.targets looked_at so.owner so.room x has_paid in
     let number : (own_part t.start).published ≡ c.published.result - 1 = omega (arith, c.published.ensures, one) in
     let r : Reply × At = (Done, Own (c.published.result - 1)) in
     let pays : AnswersAlone b t.start x t.from t.targets r =
     subst (λ (k : BookTerms). AnswersAlone k t.start x t.from t.targets r) same
     (subst (λ (k : ℕ). AnswersAlone t.start.book t.start x t.from t.targets (Done, Own k)) number
-    (AnswersAlone-done t.start.book t.start a.start t.was t.totals front t.from t.targets looked_at so.owner so.room x has_paid (appends at).enough)) in
+    (AnswersAlone-done t.start.book t.start a.start t.was t.totals cut t.from t.targets looked_at so.owner so.room x has_paid (appends at).enough)) in
     let next : now.upto ≡ set t.totals.upto x.first (own_part x).published =
     c.count_own.ensures.upto
     ∙ ap (λ (s : TotalSums). set s.upto x.first (own_part x).published) (c.requires.totals ∙ sym (ap (λ (s : PayingAloneTerms). s.totals) c.self.view_is)) in
     let stored : c.turn-is_published.new.self.stored ≡ record_width b + 1 =
     omega (arith, all, ap (λ (n : AppendingTerms). n.stored) told.after) in
-    let leaves = LeavesTotals-IsPaid b t.start a.start t.was t.totals front t.from t.targets
-    (subst (λ (k : BookTerms). HasLooked k t.start a.start t.was t.totals front) same looked_at)
+    let leaves = LeavesTotals-IsPaid b t.start a.start t.was t.totals cut t.from t.targets
+    (subst (λ (k : BookTerms). HasLooked k t.start a.start t.was t.totals cut) same looked_at)
     (subst (λ (k : BookTerms). IsOnlyOwner k t.start.first t.from) same so.owner)
     (subst (λ (k : BookTerms). owns_of t.start.first t.start.seen < k.own_room) same so.room) x
-    (subst (λ (k : BookTerms). IsPaid k t.start a.start x front t.from t.targets) same has_paid) now next (record_width b) t.looked
-    c.turn-is_published.new.self.stored (subst (λ (k : BookTerms). IsWithin k.processes t.was (sum front) t.looked) same (appends at).few) stored
+    (subst (λ (k : BookTerms). IsPaid k t.start a.start x cut t.from t.targets) same has_paid) now next (record_width b) t.looked
+    c.turn-is_published.new.self.stored (subst (λ (k : BookTerms). IsWithin k.processes t.was (sum cut) t.looked) same (appends at).few) stored
     (omega (arith, so.kept.known, ap (λ (k : BookTerms). k.processes) same)) in
     let publishes : Publishes b t.mark x (publication_of a) =
     subst (λ (v : Knowledge). Publishes b v x (publication_of a)) (appends at).mark_is (told.publishes done) in

@@ -1,35 +1,9 @@
 use Rattle.std.proofs.Common.{◌≡◌, ℕ, ◌<◌, ◌≤◌, ◌↔◌, List, IfSome, IsSome, Option, None, Some, length, false, true, refl, sym, ap, subst, ◌∙◌, arith, inl, inr}
-use Rattle.std.proofs.lemmas.Bool.{cases_lt}
-use Rattle.std.specs.List.{sum}
-use Rattle.at_ledger.specs.Book.{BookTerms}
-use Rattle.at_ledger.specs.Call.{amount_of}
-use Rattle.at_ledger.specs.declared.call.Reply.{Reply}
-use Rattle.at_ledger.specs.declared.call.Reply.TheVariants.{Short}
-use Rattle.at_history.specs.Balances.{balance_after}
-use Rattle.at_history.specs.Fronts.{prefix_of}
-use Rattle.at_history.specs.declared.publication.Entry.{Entry}
-use Rattle.at_board.specs.Knowledge.Seats.{SeatTerms}
-use Rattle.at_board.specs.declared.knowledge.Knowledge.{Knowledge}
-use Rattle.at_board.specs.Words.Addresses.{record_width}
-use Rattle.at_fold.specs.HasCounted.{CountsAccount, CountsFront, StaysCounted}
-use Rattle.at_fold.specs.Sums.{TotalSums}
-use Rattle.at_log.specs.Appending.{MayAppend}
-use Rattle.at_log.specs.declared.receipt.At.{At}
-use Rattle.at_log.specs.declared.receipt.At.TheVariants.{Front}
-use Rattle.at_single.proofs.Laws.Looks.{CountsAccount-HasLooked, CountsFront-HasLooked}
-use Rattle.at_single.proofs.Laws.Placed.{MayAppend-IsSnapshot}
-use Rattle.at_single.specs.Looks.{HasLooked}
+use Rattle.at_calling.proofs.Prelude.{cases_lt, sum, BookTerms, amount_of, Reply, Short, balance_after, prefix_of, Entry, SeatTerms, Knowledge, record_width, CountsAccount, CountsCut, StaysCounted, TotalSums, MayAppend, At, Cut, CountsAccount-HasLooked, CountsCut-HasLooked, MayAppend-IsSnapshot, HasLooked, IsLookingFirst, IsPayStageSo, IsPayingAloneSo, TakesPayTurn, AnswersAlone, PayingAloneTerms, append_steps, pay_turns_left, turns_in, LeavesTotals, PayStage, Append, Look, AppendingTerms, starting_appending, IsWithin}
 use Rattle.at_calling.proofs.PayingAloneLaws.{AnswersAlone-short, IsPayingAloneSo-append, next_append, paying_next}
 use Rattle.at_calling.proofs.PayingAloneTurns.{TakesPayTurn-look}
 use Rattle.at_calling.proofs.ReadingLaws.{LeavesTotals-HasLooked}
-use Rattle.at_calling.specs.KeptPayingAlone.{IsLookingFirst, IsPayStageSo, IsPayingAloneSo, TakesPayTurn}
-use Rattle.at_calling.specs.PayingAlone.{AnswersAlone, PayingAloneTerms, append_steps, pay_turns_left, turns_in}
-use Rattle.at_calling.specs.Reading.{LeavesTotals}
 use Rattle.at_calling.specs.contracts.paying_alone.PayingAlone.{the_view}
-use Rattle.at_calling.specs.declared.pay_stage.PayStage.{PayStage}
-use Rattle.at_calling.specs.declared.pay_stage.PayStage.TheVariants.{Append, Look}
-use Rattle.at_machines.specs.Appending.{AppendingTerms, starting_appending}
-use Rattle.at_machines.specs.Looking.{IsWithin}
 use Rattle.at_calling.proofs.paying_alone.PayingAlone.look_on.Goals.{After-covers, After-known, After-self, After-start, After-turn-looked}
 use Rattle.at_calling.proofs.paying_alone.PayingAlone.look_on.Goals as goal
 
@@ -66,9 +40,9 @@ turned c turns turns_are mark mark_is totals totals_are stage answer same left e
     (subst (IsWithin b.processes c.in-Look.looking.was (length after.knows.seen)) (sym turns_are) told.so_far)
     (omega (arith, told.counting, turns_are)) stage answer same left ends pays counted leaves)
 
-pub returns-in_err-front-clause-turned : goal.returns-in_err-front-clause-turned
-returns-in_err-front-clause-turned c =
-    let at = (goal.at.returns-in_err-front-clause-turned c).After-turn-looked in
+pub returns-in_err-cut-clause-turned : goal.returns-in_err-cut-clause-turned
+returns-in_err-cut-clause-turned c =
+    let at = (goal.at.returns-in_err-cut-clause-turned c).After-turn-looked in
     let next : PayStage = Look c.turn-looked.new.self in
     subst (TakesPayTurn c.args.board.now.book c.args.overview.now.seen c.args.self.now
     (paying_next (the_view c.self.inside) next c.turns-self-inside.result c.of.result.value.knows c.of-2.result.value) c.args.seat.now
@@ -83,52 +57,52 @@ returns-in_err-front-clause-turned c =
 -- the look has ended
 looked : (c : After-known)
     → HasLooked (the_view c.self.inside).start.book (the_view c.self.inside).start c.turn-looked.new.seat.knows (the_view c.self.inside).was
-    c.turn-looked.new.totals c.in_ok-front.front
+    c.turn-looked.new.totals c.in_ok-cut.cut
 looked c =
     let at = (goal.at.After-known c).After-turn-looked in
     let t : PayingAloneTerms = the_view c.self.inside in
     let w : Knowledge = c.turn-looked.new.seat.knows in
     let now : TotalSums = c.turn-looked.new.totals in
-    let front : List ℕ = c.in_ok-front.front in
-    subst (λ (b : BookTerms). HasLooked b t.start w t.was now front) (sym (book (goal.at.After-turn-looked at).After-self))
-    (subst (λ (v : Knowledge). HasLooked c.args.board.now.book v w t.was now front) (looks at).start_is
-    (subst (λ (s : TotalSums). HasLooked c.args.board.now.book c.in-Look.looking.start w s now front) (looks at).was_is c.in_ok-front.ensures.looked))
+    let cut : List ℕ = c.in_ok-cut.cut in
+    subst (λ (b : BookTerms). HasLooked b t.start w t.was now cut) (sym (book (goal.at.After-turn-looked at).After-self))
+    (subst (λ (v : Knowledge). HasLooked c.args.board.now.book v w t.was now cut) (looks at).start_is
+    (subst (λ (s : TotalSums). HasLooked c.args.board.now.book c.in-Look.looking.start w s now cut) (looks at).was_is c.in_ok-cut.ensures.looked))
 
 counts_account : (c : After-known)
     → CountsAccount c.turn-looked.new.totals (the_view c.self.inside).start.book c.turn-looked.new.seat.knows.seen c.self.inside.from
 counts_account c =
     let t : PayingAloneTerms = the_view c.self.inside in
-    CountsAccount-HasLooked t.start.book t.start c.turn-looked.new.seat.knows t.was c.turn-looked.new.totals c.in_ok-front.front t.from (looked c)
+    CountsAccount-HasLooked t.start.book t.start c.turn-looked.new.seat.knows t.was c.turn-looked.new.totals c.in_ok-cut.cut t.from (looked c)
     c.self.invariant.account_in
 
-counts_front : (c : After-known)
-    → CountsFront c.turn-looked.new.totals (the_view c.self.inside).start.book c.turn-looked.new.seat.knows.seen
-counts_front c =
+counts_cut : (c : After-known)
+    → CountsCut c.turn-looked.new.totals (the_view c.self.inside).start.book c.turn-looked.new.seat.knows.seen
+counts_cut c =
     let t : PayingAloneTerms = the_view c.self.inside in
-    CountsFront-HasLooked t.start.book t.start c.turn-looked.new.seat.knows t.was c.turn-looked.new.totals c.in_ok-front.front (looked c)
+    CountsCut-HasLooked t.start.book t.start c.turn-looked.new.seat.knows t.was c.turn-looked.new.totals c.in_ok-cut.cut (looked c)
 
 pub covers-requires : goal.covers-requires
 covers-requires c =
     let at = (goal.at.covers-requires c).After-known in
-    ((the_view c.self.inside).start.book, c.turn-looked.new.seat.knows.seen, counts_account at, counts_front at)
+    ((the_view c.self.inside).start.book, c.turn-looked.new.seat.knows.seen, counts_account at, counts_cut at)
 
--- the test is of the balance of the front
+-- the test is of the balance of the cut
 tested : (c : After-covers)
     → (c.covers.result ≡ true) ↔ (amount_of c.self.inside.targets
-    ≤ balance_after (the_view c.self.inside).start.book (prefix_of c.in_ok-front.front c.turn-looked.new.seat.knows.seen) c.self.inside.from)
+    ≤ balance_after (the_view c.self.inside).start.book (prefix_of c.in_ok-cut.cut c.turn-looked.new.seat.knows.seen) c.self.inside.from)
 tested c =
     let at = (goal.at.After-covers c).After-known in
     let t : PayingAloneTerms = the_view c.self.inside in
     let seen = c.turn-looked.new.seat.knows.seen in
-    subst (λ (front : List ℕ). (c.covers.result ≡ true) ↔ (amount_of t.targets ≤ balance_after t.start.book (prefix_of front seen) t.from))
-    (looked at).upto (c.covers.ensures t.start.book seen (counts_account at) (counts_front at))
+    subst (λ (cut : List ℕ). (c.covers.result ≡ true) ↔ (amount_of t.targets ≤ balance_after t.start.book (prefix_of cut seen) t.from))
+    (looked at).upto (c.covers.ensures t.start.book seen (counts_account at) (counts_cut at))
 
 less : (c : After-covers) → c.covers.result ≡ false
-    → balance_after (the_view c.self.inside).start.book (prefix_of c.in_ok-front.front c.turn-looked.new.seat.knows.seen) c.self.inside.from
+    → balance_after (the_view c.self.inside).start.book (prefix_of c.in_ok-cut.cut c.turn-looked.new.seat.knows.seen) c.self.inside.from
     < amount_of c.self.inside.targets
 less c off =
     let t : PayingAloneTerms = the_view c.self.inside in
-    let balance : ℕ = balance_after t.start.book (prefix_of c.in_ok-front.front c.turn-looked.new.seat.knows.seen) t.from in
+    let balance : ℕ = balance_after t.start.book (prefix_of c.in_ok-cut.cut c.turn-looked.new.seat.knows.seen) t.from in
     elim (cases_lt balance (amount_of t.targets)) as (λ _. balance < amount_of t.targets) [
       | inl below ↦ below
       | inr all ↦ let wrong : true ≡ false = sym ((tested c).1 all) ∙ off in absurd (cc wrong)
@@ -143,21 +117,21 @@ returns-then-not-covers-clause-turned c =
     let t : PayingAloneTerms = the_view c.self.inside in
     let w : Knowledge = c.turn-looked.new.seat.knows in
     let now : TotalSums = c.turn-looked.new.totals in
-    let front : List ℕ = c.in_ok-front.front in
+    let cut : List ℕ = c.in_ok-cut.cut in
     let so = c.self.invariant in
     let same = book (goal.at.After-turn-looked at).After-self in
-    let r : Reply × At = (Short, Front front) in
-    let here = AnswersAlone-short t.start.book t.start w t.was now front t.from t.targets (looked known) so.owner so.room (less short_is c.if-not-covers.true) in
-    let looked_on : HasLooked b t.start w t.was now front = subst (λ (k : BookTerms). HasLooked k t.start w t.was now front) same (looked known) in
-    let few : IsWithin b.processes t.was (sum front) c.turn-looked.new.self.turns =
-    subst (λ (s : TotalSums). IsWithin b.processes s (sum front) c.turn-looked.new.self.turns) (looks at).was_is c.in_ok-front.ensures.within in
+    let r : Reply × At = (Short, Cut cut) in
+    let here = AnswersAlone-short t.start.book t.start w t.was now cut t.from t.targets (looked known) so.owner so.room (less short_is c.if-not-covers.true) in
+    let looked_on : HasLooked b t.start w t.was now cut = subst (λ (k : BookTerms). HasLooked k t.start w t.was now cut) same (looked known) in
+    let few : IsWithin b.processes t.was (sum cut) c.turn-looked.new.self.turns =
+    subst (λ (s : TotalSums). IsWithin b.processes s (sum cut) c.turn-looked.new.self.turns) (looks at).was_is c.in_ok-cut.ensures.within in
     subst (λ (k : PayStage). TakesPayTurn b c.args.overview.now.seen c.args.self.now (paying_next t k c.turns-self-inside.result c.of.result.value.knows c.of-2.result.value) c.args.seat.now
     c.turn-looked.new.seat now (Some r)) (sym c.become_next.ensures)
     (turned at c.turns-self-inside.result c.turns-self-inside.ensures c.of.result.value c.of.ensures c.of-2.result.value c.of-2.ensures PayStage.Short (Some r) refl
     (omega arith) (λ some. refl, λ none. refl)
     (subst (λ (k : BookTerms). AnswersAlone k t.start w t.from t.targets r) same here)
     looked_on.counted
-    (LeavesTotals-HasLooked b t.start w t.was now front looked_on c.turns-self-inside.result (omega (arith, so.kept.one_part))
+    (LeavesTotals-HasLooked b t.start w t.was now cut looked_on c.turns-self-inside.result (omega (arith, so.kept.one_part))
     (omega (arith, few, c.turns-self-inside.ensures))))
 
 pub start-requires : goal.start-requires
@@ -167,17 +141,17 @@ start-requires c =
     let at = (goal.at.After-known known).After-turn-looked in
     let t : PayingAloneTerms = the_view c.self.inside in
     let w : Knowledge = c.turn-looked.new.seat.knows in
-    let front : List ℕ = c.in_ok-front.front in
+    let cut : List ℕ = c.in_ok-cut.cut in
     let so = c.self.invariant in
     let done = looked known in
-    let here = MayAppend-IsSnapshot t.start.book t.start w front t.from t.targets done.snapshot done.loads so.kept.known so.kept.own so.owner so.account_in
+    let here = MayAppend-IsSnapshot t.start.book t.start w cut t.from t.targets done.snapshot done.loads so.kept.known so.kept.own so.owner so.account_in
     so.targets_in so.room ((tested short_is).0 c.if-not-covers.false) in
     subst (λ (b : BookTerms). MayAppend b w c.record_of-rec.result) (book (goal.at.After-turn-looked at).After-self ∙ sym c.turn-looked.ensures.board.book)
     (subst (MayAppend t.start.book w) (sym c.record_of-rec.ensures) here)
 
 -- its append comes next
 appends : (c : After-start) → c.start.result ≡ starting_appending c.turn-looked.new.seat.knows
-    (record { entry = Entry.Own c.self.inside.from c.self.inside.targets; view = c.in_ok-front.front })
+    (record { entry = Entry.Own c.self.inside.from c.self.inside.targets; view = c.in_ok-cut.cut })
 appends c = c.start.ensures ∙ ap (starting_appending c.turn-looked.new.seat.knows) c.record_of-rec.ensures
 
 pub invariant_of-self-2 : goal.invariant_of-self-2
@@ -189,20 +163,20 @@ invariant_of-self-2 c =
     let t : PayingAloneTerms = the_view c.self.inside in
     let w : Knowledge = c.turn-looked.new.seat.knows in
     let now : TotalSums = c.turn-looked.new.totals in
-    let front : List ℕ = c.in_ok-front.front in
+    let cut : List ℕ = c.in_ok-cut.cut in
     let turns : ℕ = c.turn-looked.new.self.turns in
     let same = book (goal.at.After-turn-looked at).After-self in
-    let within : IsWithin t.start.book.processes t.was (sum front) turns =
-    subst (λ (b : BookTerms). IsWithin b.processes t.was (sum front) turns) (sym same)
-    (subst (λ (s : TotalSums). IsWithin c.args.board.now.book.processes s (sum front) turns) (looks at).was_is c.in_ok-front.ensures.within) in
-    let here : IsPayingAloneSo (paying_next t (next_append t w front) turns w now) =
-    IsPayingAloneSo-append t w now front turns c.self.invariant (c.turn-looked.ensures.board.book ∙ sym same) (looked known)
+    let within : IsWithin t.start.book.processes t.was (sum cut) turns =
+    subst (λ (b : BookTerms). IsWithin b.processes t.was (sum cut) turns) (sym same)
+    (subst (λ (s : TotalSums). IsWithin c.args.board.now.book.processes s (sum cut) turns) (looks at).was_is c.in_ok-cut.ensures.within) in
+    let here : IsPayingAloneSo (paying_next t (next_append t w cut) turns w now) =
+    IsPayingAloneSo-append t w now cut turns c.self.invariant (c.turn-looked.ensures.board.book ∙ sym same) (looked known)
     ((tested short_is).0 c.if-not-covers.false) within in
     subst (λ (k : PayStage). IsPayingAloneSo (paying_next t k c.turns-self-inside.result c.of.result.value.knows c.of-2.result.value))
     (sym (c.become_next-2.ensures ∙ ap (λ (a : AppendingTerms). Append a) (appends start)))
-    (subst (λ (n : ℕ). IsPayingAloneSo (paying_next t (next_append t w front) n c.of.result.value.knows c.of-2.result.value)) (sym c.turns-self-inside.ensures)
-    (subst (λ (m : SeatTerms). IsPayingAloneSo (paying_next t (next_append t w front) turns m.knows c.of-2.result.value)) (sym c.of.ensures)
-    (subst (λ (s : TotalSums). IsPayingAloneSo (paying_next t (next_append t w front) turns w s)) (sym c.of-2.ensures) here)))
+    (subst (λ (n : ℕ). IsPayingAloneSo (paying_next t (next_append t w cut) n c.of.result.value.knows c.of-2.result.value)) (sym c.turns-self-inside.ensures)
+    (subst (λ (m : SeatTerms). IsPayingAloneSo (paying_next t (next_append t w cut) turns m.knows c.of-2.result.value)) (sym c.of.ensures)
+    (subst (λ (s : TotalSums). IsPayingAloneSo (paying_next t (next_append t w cut) turns w s)) (sym c.of-2.ensures) here)))
 
 pub returns-clause-turned : goal.returns-clause-turned
 returns-clause-turned c =
@@ -211,7 +185,7 @@ returns-clause-turned c =
     let known = (goal.at.After-covers short_is).After-known in
     let at = (goal.at.After-known known).After-turn-looked in
     let t : PayingAloneTerms = the_view c.self.inside in
-    let next : PayStage = next_append t c.turn-looked.new.seat.knows c.in_ok-front.front in
+    let next : PayStage = next_append t c.turn-looked.new.seat.knows c.in_ok-cut.cut in
     subst (λ (k : PayStage). TakesPayTurn c.args.board.now.book c.args.overview.now.seen c.args.self.now
     (paying_next t k c.turns-self-inside.result c.of.result.value.knows c.of-2.result.value) c.args.seat.now c.turn-looked.new.seat c.turn-looked.new.totals None)
     (sym (c.become_next-2.ensures ∙ ap (λ (a : AppendingTerms). Append a) (appends start)))

@@ -1,32 +1,8 @@
 use Rattle.std.proofs.Common.{None, Some, ◌≡◌, ℕ, ◌+◌, ◌-◌, ◌*◌, ◌<◌, ◌≤◌, refl, sym, ap, subst, ◌∙◌, arith}
-use Rattle.at_ledger.specs.Account.{slots_of}
-use Rattle.at_ledger.specs.Book.{BookTerms, account_of}
-use Rattle.at_history.specs.Fronts.{places_max}
-use Rattle.at_history.proofs.Laws.Prefixes.{IsPrefix-trans}
-use Rattle.at_history.specs.Publications.{IsPrefix}
-use Rattle.at_shared.specs.PaymentTurns.{SettlesInTurns}
-use Rattle.at_history.specs.Histories.{IsHistory}
-use Rattle.at_board.specs.Knowledge.Seats.{SeatTerms}
-use Rattle.at_board.specs.declared.knowledge.Knowledge.{Knowledge}
-use Rattle.at_fold.specs.HasCounted.{HasCounted}
-use Rattle.at_fold.specs.Sums.{TotalSums}
-use Rattle.at_ledger.specs.declared.call.Reply.{Reply}
-use Rattle.at_log.specs.declared.receipt.At.{At}
-use Rattle.at_shared.specs.HelpingTerms.{HelpingTerms}
-use Rattle.at_shared.specs.Helpings.{decides_made, decides_on}
-use Rattle.at_shared.specs.Settling.{round_steps}
-use Rattle.at_shared.specs.declared.helping.HelpTurn.{HelpTurn}
-use Rattle.at_shared.specs.declared.helping.HelpTurn.TheVariants.{More, Settled}
-use Rattle.at_machines.specs.Looking.{IsWithinOneMore}
+use Rattle.at_calling.proofs.Prelude.{slots_of, BookTerms, account_of, places_max, IsPrefix-trans, IsPrefix, SettlesInTurns, IsHistory, SeatTerms, Knowledge, HasCounted, TotalSums, Reply, At, HelpingTerms, decides_made, decides_on, round_steps, HelpTurn, More, Settled, IsWithinOneMore, TakesShareTurn, HasCountedSo, IsHelpingThen, IsPayingSharedSo, IsShareStageSo, AnswersInRound, DecidesFew, MakesShareStep, PayingSharedTerms, settling_steps, share_exchanges_at, share_exchanges_made, share_steps, share_turns_left, share_turns_most, unless_settled, unless_starting, LeavesTotals, counted_so_far, newly_seen, IsHelpOf, IsHelpWithin, LeavesSeat, TurningTerms, WaitsOn, help_steps, help_turns_left, help_turns_made, ShareStage, Ended, Help}
 use Rattle.at_calling.proofs.PayingSharedLaws.{SettlesInTurns-settled, DecidesFew-settled, HasCountedSo-more, HasHelped-more, IsHelpingThen-begun, LeavesTotals-settled, AnswersInRound-settled, counting-so_far, few-so_far, few_exchanges-so_far, share_turns_most-le}
 use Rattle.at_calling.proofs.PayingSharedTurns.{share_next, TakesShareTurn-on, TakesShareTurn-settled}
-use Rattle.at_calling.specs.KeptPayingShared.{TakesShareTurn, HasCountedSo, IsHelpingThen, IsPayingSharedSo, IsShareStageSo}
-use Rattle.at_calling.specs.PayingShared.{AnswersInRound, DecidesFew, MakesShareStep, PayingSharedTerms, settling_steps, share_exchanges_at, share_exchanges_made, share_steps, share_turns_left, share_turns_most, unless_settled, unless_starting}
-use Rattle.at_calling.specs.Reading.{LeavesTotals, counted_so_far, newly_seen}
-use Rattle.at_calling.specs.Turning.{IsHelpOf, IsHelpWithin, LeavesSeat, TurningTerms, WaitsOn, help_steps, help_turns_left, help_turns_made}
 use Rattle.at_calling.specs.contracts.paying_shared.PayingShared.{the_view}
-use Rattle.at_calling.specs.declared.share_stage.ShareStage.{ShareStage}
-use Rattle.at_calling.specs.declared.share_stage.ShareStage.TheVariants.{Ended, Help}
 use Rattle.at_calling.proofs.paying_shared.PayingShared.help_on.Goals.{After-known, After-self, After-turn-helped}
 use Rattle.at_calling.proofs.paying_shared.PayingShared.help_on.Goals as goal
 

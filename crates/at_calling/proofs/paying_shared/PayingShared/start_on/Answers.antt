@@ -1,30 +1,8 @@
 use Rattle.std.proofs.Common.{None, ◌≡◌, ℕ, ◌+◌, ◌*◌, ◌<◌, ◌≤◌, List, refl, sym, ap, subst, ◌∙◌, arith}
-use Rattle.at_ledger.specs.Account.{slots_of}
-use Rattle.at_ledger.specs.Book.{BookTerms, account_of}
-use Rattle.at_ledger.specs.Call.{TargetPair}
-use Rattle.at_history.proofs.Laws.Prefixes.{IsPrefix-refl}
-use Rattle.at_history.specs.Publications.{IsPrefix}
-use Rattle.at_snapshot.specs.Snapshots.{snapshot_steps}
-use Rattle.at_board.specs.declared.words.TheConstants.{RECORD_WORDS}
-use Rattle.at_history.specs.Histories.{IsHistory}
-use Rattle.at_board.specs.Knowledge.Seats.{SeatTerms}
-use Rattle.at_board.specs.declared.knowledge.Knowledge.{Knowledge}
-use Rattle.at_fold.specs.HasCounted.{HasCounted}
-use Rattle.at_fold.specs.Sums.{TotalSums}
-use Rattle.at_shared.specs.HelpingTerms.{HelpingTerms}
-use Rattle.at_shared.specs.Helpings.{decides_made, decides_on}
-use Rattle.at_shared.specs.Settling.{asking_steps}
-use Rattle.at_machines.specs.Looking.{IsWithinOneMore}
+use Rattle.at_calling.proofs.Prelude.{slots_of, BookTerms, account_of, TargetPair, IsPrefix-refl, IsPrefix, snapshot_steps, RECORD_WORDS, IsHistory, SeatTerms, Knowledge, HasCounted, TotalSums, HelpingTerms, decides_made, decides_on, asking_steps, IsWithinOneMore, TakesShareTurn, HasCountedSo, IsPayingSharedSo, IsShareStageSo, IsStartingFirst, MakesShareStep, PayingSharedTerms, share_exchanges_at, share_steps, share_turns_left, share_turns_most, unless_settled, unless_starting, LeavesTotals, counted_so_far, newly_seen, IsStartOf, StartingTerms, start_turns_made, TurningTerms, help_turns_left, ShareStage, Help, Start}
 use Rattle.at_calling.proofs.PayingSharedLaws.{decides_made-IsStartOf, HasCountedSo-start, HasHelped-start, IsHelpingThen-begun}
 use Rattle.at_calling.proofs.PayingSharedTurns.{share_next, TakesShareTurn-on}
-use Rattle.at_calling.specs.KeptPayingShared.{TakesShareTurn, HasCountedSo, IsPayingSharedSo, IsShareStageSo, IsStartingFirst}
-use Rattle.at_calling.specs.PayingShared.{MakesShareStep, PayingSharedTerms, share_exchanges_at, share_steps, share_turns_left, share_turns_most, unless_settled, unless_starting}
-use Rattle.at_calling.specs.Reading.{LeavesTotals, counted_so_far, newly_seen}
-use Rattle.at_calling.specs.Starting.{IsStartOf, StartingTerms, start_turns_made}
-use Rattle.at_calling.specs.Turning.{TurningTerms, help_turns_left}
 use Rattle.at_calling.specs.contracts.paying_shared.PayingShared.{the_view}
-use Rattle.at_calling.specs.declared.share_stage.ShareStage.{ShareStage}
-use Rattle.at_calling.specs.declared.share_stage.ShareStage.TheVariants.{Help, Start}
 use Rattle.at_calling.proofs.paying_shared.PayingShared.start_on.Goals.{After-known, After-self, After-start-turning, After-turn-started}
 use Rattle.at_calling.proofs.paying_shared.PayingShared.start_on.Goals as goal
 

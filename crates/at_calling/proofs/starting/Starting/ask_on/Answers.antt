@@ -1,24 +1,7 @@
 use Rattle.std.proofs.Common.{None, ◌≡◌, ℕ, ◌+◌, ◌<◌, ◌≤◌, ◌≢◌, List, IsSome, Some, false, true, refl, sym, ap, subst, ◌∙◌, arith}
-use Rattle.at_ledger.specs.Account.{slot_in, slots_of}
-use Rattle.at_ledger.specs.Book.{BookTerms, HasSlot, account_of}
-use Rattle.at_history.specs.Publications.{IsPrefix}
-use Rattle.at_history.specs.declared.publication.Publication.{Publication}
-use Rattle.at_board.specs.Knowledge.Seats.{SeatTerms}
-use Rattle.at_board.specs.Steps.Announce.{Announces}
-use Rattle.at_board.specs.declared.knowledge.Knowledge.{Knowledge}
-use Rattle.at_board.specs.declared.words.TheConstants.{REQUEST_WORDS}
-use Rattle.at_rows.specs.Asks.{HasAsked, opened}
-use Rattle.at_rows.specs.declared.open_request.OpenRequest.{OpenRequest}
-use Rattle.at_shared.proofs.Laws.Starting.{same_some}
+use Rattle.at_calling.proofs.Prelude.{slot_in, slots_of, BookTerms, HasSlot, account_of, IsPrefix, Publication, SeatTerms, Announces, Knowledge, REQUEST_WORDS, HasAsked, opened, OpenRequest, same_some, AskingTerms, asking_after, request_asked, CollectingRowsTerms, starting_rows, IsAskingThen, IsStartStageSo, IsStartingSo, TakesStartTurn, HasSameCounts, MakesStartStep, StartingTerms, asking_steps_of, start_turns_after, start_turns_in, the_view, StartStage, Ask, Collect}
 use Rattle.at_calling.proofs.StartingLaws.{HasSlot-IsAskingThen, HasSlot-IsStartingSo, IsPrefix-word, IsStartingSo-collect, IsStartingSo-word, slot_in-Announces, slot_of_start, start_after, HasSameCounts-announced, HasSameCounts-word}
 use Rattle.at_calling.proofs.StartingSteps.{TakesStartTurn-ask}
-use Rattle.at_machines.specs.Asking.{AskingTerms, asking_after, request_asked}
-use Rattle.at_machines.specs.CollectingRows.{CollectingRowsTerms, starting_rows}
-use Rattle.at_calling.specs.KeptStarting.{IsAskingThen, IsStartStageSo, IsStartingSo, TakesStartTurn}
-use Rattle.at_calling.specs.Starting.{HasSameCounts, MakesStartStep, StartingTerms, asking_steps_of, start_turns_after, start_turns_in}
-use Rattle.at_calling.specs.contracts.starting.Starting.{the_view}
-use Rattle.at_calling.specs.declared.start_stage.StartStage.{StartStage}
-use Rattle.at_calling.specs.declared.start_stage.StartStage.TheVariants.{Ask, Collect}
 use Rattle.at_calling.proofs.starting.Starting.ask_on.Goals.{After-become_next, After-opened, After-self, After-slot_of, After-turn-announced}
 use Rattle.at_calling.proofs.starting.Starting.ask_on.Goals as goal
 

@@ -1,25 +1,7 @@
 use Rattle.std.proofs.Common.{◌↔◌, IfSome, Option, None, ◌≡◌, ℕ, ◌+◌, ◌-◌, ◌*◌, ◌≤◌, ◌≢◌, IsSome, Some, List, sym, ap, subst, ◌∙◌, arith}
-use Rattle.at_ledger.specs.Account.{slots_of}
-use Rattle.at_ledger.specs.Book.{BookTerms, account_of}
-use Rattle.at_history.specs.Publications.{IsPrefix}
-use Rattle.at_history.specs.declared.publication.Publication.{Publication}
-use Rattle.at_board.specs.Knowledge.Candidates.{HasLoadedRows}
-use Rattle.at_board.specs.Knowledge.Seats.{SeatTerms}
-use Rattle.at_board.specs.declared.knowledge.Knowledge.{Knowledge}
-use Rattle.at_board.specs.declared.words.TheConstants.{REQUEST_WORDS}
-use Rattle.at_rows.specs.Asks.{HasAsked}
-use Rattle.at_rows.specs.Rows.{CollectsRows}
-use Rattle.at_rows.specs.declared.open_request.OpenRequest.{OpenRequest}
-use Rattle.at_shared.specs.HelpingTerms.{HelpingTerms, helping_of}
+use Rattle.at_calling.proofs.Prelude.{slots_of, BookTerms, account_of, IsPrefix, Publication, HasLoadedRows, SeatTerms, Knowledge, REQUEST_WORDS, HasAsked, CollectsRows, OpenRequest, HelpingTerms, helping_of, CollectingRowsTerms, MakesNextLoad, nothing, IsCollectingThen, IsStartStageSo, IsStartingSo, TakesStartTurn, LeavesTotals, HasSameCounts, IsStartOf, StartingTerms, asking_steps_of, start_turns_after, start_turns_in, start_turns_left, unless_ended, the_view, Collect}
 use Rattle.at_calling.proofs.StartingLaws.{IsPrefix-MakesNextLoad, IsStartOf-CollectsRows, IsStartingSo-rows, LeavesTotals-CollectsRows, HasSameCounts-MakesNextLoad, start_after}
 use Rattle.at_calling.proofs.StartingSteps.{TakesStartTurn-collect}
-use Rattle.at_machines.specs.CollectingRows.{CollectingRowsTerms, MakesNextLoad}
-use Rattle.at_machines.specs.LoadingRow.NextRowLoad.{nothing}
-use Rattle.at_calling.specs.KeptStarting.{IsCollectingThen, IsStartStageSo, IsStartingSo, TakesStartTurn}
-use Rattle.at_calling.specs.Reading.{LeavesTotals}
-use Rattle.at_calling.specs.Starting.{HasSameCounts, IsStartOf, StartingTerms, asking_steps_of, start_turns_after, start_turns_in, start_turns_left, unless_ended}
-use Rattle.at_calling.specs.contracts.starting.Starting.{the_view}
-use Rattle.at_calling.specs.declared.start_stage.StartStage.TheVariants.{Collect}
 use Rattle.at_calling.proofs.starting.Starting.collect_on.Goals.{After-self, After-turn-collected}
 use Rattle.at_calling.proofs.starting.Starting.collect_on.Goals as goal
 

@@ -1,23 +1,8 @@
 use Rattle.std.proofs.Common.{None, ◌≡◌, ℕ, ◌<◌, List, length, sym, ap, subst, ◌∙◌, arith}
-use Rattle.std.specs.List.{sum}
-use Rattle.at_ledger.specs.Book.{BookTerms}
-use Rattle.at_ledger.specs.Call.{TargetPair}
-use Rattle.at_history.specs.Fronts.{place}
-use Rattle.at_history.specs.Sound.{AreTargets}
-use Rattle.at_board.specs.Knowledge.Seats.{SeatTerms}
-use Rattle.at_board.specs.declared.knowledge.Knowledge.{Knowledge}
-use Rattle.at_fold.specs.Sums.{TotalSums}
-use Rattle.at_rows.specs.Asks.{MayAskFor, asked_for}
-use Rattle.at_single.specs.Looks.{HasLooked}
+use Rattle.at_calling.proofs.Prelude.{sum, BookTerms, TargetPair, place, AreTargets, SeatTerms, Knowledge, TotalSums, MayAskFor, asked_for, HasLooked, AskingTerms, starting_to_ask, IsLookingToAsk, IsStartStageSo, IsStartingSo, TakesStartTurn, IsWithin, LookingTerms, StartingTerms, asking_steps_of, start_turns_after, start_turns_in, the_view, StartStage, Ask}
 use Rattle.at_calling.proofs.StartingLaws.{IsStartingSo-ask, MayAskFor-HasLooked, place-HasLooked-few, slot_of_start, start_after_look}
 use Rattle.at_calling.proofs.StartingSteps.{TakesStartTurn-look}
-use Rattle.at_machines.specs.Asking.{AskingTerms, starting_to_ask}
-use Rattle.at_calling.specs.KeptStarting.{IsLookingToAsk, IsStartStageSo, IsStartingSo, TakesStartTurn}
-use Rattle.at_machines.specs.Looking.{IsWithin, LookingTerms}
-use Rattle.at_calling.specs.Starting.{StartingTerms, asking_steps_of, start_turns_after, start_turns_in}
-use Rattle.at_calling.specs.contracts.starting.Starting.{the_view}
-use Rattle.at_calling.specs.declared.start_stage.StartStage.{StartStage}
-use Rattle.at_calling.specs.declared.start_stage.StartStage.TheVariants.{Ask, Look}
+use Rattle.at_calling.specs.declared.start_stage.StartStage.TheVariants.{Look}
 use Rattle.at_calling.proofs.starting.Starting.look_on.Goals.{After-self, After-copy-targets, After-turn-looked}
 use Rattle.at_calling.proofs.starting.Starting.look_on.Goals as goal
 
@@ -32,24 +17,24 @@ book c = sym c.requires.board.book ∙ (ap (λ (v : Knowledge). v.book) (known_b
 -- the look has ended
 looked : (c : After-copy-targets)
     → HasLooked c.self.inside.start.value.knows.book c.self.inside.start.value.knows c.turn-looked.new.seat.knows c.self.inside.was.value c.turn-looked.new.totals
-    c.in_ok-front.front
+    c.in_ok-cut.cut
 looked c =
     let at = (goal.at.After-copy-targets c).After-self in
     let t : StartingTerms = the_view c.self.inside in
     let w : Knowledge = c.turn-looked.new.seat.knows in
     let now : TotalSums = c.turn-looked.new.totals in
-    let front : List ℕ = c.in_ok-front.front in
+    let cut : List ℕ = c.in_ok-cut.cut in
     let so : IsLookingToAsk t c.in-Look.looking = subst (IsStartStageSo t) c.in-Look.is c.self.invariant.stage_so in
-    subst (λ (b : BookTerms). HasLooked b t.start w t.was now front) (book at)
-    (subst (λ (v : Knowledge). HasLooked c.args.board.now.book v w t.was now front) so.start_is
-    (subst (λ (s : TotalSums). HasLooked c.args.board.now.book c.in-Look.looking.start w s now front) so.was_is c.in_ok-front.ensures.looked))
+    subst (λ (b : BookTerms). HasLooked b t.start w t.was now cut) (book at)
+    (subst (λ (v : Knowledge). HasLooked c.args.board.now.book v w t.was now cut) so.start_is
+    (subst (λ (s : TotalSums). HasLooked c.args.board.now.book c.in-Look.looking.start w s now cut) so.was_is c.in_ok-cut.ensures.looked))
 
 pub asking_at-asking-requires-clause-place : goal.asking_at-asking-requires-clause-place
 asking_at-asking-requires-clause-place c =
     let at = (goal.at.asking_at-asking-requires-clause-place c).After-copy-targets in
     omega (
       arith,
-      place-HasLooked-few (the_view c.self.inside) c.self.invariant c.turn-looked.new.seat.knows c.turn-looked.new.totals c.in_ok-front.front (looked at),
+      place-HasLooked-few (the_view c.self.inside) c.self.invariant c.turn-looked.new.seat.knows c.turn-looked.new.totals c.in_ok-cut.cut (looked at),
     )
 
 pub asking_at-asking-requires-clause-may : goal.asking_at-asking-requires-clause-may
@@ -58,15 +43,15 @@ asking_at-asking-requires-clause-may c =
     let t : StartingTerms = the_view c.self.inside in
     let so : IsStartingSo t = c.self.invariant in
     let w : Knowledge = c.turn-looked.new.seat.knows in
-    let front : List ℕ = c.in_ok-front.front in
+    let cut : List ℕ = c.in_ok-cut.cut in
     let ts : List TargetPair = c.copy-targets.result in
     let slot = slot_of_start t so in
     let has_looked = looked at in
     let are : AreTargets t.start.book ts = subst (AreTargets t.start.book) (sym c.copy-targets.ensures) so.targets_in in
-    let here : MayAskFor t.start.book w t.account slot (asked_for ts (place front)) =
-    MayAskFor-HasLooked t so w c.turn-looked.new.totals front has_looked ts are in (
+    let here : MayAskFor t.start.book w t.account slot (asked_for ts (place cut)) =
+    MayAskFor-HasLooked t so w c.turn-looked.new.totals cut has_looked ts are in (
       slot,
-      subst (λ (b : BookTerms). MayAskFor b w t.account slot (asked_for ts (place front))) (sym (ap (λ (v : Knowledge). v.book) has_looked.loads.same)) here,
+      subst (λ (b : BookTerms). MayAskFor b w t.account slot (asked_for ts (place cut))) (sym (ap (λ (v : Knowledge). v.book) has_looked.loads.same)) here,
     )
 
 pub invariant_of-self-2 : goal.invariant_of-self-2
@@ -76,18 +61,18 @@ invariant_of-self-2 c =
     let t : StartingTerms = the_view c.self.inside in
     let w : Knowledge = c.turn-looked.new.seat.knows in
     let now : TotalSums = c.turn-looked.new.totals in
-    let front : List ℕ = c.in_ok-front.front in
+    let cut : List ℕ = c.in_ok-cut.cut in
     let ts : List TargetPair = c.copy-targets.result in
     let turns : ℕ = c.turn-looked.new.self.turns in
     let so : IsLookingToAsk t c.in-Look.looking = subst (IsStartStageSo t) c.in-Look.is c.self.invariant.stage_so in
-    let stage : StartStage = Ask (starting_to_ask w t.account ts (place front)) in
+    let stage : StartStage = Ask (starting_to_ask w t.account ts (place cut)) in
     let stage_is : c.become_next.new.stage ≡ stage =
     c.become_next.ensures ∙ ap (λ (a : AskingTerms). Ask a) c.asking_at-asking.ensures in
-    let few : IsWithin t.start.book.processes t.was (sum front) turns =
-    subst (λ (b : BookTerms). IsWithin b.processes t.was (sum front) turns) (book first)
-    (subst (λ (s : TotalSums). IsWithin c.args.board.now.book.processes s (sum front) turns) so.was_is c.in_ok-front.ensures.within) in
+    let few : IsWithin t.start.book.processes t.was (sum cut) turns =
+    subst (λ (b : BookTerms). IsWithin b.processes t.was (sum cut) turns) (book first)
+    (subst (λ (s : TotalSums). IsWithin c.args.board.now.book.processes s (sum cut) turns) so.was_is c.in_ok-cut.ensures.within) in
     let here : IsStartingSo (start_after_look t stage w now turns) =
-    IsStartingSo-ask t c.self.invariant w now front (looked at) ts turns c.copy-targets.ensures few in
+    IsStartingSo-ask t c.self.invariant w now cut (looked at) ts turns c.copy-targets.ensures few in
     subst (λ (s : StartStage). IsStartingSo (start_after_look t s c.of.result.value.knows c.of-2.result.value c.turns-self-inside.result)) (sym stage_is)
     (subst (λ n. IsStartingSo (start_after_look t stage c.of.result.value.knows c.of-2.result.value n)) (sym c.turns-self-inside.ensures)
     (subst (λ (s : SeatTerms). IsStartingSo (start_after_look t stage s.knows c.of-2.result.value turns)) (sym c.of.ensures)
@@ -117,9 +102,9 @@ turned c turns turns_are mark mark_is totals totals_are stage same some left =
     (ap (λ (m : SeatTerms). m.knows) mark_is) now totals totals_are l c.in-Look.is turns (turns_are ∙ told.turns) told.load told.loads told.counted
     (subst (IsWithin b.processes l.was (length after.knows.seen)) (sym turns_are) told.so_far) (omega (arith, told.counting, turns_are)) stage same some left)
 
-pub returns-in_err-front-clause-turned : goal.returns-in_err-front-clause-turned
-returns-in_err-front-clause-turned c =
-    let at = (goal.at.returns-in_err-front-clause-turned c).After-turn-looked in
+pub returns-in_err-cut-clause-turned : goal.returns-in_err-cut-clause-turned
+returns-in_err-cut-clause-turned c =
+    let at = (goal.at.returns-in_err-cut-clause-turned c).After-turn-looked in
     let next : StartStage = Look c.turn-looked.new.self in
     subst (TakesStartTurn c.args.board.now.book c.args.overview.now.seen c.args.self.now
     (start_after_look (the_view c.self.inside) next c.of.result.value.knows c.of-2.result.value c.turns-self-inside.result) c.args.seat.now

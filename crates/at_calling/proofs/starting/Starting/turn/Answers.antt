@@ -1,6 +1,5 @@
 use Rattle.std.proofs.Common.{refl, sym, subst}
-use Rattle.at_fold.specs.Sums.{TotalSums}
-use Rattle.at_calling.specs.KeptStarting.{TakesStartTurn}
+use Rattle.at_calling.proofs.Prelude.{TotalSums, TakesStartTurn}
 use Rattle.at_calling.proofs.starting.Starting.turn.Goals as goal
 
 -- asking and the rows leave the totals as they were, whatever the caller's seats had seen

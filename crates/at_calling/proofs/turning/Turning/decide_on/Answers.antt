@@ -1,32 +1,8 @@
 use Rattle.std.proofs.Common.{◌↔◌, IfSome, IsSome, Option, None, Some, true, refl, ◌≡◌, ◌≢◌, ℕ, ◌+◌, ◌-◌, ◌*◌, ◌<◌, ◌≤◌, List, length, false, sym, ap, subst, ◌∙◌, arith}
-use Rattle.std.specs.List.{sum}
-use Rattle.at_base.specs.declared.decision.Decision.{Decision}
-use Rattle.at_ledger.specs.Book.{BookTerms}
-use Rattle.at_history.specs.Fronts.{prefix_of}
-use Rattle.at_history.specs.Rounds.{rounds}
-use Rattle.at_history.specs.declared.publication.Publication.{Publication}
-use Rattle.at_board.specs.Knowledge.Parts.{own_part}
-use Rattle.at_board.specs.Knowledge.Seats.{IsKept, SeatTerms}
-use Rattle.at_board.specs.declared.knowledge.Knowledge.{Knowledge}
-use Rattle.at_fold.specs.HasCounted.{HasCounted}
-use Rattle.at_fold.specs.Sums.{TotalSums}
-use Rattle.at_rows.proofs.Laws.Accounts.{HasAccount, HasAccount-IsSeat}
-use Rattle.at_shared.specs.HelpTurns.{AnswersRound, DecidesNext}
-use Rattle.at_shared.specs.HelpingTerms.{HelpingTerms}
-use Rattle.at_shared.specs.Helpings.{IsHelping, decides_made}
-use Rattle.at_shared.specs.Settling.{round_steps}
+use Rattle.at_calling.proofs.Prelude.{sum, Decision, BookTerms, prefix_of, rounds, Publication, own_part, IsKept, SeatTerms, Knowledge, HasCounted, TotalSums, HasAccount, HasAccount-IsSeat, AnswersRound, DecidesNext, HelpingTerms, IsHelping, decides_made, round_steps, HelpTurn, Settled, More, HasLooked, DecidingTerms, round_in, IsDecidingThen, IsTurnStageSo, IsTurningSo, TakesHelpStep, IsWithin, IsWithinOneMore, CountsOthersStill, LeavesTotals, counted_so_far, IsHelpOf, LeavesSeat, TurningTerms, WaitsOn, help_steps, help_turns_left, Decide}
 use Rattle.at_calling.proofs.TurningSteps.{TakesHelpStep-decide}
-use Rattle.at_shared.specs.declared.helping.HelpTurn.{HelpTurn}
-use Rattle.at_shared.specs.declared.helping.HelpTurn.TheVariants.{Settled, More}
-use Rattle.at_single.specs.Looks.{HasLooked}
 use Rattle.at_calling.proofs.TurningLaws.{IsDecidingThen-step, counting-step, counts_others-step, published-step, IsHelpOf-other, IsHelpOf-own, LeavesSeat-decided, LeavesTotals-decided, WaitsOn-other, help_turns_in-le}
-use Rattle.at_machines.specs.Deciding.{DecidingTerms, round_in}
-use Rattle.at_calling.specs.KeptTurning.{IsDecidingThen, IsTurnStageSo, IsTurningSo, TakesHelpStep}
-use Rattle.at_machines.specs.Looking.{IsWithin, IsWithinOneMore}
-use Rattle.at_calling.specs.Reading.{CountsOthersStill, LeavesTotals, counted_so_far}
-use Rattle.at_calling.specs.Turning.{IsHelpOf, LeavesSeat, TurningTerms, WaitsOn, help_steps, help_turns_left}
 use Rattle.at_calling.specs.contracts.turning.Turning.{the_view}
-use Rattle.at_calling.specs.declared.turn_stage.TurnStage.TheVariants.{Decide}
 use Rattle.at_calling.proofs.turning.Turning.decide_on.Goals.{After-self, After-turn-decided}
 use Rattle.at_calling.proofs.turning.Turning.decide_on.Goals as goal
 
@@ -98,11 +74,11 @@ invariant_of-self c =
 -- the look behind the round
 looked_then : (c : After-turn-decided)
     → HasLooked c.args.board.now.book c.self.inside.start.value.knows c.in-Decide.deciding.start c.self.inside.was.value c.self.inside.totals.value
-    c.in-Decide.deciding.front
+    c.in-Decide.deciding.cut
 looked_then c =
     let d : DecidingTerms = c.in-Decide.deciding in
     let i = c.self.inside in
-    subst (λ (b : BookTerms). HasLooked b i.start.value.knows d.start i.was.value i.totals.value d.front) (book (goal.at.After-turn-decided c).After-self) (decides c).looked_at
+    subst (λ (b : BookTerms). HasLooked b i.start.value.knows d.start i.was.value i.totals.value d.cut) (book (goal.at.After-turn-decided c).After-self) (decides c).looked_at
 
 -- what the step leaves
 stepped : (c : After-turn-decided) (seen : List Publication) (mark : SeatTerms) → mark ≡ c.turn-decided.new.seat → (totals : TotalSums)
@@ -169,16 +145,16 @@ returns-in_err-decision-clause-stepped c = λ seen.
     ) tt tt tt tt tt)
 
 -- what an answer leaves, whichever it is
-module _ (b : BookTerms) (v w x : Knowledge) (was now : TotalSums) (front : List ℕ) (h : HelpingTerms) (has : HasAccount v h.account)
-    (looked_at : HasLooked b v w was now front) (waiting : IsHelping b v h) (d : Decision) (next : DecidesNext b w x h front d) (kept : IsKept x)
+module _ (b : BookTerms) (v w x : Knowledge) (was now : TotalSums) (cut : List ℕ) (h : HelpingTerms) (has : HasAccount v h.account)
+    (looked_at : HasLooked b v w was now cut) (waiting : IsHelping b v h) (d : Decision) (next : DecidesNext b w x h cut d) (kept : IsKept x)
     (same : x.book ≡ b) where
-  helps : (round : ℕ) (answer : HelpTurn) → round ≡ rounds h.account (prefix_of front w.seen) → AnswersRound h round d answer → IsHelpOf b v x h answer
-  helps round (Settled r) is (own, so) = IsHelpOf-own b v w was now front h has looked_at waiting x d next round r kept.agrees is own so
-  helps round More is other = IsHelpOf-other b v w was now front h has looked_at waiting x d next other
+  helps : (round : ℕ) (answer : HelpTurn) → round ≡ rounds h.account (prefix_of cut w.seen) → AnswersRound h round d answer → IsHelpOf b v x h answer
+  helps round (Settled r) is (own, so) = IsHelpOf-own b v w was now cut h has looked_at waiting x d next round r kept.agrees is own so
+  helps round More is other = IsHelpOf-other b v w was now cut h has looked_at waiting x d next other
 
   waits_on : (round : ℕ) (answer : HelpTurn) → AnswersRound h round d answer → answer ≡ More → WaitsOn b v x h
   waits_on round (Settled r) after more = absurd (cc more)
-  waits_on round More other more = WaitsOn-other b v w was now front h has looked_at waiting x d next kept same other
+  waits_on round More other more = WaitsOn-other b v w was now cut h has looked_at waiting x d next kept same other
 
 pub returns-clause-stepped : goal.returns-clause-stepped
 returns-clause-stepped c = λ seen.
@@ -196,25 +172,25 @@ returns-clause-stepped c = λ seen.
     let answer = c.answer.result in
     let has = subst (λ (h : HelpingTerms). HasAccount t.start h.account) (sym (helping start)) (has_account start) in
     let waiting = subst (IsHelping b t.start) (sym (helping start)) (waits start) in
-    let next : DecidesNext b d.start w t.helping d.front decision =
-    subst (λ (h : HelpingTerms). DecidesNext b d.start w h d.front decision) (decides at).helping_is last.decided in
+    let next : DecidesNext b d.start w t.helping d.cut decision =
+    subst (λ (h : HelpingTerms). DecidesNext b d.start w h d.cut decision) (decides at).helping_is last.decided in
     let after : AnswersRound t.helping c.round.result decision answer =
     subst (λ (h : HelpingTerms). AnswersRound h c.round.result decision answer) (sym (helping start)) c.answer.ensures in
-    let round : c.round.result ≡ rounds t.helping.account (prefix_of d.front d.start.seen) =
+    let round : c.round.result ≡ rounds t.helping.account (prefix_of d.cut d.start.seen) =
     c.round.ensures ∙ (ap (λ (k : DecidingTerms). round_in k) told.after
-    ∙ ap (λ (h : HelpingTerms). rounds h.account (prefix_of d.front d.start.seen)) (decides at).helping_is) in
+    ∙ ap (λ (h : HelpingTerms). rounds h.account (prefix_of d.cut d.start.seen)) (decides at).helping_is) in
     let turns : ℕ = t.looked + (round_steps e.start.book.processes - e.left) in
     let known : t.start.first < b.processes = subst (λ (k : BookTerms). t.start.first < k.processes) (book start) c.self.invariant.kept.known in
-    let few : IsWithin b.processes t.was (sum d.front) t.looked =
-    subst (λ (k : BookTerms). IsWithin k.processes t.was (sum d.front) t.looked) (book start) (decides at).few in
-    let seat_left = LeavesSeat-decided b t.start d.start t.was t.totals d.front t.helping has (looked_then at) waiting w decision next in
-    let leaves = LeavesTotals-decided b t.start d.start t.was t.totals d.front t.helping has (looked_then at) waiting w decision next now t.looked turns known
+    let few : IsWithin b.processes t.was (sum d.cut) t.looked =
+    subst (λ (k : BookTerms). IsWithin k.processes t.was (sum d.cut) t.looked) (book start) (decides at).few in
+    let seat_left = LeavesSeat-decided b t.start d.start t.was t.totals d.cut t.helping has (looked_then at) waiting w decision next in
+    let leaves = LeavesTotals-decided b t.start d.start t.was t.totals d.cut t.helping has (looked_then at) waiting w decision next now t.looked turns known
     last.upto few (help_turns_in-le b t d e w (book start) (decides at) (has_account_now at) (some at) told.after told.left told.step) in
     stepped at seen c.of.result.value c.of.ensures c.of-2.result.value c.of-2.ensures (Some answer) (omega (arith, leaves.few)) leaves.more seat_left.published
     (λ some. last.ends.0 refl, λ none. refl)
-    (helps b t.start d.start w t.was t.totals d.front t.helping has (looked_then at) waiting decision next c.known-2.ensures.seat told.board.book
+    (helps b t.start d.start w t.was t.totals d.cut t.helping has (looked_then at) waiting decision next c.known-2.ensures.seat told.board.book
     c.round.result answer round after)
-    (waits_on b t.start d.start w t.was t.totals d.front t.helping has (looked_then at) waiting decision next c.known-2.ensures.seat told.board.book
+    (waits_on b t.start d.start w t.was t.totals d.cut t.helping has (looked_then at) waiting decision next c.known-2.ensures.seat told.board.book
     c.round.result answer after)
     seat_left
     last.counted leaves

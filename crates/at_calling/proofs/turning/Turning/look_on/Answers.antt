@@ -1,37 +1,11 @@
 use Rattle.std.proofs.Common.{◌↔◌, IfSome, IsSome, Option, None, Some, true, refl, ◌≡◌, ℕ, ◌*◌, ◌<◌, List, length, false, sym, ap, subst, ◌∙◌, arith}
-use Rattle.std.specs.List.{sum}
-use Rattle.at_ledger.specs.Book.{BookTerms}
-use Rattle.at_history.specs.Fronts.{prefix_of}
-use Rattle.at_history.specs.Rounds.{is_settled}
-use Rattle.at_board.specs.Knowledge.Parts.{own_part}
-use Rattle.at_board.specs.Knowledge.Seats.{SeatTerms}
-use Rattle.at_board.specs.declared.knowledge.Asking.{Asking}
-use Rattle.at_board.specs.declared.knowledge.Knowledge.{Knowledge}
-use Rattle.at_fold.specs.Counted.{IsDecidedIn}
-use Rattle.at_fold.specs.HasCounted.{CountsFront, CountsSlot, HasCounted}
-use Rattle.at_fold.specs.Sums.{TotalSums}
-use Rattle.at_rows.proofs.Laws.Accounts.{HasAccount, HasAccount-IsSeat}
-use Rattle.at_shared.proofs.Laws.Turned.{IsHelpingAt-turn}
-use Rattle.at_shared.specs.HelpingTerms.{HelpingTerms}
-use Rattle.at_shared.specs.Helpings.{IsHelping, decides_made}
-use Rattle.at_shared.specs.Settling.{round_steps}
+use Rattle.at_calling.proofs.Prelude.{sum, BookTerms, prefix_of, is_settled, own_part, SeatTerms, Asking, Knowledge, IsDecidedIn, CountsCut, CountsSlot, HasCounted, TotalSums, HasAccount, HasAccount-IsSeat, IsHelpingAt-turn, HelpingTerms, IsHelping, decides_made, round_steps, HasSameAsking, TurnStage, HelpTurn, Settled, More, CountsAccount-HasLooked, CountsCut-HasLooked, HasCounted-HasLooked, published-HasLoaded, HasLooked, DecidingTerms, starting_deciding, IsLookingStill, IsTurnStageSo, IsTurningSo, TakesHelpStep, IsWithin, LeavesTotals, IsHelpOf, LeavesSeat, TurningTerms, WaitsOn, help_turns_in, help_turns_left, Decide, Found}
 use Rattle.at_calling.proofs.PayingAloneLaws.{HasSameAsking-HasLoaded, sum-HasLooked-le}
 use Rattle.at_calling.proofs.ReadingLaws.{LeavesTotals-HasLooked}
 use Rattle.at_calling.proofs.TurningSteps.{LeavesSeat-HasLoaded, TakesHelpStep-look}
-use Rattle.at_calling.specs.PayingAlone.{HasSameAsking}
-use Rattle.at_calling.specs.declared.turn_stage.TurnStage.{TurnStage}
-use Rattle.at_shared.specs.declared.helping.HelpTurn.{HelpTurn}
-use Rattle.at_shared.specs.declared.helping.HelpTurn.TheVariants.{Settled, More}
-use Rattle.at_single.proofs.Laws.Looks.{CountsAccount-HasLooked, CountsFront-HasLooked, HasCounted-HasLooked, published-HasLoaded}
-use Rattle.at_single.specs.Looks.{HasLooked}
 use Rattle.at_calling.proofs.TurningLaws.{IsHelpOf-found}
-use Rattle.at_machines.specs.Deciding.{DecidingTerms, starting_deciding}
-use Rattle.at_calling.specs.KeptTurning.{IsLookingStill, IsTurnStageSo, IsTurningSo, TakesHelpStep}
-use Rattle.at_machines.specs.Looking.{IsWithin}
-use Rattle.at_calling.specs.Reading.{LeavesTotals}
-use Rattle.at_calling.specs.Turning.{IsHelpOf, LeavesSeat, TurningTerms, WaitsOn, help_turns_in, help_turns_left}
 use Rattle.at_calling.specs.contracts.turning.Turning.{the_view}
-use Rattle.at_calling.specs.declared.turn_stage.TurnStage.TheVariants.{Decide, Found, Look}
+use Rattle.at_calling.specs.declared.turn_stage.TurnStage.TheVariants.{Look}
 use Rattle.at_calling.proofs.turning.Turning.look_on.Goals.{After-known, After-self, After-answer_in, After-start-deciding, After-turn-looked}
 use Rattle.at_calling.proofs.turning.Turning.look_on.Goals as goal
 
@@ -65,38 +39,38 @@ looks c = subst (IsTurnStageSo (the_view c.self.inside)) c.in-Look.is c.self.inv
 -- the look has ended
 looked : (c : After-known)
     → HasLooked c.args.board.now.book c.self.inside.start.value.knows c.turn-looked.new.seat.knows c.self.inside.was.value c.turn-looked.new.totals
-    c.in_ok-front.front
+    c.in_ok-cut.cut
 looked c =
     let at = (goal.at.After-known c).After-turn-looked in
     let b : BookTerms = c.args.board.now.book in
     let w : Knowledge = c.turn-looked.new.seat.knows in
     let now : TotalSums = c.turn-looked.new.totals in
-    let front : List ℕ = c.in_ok-front.front in
-    subst (λ (v : Knowledge). HasLooked b v w c.self.inside.was.value now front) (looks at).start_is
-    (subst (λ (s : TotalSums). HasLooked b c.in-Look.looking.start w s now front) (looks at).was_is c.in_ok-front.ensures.looked)
+    let cut : List ℕ = c.in_ok-cut.cut in
+    subst (λ (v : Knowledge). HasLooked b v w c.self.inside.was.value now cut) (looks at).start_is
+    (subst (λ (s : TotalSums). HasLooked b c.in-Look.looking.start w s now cut) (looks at).was_is c.in_ok-cut.ensures.looked)
 
--- the totals have counted the slot, up to the front
+-- the totals have counted the slot, up to the cut
 counts_slot : (c : After-known)
     → CountsSlot c.turn-looked.new.totals c.args.board.now.book c.turn-looked.new.seat.knows.seen c.args.helping.now.account c.args.helping.now.own.slot
 counts_slot c =
     let asked = (waits (goal.at.After-known c).After-self).asked in
     record {
       account = CountsAccount-HasLooked c.args.board.now.book c.self.inside.start.value.knows c.turn-looked.new.seat.knows c.self.inside.was.value
-          c.turn-looked.new.totals c.in_ok-front.front c.args.helping.now.account (looked c) asked.slot_in.account_in;
+          c.turn-looked.new.totals c.in_ok-cut.cut c.args.helping.now.account (looked c) asked.slot_in.account_in;
       slot_in = asked.slot_in.within;
     }
 
-counts_front : (c : After-known)
-    → CountsFront c.turn-looked.new.totals c.args.board.now.book c.turn-looked.new.seat.knows.seen
-counts_front c =
-    CountsFront-HasLooked c.args.board.now.book c.self.inside.start.value.knows c.turn-looked.new.seat.knows c.self.inside.was.value c.turn-looked.new.totals
-    c.in_ok-front.front (looked c)
+counts_cut : (c : After-known)
+    → CountsCut c.turn-looked.new.totals c.args.board.now.book c.turn-looked.new.seat.knows.seen
+counts_cut c =
+    CountsCut-HasLooked c.args.board.now.book c.self.inside.start.value.knows c.turn-looked.new.seat.knows c.self.inside.was.value c.turn-looked.new.totals
+    c.in_ok-cut.cut (looked c)
 
 has_counted : (c : After-known)
     → HasCounted c.turn-looked.new.totals c.args.board.now.book c.turn-looked.new.seat.knows.seen
 has_counted c =
     HasCounted-HasLooked c.args.board.now.book c.self.inside.start.value.knows c.turn-looked.new.seat.knows c.self.inside.was.value c.turn-looked.new.totals
-    c.in_ok-front.front (looked c)
+    c.in_ok-cut.cut (looked c)
 
 pub settled-requires : goal.settled-requires
 settled-requires c = (
@@ -106,8 +80,8 @@ settled-requires c = (
   (waits (goal.at.settled-requires c).After-self).room,
 )
 
--- what was found was decided at the front
-found : (c : After-answer_in) → IsDecidedIn (prefix_of c.in_ok-front.front c.turn-looked.new.seat.knows.seen)
+-- what was found was decided at the cut
+found : (c : After-answer_in) → IsDecidedIn (prefix_of c.in_ok-cut.cut c.turn-looked.new.seat.knows.seen)
     c.args.helping.now.account c.args.helping.now.own.slot c.args.helping.now.own.number c.in-Some.round c.in-Some.decision
 found c =
     let at = (goal.at.After-answer_in c).After-known in
@@ -115,7 +89,7 @@ found c =
     let b : BookTerms = c.args.board.now.book in
     let seen = c.turn-looked.new.seat.knows.seen in
     subst (λ f. IsDecidedIn (prefix_of f seen) h.account h.own.slot h.own.number c.in-Some.round c.in-Some.decision) (looked at).upto
-    (c.in-Some.ensures.front b seen (counts_slot at) (waits (goal.at.After-answer_in c).After-self).room (counts_front at))
+    (c.in-Some.ensures.cut b seen (counts_slot at) (waits (goal.at.After-answer_in c).After-self).room (counts_cut at))
 
 -- what the step leaves, with whichever stage next
 stepped : (c : After-turn-looked) (turns : ℕ) → turns ≡ c.turn-looked.new.self.turns → (mark : SeatTerms) → mark ≡ c.turn-looked.new.seat
@@ -146,9 +120,9 @@ stepped c turns turns_are mark mark_is totals totals_are stage answer same left 
     (subst (IsWithin b.processes c.in-Look.looking.was (length after.knows.seen)) (sym turns_are) told.so_far)
     (omega (arith, told.counting, turns_are)) told.more stage answer same left ends help waits seat counted leaves)
 
-pub returns-in_err-front-clause-stepped : goal.returns-in_err-front-clause-stepped
-returns-in_err-front-clause-stepped c =
-    let at = (goal.at.returns-in_err-front-clause-stepped c).After-turn-looked in
+pub returns-in_err-cut-clause-stepped : goal.returns-in_err-cut-clause-stepped
+returns-in_err-cut-clause-stepped c =
+    let at = (goal.at.returns-in_err-cut-clause-stepped c).After-turn-looked in
     let next : TurnStage = Look c.turn-looked.new.self in
     subst (TakesHelpStep c.args.board.now.book c.args.overview.now.seen c.args.self.now
     (record (the_view c.self.inside) { stage = next; looked = c.turns-self-inside.result; mark = c.of.result.value.knows; totals = c.of-2.result.value }) c.args.seat.now
@@ -165,14 +139,14 @@ leaves_found c =
     let b : BookTerms = c.args.board.now.book in
     let t : TurningTerms = the_view c.self.inside in
     let w : Knowledge = c.turn-looked.new.seat.knows in
-    let front : List ℕ = c.in_ok-front.front in
-    let few : IsWithin b.processes t.was (sum front) c.turn-looked.new.self.turns =
-    subst (λ (s : TotalSums). IsWithin b.processes s (sum front) c.turn-looked.new.self.turns) (looks at).was_is c.in_ok-front.ensures.within in
+    let cut : List ℕ = c.in_ok-cut.cut in
+    let few : IsWithin b.processes t.was (sum cut) c.turn-looked.new.self.turns =
+    subst (λ (s : TotalSums). IsWithin b.processes s (sum cut) c.turn-looked.new.self.turns) (looks at).was_is c.in_ok-cut.ensures.within in
     let same : HasSameAsking t.start w = HasSameAsking-HasLoaded b t.start w (omega (arith, c.self.invariant.kept.one_part)) (looked c).loads in
     let none : decides_made t.helping.account t.start w ≡ 0 = omega (arith, ap (λ (k : Asking). k.decides) (same t.helping.account)) in
     let zero : 0 ≡ round_steps b.processes * decides_made t.helping.account t.start w = omega (arith, ap (λ k. round_steps b.processes * k) none) in
     subst (λ k. LeavesTotals b t.start w t.was c.turn-looked.new.totals k c.turns-self-inside.result) zero
-    (LeavesTotals-HasLooked b t.start w t.was c.turn-looked.new.totals front (looked c) c.turns-self-inside.result
+    (LeavesTotals-HasLooked b t.start w t.was c.turn-looked.new.totals cut (looked c) c.turns-self-inside.result
     (omega (arith, c.self.invariant.kept.one_part)) (omega (arith, few, c.turns-self-inside.ensures)))
 
 pub returns-in-Some-clause-stepped : goal.returns-in-Some-clause-stepped
@@ -185,11 +159,11 @@ returns-in-Some-clause-stepped c =
     let t : TurningTerms = the_view c.self.inside in
     let w : Knowledge = c.turn-looked.new.seat.knows in
     let now : TotalSums = c.turn-looked.new.totals in
-    let front : List ℕ = c.in_ok-front.front in
+    let cut : List ℕ = c.in_ok-cut.cut in
     let h : HelpingTerms = c.args.helping.now in
     let r = c.answer_in.result in
     let help : IsHelpOf b t.start w h (Settled r) =
-    IsHelpOf-found b t.start w t.was now front h (has_account start) (looked known) (waits start) c.in-Some.round c.in-Some.decision r
+    IsHelpOf-found b t.start w t.was now cut h (has_account start) (looked known) (waits start) c.in-Some.round c.in-Some.decision r
     c.known.ensures.seat.agrees (found by) (record { reply = c.answer_in.ensures.reply; at = c.answer_in.ensures.at }) in
     subst (λ (k : TurnStage). TakesHelpStep b c.args.overview.now.seen c.args.self.now
     (record t { stage = k; looked = c.turns-self-inside.result; mark = c.of.result.value.knows; totals = c.of-2.result.value }) c.args.seat.now c.turn-looked.new.seat
@@ -209,7 +183,7 @@ pub start-deciding-requires-clause-helping : goal.start-deciding-requires-clause
 start-deciding-requires-clause-helping c =
     let start = (goal.at.start-deciding-requires-clause-helping c).After-self in
     let done = looked (goal.at.start-deciding-requires-clause-helping c).After-known in
-    IsHelpingAt-turn c.args.board.now.book c.self.inside.start.value.knows c.turn-looked.new.seat.knows c.args.helping.now c.in_ok-front.front
+    IsHelpingAt-turn c.args.board.now.book c.self.inside.start.value.knows c.turn-looked.new.seat.knows c.args.helping.now c.in_ok-cut.cut
     (has_account start) done.snapshot done.loads (waits start)
 
 pub start-deciding-requires-clause-unsettled : goal.start-deciding-requires-clause-unsettled
@@ -218,10 +192,10 @@ start-deciding-requires-clause-unsettled c =
     let h : HelpingTerms = c.args.helping.now in
     let seen = c.turn-looked.new.seat.knows.seen in
     subst (λ f. is_settled h.account h.own.slot h.own.number (prefix_of f seen) ≡ false) (looked at).upto
-    (c.in_default-settled.ensures.front c.args.board.now.book seen (counts_slot at)
-    (waits (goal.at.start-deciding-requires-clause-unsettled c).After-self).room (counts_front at))
+    (c.in_default-settled.ensures.cut c.args.board.now.book seen (counts_slot at)
+    (waits (goal.at.start-deciding-requires-clause-unsettled c).After-self).room (counts_cut at))
 
--- a round at the front of the look comes next
+-- a round at the cut of the look comes next
 pub invariant_of-self-2 : goal.invariant_of-self-2
 invariant_of-self-2 c =
     let started = (goal.at.invariant_of-self-2 c).After-start-deciding in
@@ -232,18 +206,18 @@ invariant_of-self-2 c =
     let t : TurningTerms = the_view c.self.inside in
     let w : Knowledge = c.turn-looked.new.seat.knows in
     let now : TotalSums = c.turn-looked.new.totals in
-    let front : List ℕ = c.in_ok-front.front in
+    let cut : List ℕ = c.in_ok-cut.cut in
     let turns : ℕ = c.turn-looked.new.self.turns in
     let kept = c.self.invariant in
-    let done : HasLooked t.start.book t.start w t.was now front =
-    subst (λ (k : BookTerms). HasLooked k t.start w t.was now front) (sym (book start)) (looked known) in
-    let within : IsWithin t.start.book.processes t.was (sum front) turns =
-    subst (λ (k : BookTerms). IsWithin k.processes t.was (sum front) turns) (sym (book start))
-    (subst (λ (s : TotalSums). IsWithin b.processes s (sum front) turns) (looks at).was_is c.in_ok-front.ensures.within) in
+    let done : HasLooked t.start.book t.start w t.was now cut =
+    subst (λ (k : BookTerms). HasLooked k t.start w t.was now cut) (sym (book start)) (looked known) in
+    let within : IsWithin t.start.book.processes t.was (sum cut) turns =
+    subst (λ (k : BookTerms). IsWithin k.processes t.was (sum cut) turns) (sym (book start))
+    (subst (λ (s : TotalSums). IsWithin b.processes s (sum cut) turns) (looks at).was_is c.in_ok-cut.ensures.within) in
     let published = published-HasLoaded t.start.book t.start w (omega (arith, kept.kept.one_part)) done.loads in
     let same : HasSameAsking t.start w = HasSameAsking-HasLoaded t.start.book t.start w (omega (arith, kept.kept.one_part)) done.loads in
-    let most = sum-HasLooked-le t.start.book t.start w t.was now front done in
-    let next : TurnStage = Decide (starting_deciding w now t.helping front) in
+    let most = sum-HasLooked-le t.start.book t.start w t.was now cut done in
+    let next : TurnStage = Decide (starting_deciding w now t.helping cut) in
     let here : IsTurningSo (record t { stage = next; looked = turns; mark = w; totals = now }) = record {
       kept = kept.kept;
       book = c.turn-looked.ensures.board.book ∙ sym (book start);
@@ -265,7 +239,7 @@ invariant_of-self-2 c =
     let stage : c.become_next-2.new.stage ≡ next =
     c.become_next-2.ensures
     ∙ (ap (λ (d : DecidingTerms). Decide d) c.start-deciding.ensures
-    ∙ ap (λ (h : HelpingTerms). Decide (starting_deciding w now h front)) (sym (helping start))) in
+    ∙ ap (λ (h : HelpingTerms). Decide (starting_deciding w now h cut)) (sym (helping start))) in
     subst (λ (k : TurnStage). IsTurningSo
     (record t { stage = k; looked = c.turns-self-inside.result; mark = c.of.result.value.knows; totals = c.of-2.result.value })) (sym stage)
     (subst (λ (n : ℕ). IsTurningSo (record t { stage = next; looked = n; mark = c.of.result.value.knows; totals = c.of-2.result.value }))

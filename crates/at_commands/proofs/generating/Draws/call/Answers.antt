@@ -1,7 +1,5 @@
 use Rattle.std.proofs.Common.{◌≡◌, ◌∙◌, ◌+◌, ◌%◌, ◌==◌, ℕ, true, false, eq-eqb, refl, sym}
-use Rattle.std.proofs.lemmas.Bool.{ne_eqb}
-use Rattle.at_ledger.specs.declared.call.Call.TheVariants.{Read, Transfer}
-use Rattle.at_commands.specs.Generator.{account_drawn, amount_drawn, call_drawn, drawn, kind_drawn, next_state, source_drawn, state_after_call}
+use Rattle.at_commands.proofs.Prelude.{ne_eqb, Read, Transfer, account_drawn, amount_drawn, call_drawn, drawn, kind_drawn, next_state, source_drawn, state_after_call}
 use Rattle.at_commands.proofs.generating.Draws.call.Goals as goal
 use Rattle.at_commands.proofs.generating.Draws.call.Goals.{then-kind-eq1, else-kind-eq1}
 

@@ -1,6 +1,5 @@
 use Rattle.std.proofs.Common.{◌≡◌, ℕ, refl, sym, arith}
-use Rattle.std.proofs.lemmas.List.FromFn.{map-range_with_len_more}
-use Rattle.at_commands.specs.Generator.{call_drawn, state_after_calls}
+use Rattle.at_commands.proofs.Prelude.{map-range_with_len_more, call_drawn, state_after_calls}
 use Rattle.at_commands.proofs.GeneratorLaws.{state_after_calls_more, state_after_calls_none}
 use Rattle.at_commands.proofs.generating.Draws.calls.Goals as goal
 

@@ -1,6 +1,5 @@
 use Rattle.std.proofs.Common.{◌≡◌, map}
-use Rattle.std.specs.List.{range_with_len}
-use Rattle.at_commands.specs.Generator.{call_drawn, state_after_calls}
+use Rattle.at_commands.proofs.Prelude.{range_with_len, call_drawn, state_after_calls}
 use Rattle.at_commands.proofs.generating.Draws.calls.Given as goal
 
 abbrev pub invariant-loop : goal.invariant-loop

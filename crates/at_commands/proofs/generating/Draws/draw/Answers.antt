@@ -1,6 +1,5 @@
 use Rattle.std.proofs.Common.{◌≡◌, ◌∙◌, ◌+◌, ◌*◌, ◌%◌, ◌^◌, ℕ, ap}
-use Rattle.std.proofs.Math.Nat.{add-mod-mod, add_comm, mul_comm}
-use Rattle.at_commands.specs.Generator.{next_state}
+use Rattle.at_commands.proofs.Prelude.{add-mod-mod, add_comm, mul_comm, next_state}
 use Rattle.at_commands.proofs.generating.Draws.draw.Goals as goal
 
 -- what is left of the product can be left of the sum

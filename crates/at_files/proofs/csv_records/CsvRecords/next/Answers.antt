@@ -1,6 +1,5 @@
 use Rattle.std.proofs.Common.{sym, arith}
-use Rattle.std.proofs.lemmas.Grind.{common_steps}
-use Rattle.at_files.specs.Reading.{IsBetweenRecords}
+use Rattle.at_files.proofs.Prelude.{common_steps, IsBetweenRecords}
 use Rattle.at_files.proofs.RecordLaws.{records_left-read, IsBetweenRecords-read}
 use Rattle.at_files.proofs.csv_records.CsvRecords.next.Goals as goal
 

@@ -1,5 +1,5 @@
 use Rattle.std.proofs.Common.{ap, sym, ◌∙◌}
-use Rattle.at_files.specs.Reading.{line_records}
+use Rattle.at_files.proofs.Prelude.{line_records}
 use Rattle.at_files.proofs.LineLaws.{line_records-blank_only, line_records-none}
 use Rattle.at_files.proofs.lines.Lines.next.Goals as goal
 

@@ -1,5 +1,5 @@
 use Rattle.std.proofs.Common.{not, sym, ap, ◌∙◌, arith}
-use Rattle.std.proofs.lemmas.Grind.{common_steps}
+use Rattle.at_files.proofs.Prelude.{common_steps}
 use Rattle.at_files.proofs.NameSetLaws.{IsNameSet-add, insert_key-map, has_name-map}
 use Rattle.at_files.proofs.name_set.NameSet.add.Goals as goal
 

@@ -1,5 +1,5 @@
 use Rattle.std.proofs.Common.{sym, ◌∙◌, arith}
-use Rattle.std.proofs.lemmas.Grind.{common_steps}
+use Rattle.at_files.proofs.Prelude.{common_steps}
 use Rattle.at_files.proofs.NameSetLaws.{position_of-long, position_of-map}
 use Rattle.at_files.proofs.name_set.NameSet.position.Goals as goal
 

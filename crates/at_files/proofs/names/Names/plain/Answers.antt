@@ -1,6 +1,5 @@
 use Rattle.std.proofs.Common.{arith}
-use Rattle.std.proofs.lemmas.Grind.{common_steps}
-use Rattle.at_files.specs.Names.{AreNamesOf, plain_names}
+use Rattle.at_files.proofs.Prelude.{common_steps, AreNamesOf, plain_names}
 use Rattle.at_files.proofs.NameLaws.{AreNamesOf-plain_names}
 use Rattle.at_files.proofs.names.Names.plain.Goals as goal
 

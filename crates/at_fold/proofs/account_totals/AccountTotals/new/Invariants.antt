@@ -1,5 +1,5 @@
 use Rattle.std.proofs.Common.{◌≡◌, replicate}
-use Rattle.at_fold.specs.Sums.{starting_slot}
+use Rattle.at_fold.proofs.Prelude.{starting_slot}
 use Rattle.at_fold.proofs.account_totals.AccountTotals.new.Given as goal
 
 abbrev pub invariant-loop-slot : goal.invariant-loop-slot

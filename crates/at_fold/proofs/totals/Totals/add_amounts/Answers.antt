@@ -1,5 +1,5 @@
 use Rattle.std.proofs.Common.{◌==◌, arith}
-use Rattle.at_ledger.specs.Call.{amount_of}
+use Rattle.at_fold.proofs.Prelude.{amount_of}
 use Rattle.at_fold.proofs.Amounts.{amount_for-le, cond-le}
 use Rattle.at_fold.proofs.totals.Totals.add_amounts.Goals as goal
 

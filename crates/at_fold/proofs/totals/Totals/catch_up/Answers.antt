@@ -1,14 +1,5 @@
 use Rattle.std.proofs.Common.{◌≡◌, ℕ, ◌+◌, ◌-◌, ◌*◌, ◌<◌, ◌≤◌, List, length, get_or, set, refl, subst, sym, ap, ◌∙◌, arith, get_or-set_same}
-use Rattle.std.specs.List.{sum}
-use Rattle.std.proofs.lemmas.List.{set-get_or}
-use Rattle.at_ledger.specs.Book.{BookTerms}
-use Rattle.at_board.proofs.Counting.{stepped-none, stepped-stepped}
-use Rattle.at_board.specs.Counting.{stepped}
-use Rattle.at_board.specs.Knowledge.Seats.{SeatTerms}
-use Rattle.at_board.specs.declared.words.TheConstants.{RECORD_WORDS}
-use Rattle.at_fold.specs.CatchingUp.{IsCatchingUp}
-use Rattle.at_fold.specs.HasCounted.{HasCounted}
-use Rattle.at_fold.specs.Sums.{TotalSums}
+use Rattle.at_fold.proofs.Prelude.{sum, set-get_or, BookTerms, stepped-none, stepped-stepped, stepped, SeatTerms, RECORD_WORDS, IsCatchingUp, HasCounted, TotalSums}
 use Rattle.at_fold.proofs.Laws.CatchingUp.{IsCatchingUp-more, IsCatchingUp-next, IsCatchingUp-start, count_of-IsCatchingUp, upto-IsCatchingUp}
 use Rattle.at_fold.proofs.Laws.LoadedRecords.{sum-caught}
 use Rattle.at_fold.proofs.Laws.MorePublished.{StaysCounted-HasCounted}

@@ -1,8 +1,5 @@
 use Rattle.std.proofs.Common.{◌≡◌, ◌+◌, ◌-◌, ◌*◌, ◌≤◌}
-use Rattle.at_board.specs.Counting.{stepped}
-use Rattle.std.specs.List.{sum}
-use Rattle.at_board.specs.declared.words.TheConstants.{RECORD_WORDS}
-use Rattle.at_fold.specs.CatchingUp.{IsCatchingUp}
+use Rattle.at_fold.proofs.Prelude.{stepped, sum, RECORD_WORDS, IsCatchingUp}
 use Rattle.at_fold.proofs.totals.Totals.catch_up.Given as goal
 
 abbrev pub invariant-loop-p : goal.invariant-loop-p

@@ -1,13 +1,5 @@
 use Rattle.std.proofs.Common.{◌≡◌, ℕ, ◌+◌, ◌-◌, ◌*◌, ◌<◌, List, length, get_or, set, sym, ap, subst, ◌∙◌, arith, get_or-set_same}
-use Rattle.std.proofs.lemmas.List.{set-set}
-use Rattle.at_ledger.specs.Book.{BookTerms}
-use Rattle.at_history.specs.Publications.{count_of}
-use Rattle.at_board.proofs.Counting.{stepped-stepped}
-use Rattle.at_board.specs.Counting.{stepped}
-use Rattle.at_board.specs.Knowledge.Seats.{SeatTerms}
-use Rattle.at_board.specs.declared.words.TheConstants.{RECORD_WORDS}
-use Rattle.at_history.specs.Histories.{IsHistory}
-use Rattle.at_fold.specs.HasCounted.{HasCounted, MayCount}
+use Rattle.at_fold.proofs.Prelude.{set-set, BookTerms, count_of, stepped-stepped, stepped, SeatTerms, RECORD_WORDS, IsHistory, HasCounted, MayCount}
 use Rattle.at_fold.proofs.Laws.LoadedRecords.{MayCount-loaded}
 use Rattle.at_fold.proofs.totals.Totals.catch_up_with.Goals as goal
 

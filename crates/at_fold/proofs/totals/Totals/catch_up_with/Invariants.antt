@@ -1,7 +1,5 @@
 use Rattle.std.proofs.Common.{◌≡◌, ◌+◌, ◌-◌, ◌*◌, set}
-use Rattle.at_board.specs.Counting.{stepped}
-use Rattle.at_board.specs.declared.words.TheConstants.{RECORD_WORDS}
-use Rattle.at_fold.specs.HasCounted.{HasCounted}
+use Rattle.at_fold.proofs.Prelude.{stepped, RECORD_WORDS, HasCounted}
 use Rattle.at_fold.proofs.totals.Totals.catch_up_with.Given as goal
 
 abbrev pub invariant-loop-i : goal.invariant-loop-i

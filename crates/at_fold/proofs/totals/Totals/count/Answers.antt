@@ -1,9 +1,5 @@
 use Rattle.std.proofs.Common.{◌≡◌, ℕ, ◌+◌, List, get_or, set, sym, ap, subst, ◌∙◌, arith}
-use Rattle.at_ledger.specs.Book.{BookTerms}
-use Rattle.at_history.proofs.Laws.Rooms.{log_room_of-le}
-use Rattle.at_history.specs.declared.publication.Publication.{Publication}
-use Rattle.at_fold.specs.HasCounted.{HasCounted}
-use Rattle.at_fold.specs.Sums.{AccountSums, TotalSums}
+use Rattle.at_fold.proofs.Prelude.{BookTerms, log_room_of-le, Publication, HasCounted, AccountSums, TotalSums}
 use Rattle.at_fold.proofs.NextRecord.{FitsMore-MayCount, FitsRound-MayCount, HasCounted-new, HasCounted-repeat, HasSums-MayCount}
 use Rattle.at_fold.proofs.totals.Totals.count.Goals as goal
 use Rattle.at_fold.proofs.totals.Totals.count.Goals.{then-is_new, else-is_new}

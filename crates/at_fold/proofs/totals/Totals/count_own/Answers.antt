@@ -1,7 +1,6 @@
 use Rattle.std.proofs.Common.{ℕ, sym, subst}
-use Rattle.at_board.specs.declared.knowledge.Knowledge.{Knowledge}
+use Rattle.at_fold.proofs.Prelude.{Knowledge, MayCount}
 use Rattle.at_fold.proofs.Laws.MorePublished.{StaysCounted-HasCounted}
-use Rattle.at_fold.specs.HasCounted.{MayCount}
 use Rattle.at_fold.proofs.totals.Totals.count_own.Goals as goal
 
 pub returns-clause-stays : goal.returns-clause-stays

@@ -1,5 +1,5 @@
 use Rattle.std.proofs.Common.{◌≡◌, ℕ, ◌*◌, ◌^◌, ◌≤◌, length, take}
-use Rattle.at_history.specs.Balances.{amount_for}
+use Rattle.at_fold.proofs.Prelude.{amount_for}
 use Rattle.at_fold.proofs.Amounts.{AreCredited}
 use Rattle.at_fold.proofs.totals.Totals.credit.Given as goal
 

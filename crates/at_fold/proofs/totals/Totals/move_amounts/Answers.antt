@@ -1,6 +1,5 @@
 use Rattle.std.proofs.Common.{◌≡◌, ◌<◌, List, length, ap, ◌∙◌, arith}
-use Rattle.std.proofs.lemmas.List.{get_or_default}
-use Rattle.at_fold.specs.Sums.{AccountSums, TotalSums, no_sums, sums_at}
+use Rattle.at_fold.proofs.Prelude.{get_or_default, AccountSums, TotalSums, no_sums, sums_at}
 use Rattle.at_fold.proofs.totals.Totals.move_amounts.Goals as goal
 
 pub debit-requires : goal.debit-requires

@@ -1,7 +1,5 @@
 use Rattle.std.proofs.Common.{◌≡◌, length, map, replicate, ap, ◌∙◌, arith}
-use Rattle.std.specs.List.{range_with_len}
-use Rattle.std.proofs.lemmas.List.FromFn.{map-range_with_len_more}
-use Rattle.at_fold.specs.Sums.{starting_sums}
+use Rattle.at_fold.proofs.Prelude.{range_with_len, map-range_with_len_more, starting_sums}
 use Rattle.at_fold.proofs.NothingCounted.{HasCounted-starting}
 use Rattle.at_fold.proofs.totals.Totals.new.Goals as goal
 

@@ -1,6 +1,5 @@
 use Rattle.std.proofs.Common.{◌≡◌, map}
-use Rattle.std.specs.List.{range_with_len}
-use Rattle.at_fold.specs.Sums.{starting_sums}
+use Rattle.at_fold.proofs.Prelude.{range_with_len, starting_sums}
 use Rattle.at_fold.proofs.totals.Totals.new.Given as goal
 
 abbrev pub invariant-loop-account : goal.invariant-loop-account

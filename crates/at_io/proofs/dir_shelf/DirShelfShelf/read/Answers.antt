@@ -1,5 +1,5 @@
 use Rattle.std.proofs.Common.{arith}
-use Rattle.std.proofs.lemmas.Grind.{common_steps}
+use Rattle.at_io.proofs.Prelude.{common_steps}
 use Rattle.at_io.proofs.dir_shelf.DirShelfShelf.read.Goals as goal
 
 pub returns-in_default-clause-end : goal.returns-in_default-clause-end

@@ -1,5 +1,5 @@
 use Rattle.std.proofs.Common.{arith}
-use Rattle.std.proofs.lemmas.Grind.{common_steps}
+use Rattle.at_io.proofs.Prelude.{common_steps}
 use Rattle.at_io.proofs.memory_shelf.MemoryShelf.count_call.Goals as goal
 
 pub returns-then-fails-clause-err : goal.returns-then-fails-clause-err

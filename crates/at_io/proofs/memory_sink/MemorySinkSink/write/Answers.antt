@@ -1,5 +1,5 @@
 use Rattle.std.proofs.Common.{arith}
-use Rattle.std.proofs.lemmas.Grind.{common_steps}
+use Rattle.at_io.proofs.Prelude.{common_steps}
 use Rattle.at_io.proofs.memory_sink.MemorySinkSink.write.Goals as goal
 
 pub returns-clause-later : goal.returns-clause-later

@@ -1,5 +1,5 @@
 use Rattle.std.proofs.Common.{arith}
-use Rattle.std.proofs.lemmas.Grind.{common_steps}
+use Rattle.at_io.proofs.Prelude.{common_steps}
 use Rattle.at_io.proofs.std_sink.StdSinkSink.write.Goals as goal
 
 pub returns-clause-some : goal.returns-clause-some

@@ -1,8 +1,6 @@
 -- `position` finds the slot.
 use Rattle.std.proofs.Common.{rules, tests, eqb, sym, ◌∙◌, arith}
-use Rattle.std.proofs.lemmas.Grind.{common_steps}
-use Rattle.std.proofs.lemmas.Iterator.{YieldsList-from_slice}
-use Rattle.std.proofs.lemmas.Iterator.Search.{position_from_yields_List}
+use Rattle.at_ledger.proofs.Prelude.{common_steps, YieldsList-from_slice, position_from_yields_List}
 use Rattle.at_ledger.proofs.account.Account.slot_in.Goals as goal
 
 pub returns-in_err-slot-clause-slot : goal.returns-in_err-slot-clause-slot

@@ -1,6 +1,5 @@
 use Rattle.std.proofs.Common.{◌<◌, length, arith}
-use Rattle.std.proofs.lemmas.Grind.{common_steps}
-use Rattle.at_ledger.specs.Book.{IsBegun}
+use Rattle.at_ledger.proofs.Prelude.{common_steps, IsBegun}
 use Rattle.at_ledger.proofs.Books.{log_room-take-le}
 use Rattle.at_ledger.proofs.book.Book.log_room.Goals as goal
 

@@ -1,6 +1,5 @@
 use Rattle.std.proofs.Common.{◌≡◌, ◌+◌, take}
-use Rattle.std.specs.List.{sum_by}
-use Rattle.at_ledger.specs.Account.{rounds_room_of}
+use Rattle.at_ledger.proofs.Prelude.{sum_by, rounds_room_of}
 use Rattle.at_ledger.proofs.book.Book.log_room.Given as goal
 
 abbrev pub invariant-loop-account : goal.invariant-loop-account

@@ -1,9 +1,5 @@
 use Rattle.std.proofs.Common.{◌≡◌, Some, None, Err, sym, ap, ◌∙◌, get_or, arith}
-use Rattle.std.proofs.lemmas.Grind.{common_steps}
-use Rattle.std.proofs.lemmas.List.{map_more}
-use Rattle.std.proofs.lemmas.Result.{err_from_is_err_and}
-use Rattle.at_ledger.specs.Draft.{terms_of, with_account}
-use Rattle.at_ledger.specs.declared.draft.BookFault.TheVariants.{Bad}
+use Rattle.at_ledger.proofs.Prelude.{common_steps, map_more, err_from_is_err_and, terms_of, with_account, Bad}
 use Rattle.at_ledger.proofs.Books.{accounts_fault-drop_good, accounts_fault-drop_bad, accounts_fault-drop_all_some, accounts_fault-drop_all_none, book_fault-from_accounts}
 use Rattle.at_ledger.proofs.book.Book.new.Goals as goal
 

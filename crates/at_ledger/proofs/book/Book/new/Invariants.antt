@@ -1,5 +1,5 @@
 use Rattle.std.proofs.Common.{◌≡◌, take, drop, map}
-use Rattle.at_ledger.specs.Draft.{accounts_fault, book_without_accounts, terms_of}
+use Rattle.at_ledger.proofs.Prelude.{accounts_fault, book_without_accounts, terms_of}
 use Rattle.at_ledger.proofs.book.Book.new.Given as goal
 
 abbrev pub invariant-loop-account : goal.invariant-loop-account

@@ -1,6 +1,5 @@
 use Rattle.std.proofs.Common.{◌≡◌, get_or, arith}
-use Rattle.std.proofs.lemmas.Grind.{common_steps}
-use Rattle.at_ledger.specs.Book.{IsBegun, account_of}
+use Rattle.at_ledger.proofs.Prelude.{common_steps, IsBegun, account_of}
 use Rattle.at_ledger.proofs.Slots.{slot_in-owner}
 use Rattle.at_ledger.proofs.book.Book.owner.Goals as goal
 

@@ -1,6 +1,5 @@
 use Rattle.std.proofs.Common.{◌≡◌, length, arith, rules}
-use Rattle.std.proofs.lemmas.Grind.{common_steps}
-use Rattle.at_ledger.specs.Draft.{terms_with}
+use Rattle.at_ledger.proofs.Prelude.{common_steps, terms_with}
 use Rattle.at_ledger.proofs.Books.{IsSummed-with_account}
 use Rattle.at_ledger.proofs.builder.BookBuilder.checked.Goals as goal
 

@@ -1,5 +1,5 @@
 use Rattle.std.proofs.Common.{arith}
-use Rattle.std.proofs.lemmas.Grind.{common_steps}
+use Rattle.at_ledger.proofs.Prelude.{common_steps}
 use Rattle.at_ledger.proofs.builder.BookBuilder.finish.Goals as goal
 
 pub returns-then-is_empty-clause-bad : goal.returns-then-is_empty-clause-bad

@@ -1,5 +1,5 @@
 use Rattle.std.proofs.Common.{arith}
-use Rattle.std.proofs.lemmas.Grind.{common_steps}
+use Rattle.at_ledger.proofs.Prelude.{common_steps}
 use Rattle.at_ledger.proofs.builder.BookBuilder.is_full.Goals as goal
 
 pub returns-clause-checked : goal.returns-clause-checked

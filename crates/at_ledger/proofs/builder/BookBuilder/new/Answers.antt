@@ -1,5 +1,5 @@
 use Rattle.std.proofs.Common.{arith}
-use Rattle.std.proofs.lemmas.Grind.{common_steps}
+use Rattle.at_ledger.proofs.Prelude.{common_steps}
 use Rattle.at_ledger.proofs.builder.BookBuilder.new.Goals as goal
 
 pub overflow_cast-result-in-None-2 : goal.overflow_cast-result-in-None-2

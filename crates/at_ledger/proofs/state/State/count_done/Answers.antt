@@ -1,5 +1,5 @@
 use Rattle.std.proofs.Common.{arith}
-use Rattle.std.proofs.lemmas.Grind.{common_steps}
+use Rattle.at_ledger.proofs.Prelude.{common_steps}
 use Rattle.at_ledger.proofs.state.State.count_done.Goals as goal
 
 pub count_asked-requires-clause-room : goal.count_asked-requires-clause-room

@@ -1,5 +1,5 @@
 use Rattle.std.proofs.Common.{arith}
-use Rattle.std.proofs.lemmas.Grind.{common_steps}
+use Rattle.at_ledger.proofs.Prelude.{common_steps}
 use Rattle.at_ledger.proofs.state.State.move_amounts.Goals as goal
 
 pub credit-requires-clause-targets_in : goal.credit-requires-clause-targets_in

@@ -1,5 +1,5 @@
 use Rattle.std.proofs.Common.{arith}
-use Rattle.std.proofs.lemmas.Grind.{common_steps}
+use Rattle.at_ledger.proofs.Prelude.{common_steps}
 use Rattle.at_ledger.proofs.state.State.pay.Goals as goal
 
 pub move_amounts-requires-clause-targets_in : goal.move_amounts-requires-clause-targets_in

@@ -1,7 +1,5 @@
 use Rattle.std.proofs.Common.{arith, ap, subst, ◌^◌, length}
-use Rattle.std.proofs.lemmas.Grind.{common_steps}
-use Rattle.at_ledger.specs.Book.{IsBook}
-use Rattle.at_ledger.specs.State.{LedgerState}
+use Rattle.at_ledger.proofs.Prelude.{common_steps, IsBook, LedgerState}
 use Rattle.at_ledger.proofs.Calls.{IsCallOn-more}
 use Rattle.at_ledger.proofs.state.State.step.Goals as goal
 

@@ -1,5 +1,5 @@
 use Rattle.std.proofs.Common.{◌≡◌, get_or, arith}
-use Rattle.std.proofs.lemmas.Grind.{common_steps}
+use Rattle.at_ledger.proofs.Prelude.{common_steps}
 use Rattle.at_ledger.proofs.TargetLists.{amount_of-zip_more}
 use Rattle.at_ledger.proofs.targets.Targets.sum.Goals as goal
 

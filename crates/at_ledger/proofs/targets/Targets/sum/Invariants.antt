@@ -1,6 +1,5 @@
 use Rattle.std.proofs.Common.{◌≡◌, ◌≤◌, ◌*◌, ◌^◌, take}
-use Rattle.std.specs.List.{zip}
-use Rattle.at_ledger.specs.Call.{amount_of}
+use Rattle.at_ledger.proofs.Prelude.{zip, amount_of}
 use Rattle.at_ledger.proofs.targets.Targets.sum.Given as goal
 
 abbrev pub invariant-loop-i : goal.invariant-loop-i

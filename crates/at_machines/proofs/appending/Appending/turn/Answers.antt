@@ -1,15 +1,6 @@
 use Rattle.std.proofs.Common.{◌≡◌, refl, ◌+◌, ◌<◌, length, get_or, ap, subst, sym, ◌∙◌, arith}
-use Rattle.std.proofs.lemmas.Grind.{common_steps}
-use Rattle.at_ledger.specs.Book.{BookTerms}
-use Rattle.at_board.specs.Knowledge.Seats.{SeatTerms}
-use Rattle.at_board.specs.Steps.Publish.{MayPublish, Publishes}
-use Rattle.at_board.specs.Steps.StoreRecordWord.{StoresWord}
-use Rattle.at_board.specs.Words.Addresses.{record_width}
-use Rattle.at_board.specs.Words.Packed.{record_words}
-use Rattle.at_board.specs.declared.knowledge.Knowledge.{Knowledge}
+use Rattle.at_machines.proofs.Prelude.{common_steps, BookTerms, SeatTerms, MayPublish, Publishes, StoresWord, record_width, record_words, Knowledge, IsAppendingSo, AppendingTerms, appending_after, publication_of}
 use Rattle.at_machines.proofs.AppendingLaws.{IsAppendingSo-published, IsAppendingSo-word, IsLast-IsAppendingSo, MayPublish-IsAppendingSo, Publishes-IsAppendingSo, length-view-IsAppendingSo}
-use Rattle.at_machines.specs.Kept.{IsAppendingSo}
-use Rattle.at_machines.specs.Appending.{AppendingTerms, appending_after, publication_of}
 use Rattle.at_machines.proofs.appending.Appending.turn.Goals.{After-processes, After-publish}
 use Rattle.at_machines.proofs.appending.Appending.turn.Goals as goal
 

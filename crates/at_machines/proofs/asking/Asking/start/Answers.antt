@@ -1,8 +1,6 @@
 use Rattle.std.proofs.Common.{sym, subst}
-use Rattle.at_board.specs.Knowledge.Seats.{SeatTerms}
+use Rattle.at_machines.proofs.Prelude.{SeatTerms, AskingTerms, IsAskingSo}
 use Rattle.at_machines.proofs.AskingLaws.{IsAskingSo-start}
-use Rattle.at_machines.specs.Asking.{AskingTerms}
-use Rattle.at_machines.specs.KeptAsking.{IsAskingSo}
 use Rattle.at_machines.proofs.asking.Asking.start.Goals as goal
 
 pub invariant_of-result : goal.invariant_of-result

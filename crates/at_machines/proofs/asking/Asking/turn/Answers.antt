@@ -1,17 +1,6 @@
 use Rattle.std.proofs.Common.{◌≡◌, ℕ, ◌+◌, ◌<◌, length, get_or, ap, subst, sym, ◌∙◌, arith}
-use Rattle.std.proofs.lemmas.Grind.{common_steps}
-use Rattle.at_ledger.specs.Book.{BookTerms, HasSlot}
-use Rattle.at_history.specs.declared.request.Request.{Request}
-use Rattle.at_board.specs.Knowledge.Parts.{asking_on, own_part}
-use Rattle.at_board.specs.Knowledge.Seats.{SeatTerms}
-use Rattle.at_board.specs.Steps.Announce.{Announces, MayAnnounce}
-use Rattle.at_board.specs.Steps.StoreRequestWord.{StoresRequestWord}
-use Rattle.at_board.specs.Words.Packed.{request_words}
-use Rattle.at_board.specs.declared.knowledge.Knowledge.{Knowledge}
-use Rattle.at_board.specs.declared.words.TheConstants.{REQUEST_WORDS}
+use Rattle.at_machines.proofs.Prelude.{common_steps, BookTerms, HasSlot, Request, asking_on, own_part, SeatTerms, Announces, MayAnnounce, StoresRequestWord, request_words, Knowledge, REQUEST_WORDS, AskingTerms, asking_after, request_asked, IsAskingSo}
 use Rattle.at_machines.proofs.AskingLaws.{Announces-IsAskingSo, HasAsked-IsAskingSo, HasLoadedNothing-IsAskingSo, HasSlot-IsAskingSo, IsAskingSo-announced, IsAskingSo-word, MayAnnounce-IsAskingSo, MayStoreRequest-IsAskingSo, announced-IsAskingSo}
-use Rattle.at_machines.specs.Asking.{AskingTerms, asking_after, request_asked}
-use Rattle.at_machines.specs.KeptAsking.{IsAskingSo}
 use Rattle.at_machines.proofs.asking.Asking.turn.Goals.{After-announce, After-announced-number, After-self}
 use Rattle.at_machines.proofs.asking.Asking.turn.Goals as goal
 

@@ -1,6 +1,6 @@
 use Rattle.std.proofs.Common.{◌≡◌, ◌↔◌, IsTrue, subst}
 use Rattle.at_machines.proofs.CatchingUpLaws.{IsEnded-IsCatchingUpSo, upto-ended}
-use Rattle.at_machines.specs.CatchingUp.{CatchingUpTerms, loads_left}
+use Rattle.at_machines.proofs.Prelude.{CatchingUpTerms, loads_left}
 use Rattle.at_machines.proofs.catching_up.CatchingUp.is_ended.Goals as goal
 
 pub returns-clause-ended : goal.returns-clause-ended

@@ -1,9 +1,6 @@
 use Rattle.std.proofs.Common.{◌≡◌, Option, None, sym, ap, subst, ◌∙◌}
-use Rattle.at_board.specs.declared.step.BoardStep.{BoardStep}
+use Rattle.at_machines.proofs.Prelude.{BoardStep, CatchingUpTerms, catch_step, loaded_of, IsCatchingUpSo, LoadingTerms}
 use Rattle.at_machines.proofs.CatchingUpLaws.{catch_step-None, catch_step-Some}
-use Rattle.at_machines.specs.CatchingUp.{CatchingUpTerms, catch_step, loaded_of}
-use Rattle.at_machines.specs.KeptCatchingUp.{IsCatchingUpSo}
-use Rattle.at_machines.specs.Loading.{LoadingTerms}
 use Rattle.at_machines.proofs.catching_up.CatchingUp.next.Goals as goal
 
 pub returns-in-Some : goal.returns-in-Some

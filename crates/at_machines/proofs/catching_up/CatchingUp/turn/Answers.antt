@@ -1,19 +1,6 @@
 use Rattle.std.proofs.Common.{◌≡◌, ℕ, ◌+◌, List, Some, get_or, set, refl, sym, ap, subst, ◌∙◌, arith}
-use Rattle.std.proofs.lemmas.Grind.{common_steps}
-use Rattle.at_ledger.specs.Book.{BookTerms}
-use Rattle.at_board.specs.Knowledge.Seats.{SeatTerms}
-use Rattle.at_board.specs.Steps.LoadRecordWord.{MayLoadWord}
-use Rattle.at_board.specs.declared.knowledge.Knowledge.{Knowledge}
-use Rattle.at_board.specs.declared.words.TheConstants.{RECORD_WORDS}
-use Rattle.at_fold.proofs.Laws.MorePublished.{StaysCounted-HasCounted}
-use Rattle.at_history.proofs.Laws.Prefixes.{IsPrefix-refl}
-use Rattle.at_fold.specs.CatchingUp.{IsCatchingUp}
-use Rattle.at_fold.specs.HasCounted.{HasCounted, StaysCounted}
-use Rattle.at_fold.specs.Sums.{TotalSums}
+use Rattle.at_machines.proofs.Prelude.{common_steps, BookTerms, SeatTerms, MayLoadWord, Knowledge, RECORD_WORDS, StaysCounted-HasCounted, IsPrefix-refl, IsCatchingUp, HasCounted, StaysCounted, TotalSums, CatchingUpTerms, CountsNext, MayLoadLeft, loaded_of, loads_left, IsCatchingUpSo, LoadingTerms}
 use Rattle.at_machines.proofs.CatchingUpLaws.{CountsNext-counted, IsCatchingUp-counted, MayCount-IsCatchingUpSo, more-IsCatchingUpSo, none_left}
-use Rattle.at_machines.specs.CatchingUp.{CatchingUpTerms, CountsNext, MayLoadLeft, loaded_of, loads_left}
-use Rattle.at_machines.specs.KeptCatchingUp.{IsCatchingUpSo}
-use Rattle.at_machines.specs.Loading.{LoadingTerms}
 use Rattle.at_machines.proofs.catching_up.CatchingUp.turn.Goals.{After-turn, After-count}
 use Rattle.at_machines.proofs.catching_up.CatchingUp.turn.Goals as goal
 

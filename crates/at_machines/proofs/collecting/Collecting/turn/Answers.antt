@@ -1,13 +1,6 @@
 use Rattle.std.proofs.Common.{◌≡◌, ◌+◌, ℕ, set, ap, subst, sym, ◌∙◌, arith}
-use Rattle.std.proofs.lemmas.Grind.{common_steps}
-use Rattle.at_ledger.specs.Book.{BookTerms, IsBook}
-use Rattle.at_board.specs.Knowledge.Seats.{SeatTerms}
-use Rattle.at_board.specs.Steps.LoadLength.{LoadsLength}
-use Rattle.at_board.specs.declared.knowledge.Knowledge.{Knowledge}
-use Rattle.at_snapshot.specs.Collected.{IsCollect, collect_of}
+use Rattle.at_machines.proofs.Prelude.{common_steps, BookTerms, IsBook, SeatTerms, LoadsLength, Knowledge, IsCollect, collect_of, IsCollectingSo, collecting_of, CollectingTerms, collecting_after}
 use Rattle.at_machines.proofs.CollectingLaws.{IsCollect-IsCollectingSo, IsCollectingSo-turn}
-use Rattle.at_machines.specs.Kept.{IsCollectingSo, collecting_of}
-use Rattle.at_machines.specs.Collecting.{CollectingTerms, collecting_after}
 use Rattle.at_machines.proofs.collecting.Collecting.turn.Goals.{After-copy, After-load_after-count, After-of}
 use Rattle.at_machines.proofs.collecting.Collecting.turn.Goals as goal
 

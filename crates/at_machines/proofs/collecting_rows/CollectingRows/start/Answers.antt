@@ -1,9 +1,6 @@
 use Rattle.std.proofs.Common.{[], sym, subst, arith}
-use Rattle.std.proofs.lemmas.Grind.{common_steps}
-use Rattle.at_board.specs.Knowledge.Seats.{SeatTerms}
+use Rattle.at_machines.proofs.Prelude.{common_steps, SeatTerms, IsCollectingRowsSo, LoadingRowTerms}
 use Rattle.at_machines.proofs.CollectingRowsLaws.{IsCollectingRowsSo-start, SeesRequest-start}
-use Rattle.at_machines.specs.KeptRows.{IsCollectingRowsSo}
-use Rattle.at_machines.specs.LoadingRow.{LoadingRowTerms}
 use Rattle.at_machines.proofs.collecting_rows.CollectingRows.start.Goals as goal
 
 pub start-requires-clause-own : goal.start-requires-clause-own

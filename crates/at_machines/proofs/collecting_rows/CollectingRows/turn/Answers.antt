@@ -1,17 +1,6 @@
 use Rattle.std.proofs.Common.{◌≡◌, ◌≢◌, ◌+◌, ◌-◌, ◌*◌, ◌<◌, ◌≤◌, List, true, false, refl, ap, subst, sym, ◌∙◌, arith}
-use Rattle.std.proofs.lemmas.Grind.{common_steps}
-use Rattle.at_ledger.specs.Account.{slots_of}
-use Rattle.at_ledger.specs.Book.{BookTerms, account_of}
-use Rattle.at_board.specs.declared.knowledge.Knowledge.{Knowledge}
-use Rattle.at_board.specs.declared.words.TheConstants.{REQUEST_WORDS}
-use Rattle.at_rows.specs.Collecting.{IsCollectingRows}
-use Rattle.at_rows.specs.declared.open_request.OpenRequest.{OpenRequest}
+use Rattle.at_machines.proofs.Prelude.{common_steps, slots_of, BookTerms, account_of, Knowledge, REQUEST_WORDS, IsCollectingRows, OpenRequest, CollectingRowsTerms, MakesNextLoad, IsCollectingRowsSo, LoadingRowTerms, MakesLoadOf, row_after, starting_row, nothing, the_view}
 use Rattle.at_machines.proofs.CollectingRowsLaws.{HasCollected, HasCollected-IsCollectingRows, IsCollectingRows-IsCollectingRowsSo, IsCollectingRowsSo-more, IsCollectingRowsSo-row, MakesNextLoad-more, MakesNextLoad-row, made-IsCollectingRowsSo}
-use Rattle.at_machines.specs.CollectingRows.{CollectingRowsTerms, MakesNextLoad}
-use Rattle.at_machines.specs.KeptRows.{IsCollectingRowsSo}
-use Rattle.at_machines.specs.LoadingRow.{LoadingRowTerms, MakesLoadOf, row_after, starting_row}
-use Rattle.at_machines.specs.LoadingRow.NextRowLoad.{nothing}
-use Rattle.at_machines.specs.contracts.collecting_rows.CollectingRows.{the_view}
 use Rattle.at_machines.proofs.collecting_rows.CollectingRows.turn.Goals.{After-add, After-replace, After-slot-next, After-start, After-turn}
 use Rattle.at_machines.proofs.collecting_rows.CollectingRows.turn.Goals as goal
 

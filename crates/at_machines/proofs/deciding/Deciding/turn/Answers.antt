@@ -1,38 +1,18 @@
 use Rattle.std.proofs.Common.{◌≡◌, ◌≢◌, ◌≤◌, ℕ, ◌+◌, false, get_or, true, refl, sym, ap, subst, ◌∙◌, arith}
-use Rattle.std.proofs.lemmas.Grind.{common_steps}
+use Rattle.at_machines.proofs.Prelude.{common_steps, SeesDecision, own_part, SeatTerms, IsLast, BookTerms, Publishes, StoresWord, record_width, record_words, Knowledge, HasCounted, TotalSums, MayAppend, Record, DecidesAs, DecidesNext, AppendingTerms, publication_of, DecidingTerms, MakesRoundStep, MakesStep, NextOfRound, record_word, next_of_round, round_in, HasDecided, HasLoadedDecided, IsDecidingSo, LoadingRequestTerms, RoundStage, Loading, Proposing, Publishing}
 use Rattle.std.specs.Prelude.{slice_index, slice_set}
-use Rattle.at_board.specs.Knowledge.Parts.{SeesDecision, own_part}
-use Rattle.at_board.specs.Knowledge.Seats.{SeatTerms}
-use Rattle.at_log.specs.LastRecord.{IsLast}
-use Rattle.at_ledger.specs.Book.{BookTerms}
-use Rattle.at_board.specs.Steps.Publish.{Publishes}
-use Rattle.at_board.specs.Steps.StoreRecordWord.{StoresWord}
-use Rattle.at_board.specs.Words.Addresses.{record_width}
-use Rattle.at_board.specs.Words.Packed.{record_words}
-use Rattle.at_board.specs.declared.knowledge.Knowledge.{Knowledge}
-use Rattle.at_fold.specs.HasCounted.{HasCounted}
-use Rattle.at_fold.specs.Sums.{TotalSums}
-use Rattle.at_log.specs.Appending.{MayAppend}
-use Rattle.at_log.specs.declared.record.Record.{Record}
-use Rattle.at_rounds.specs.Answers.{DecidesAs}
-use Rattle.at_shared.specs.HelpTurns.{DecidesNext}
 use Rattle.at_machines.proofs.DecidingLaws.{DecidesNext-HasLoadedDecided, HasCounted-Publishes, HasLoadedDecided-LoadsRequest, MayAppend-HasLoadedDecided, book-HasLoadedDecided, own-HasLoadedDecided, process-HasLoadedDecided}
-use Rattle.at_machines.specs.Appending.{AppendingTerms, publication_of}
-use Rattle.at_machines.specs.Deciding.{DecidingTerms, MakesRoundStep, MakesStep, NextOfRound, nothing, record_word, request_word, next_of_round, round_in}
-use Rattle.at_machines.specs.KeptDeciding.{HasDecided, HasLoadedDecided, IsDecidingSo}
-use Rattle.at_machines.specs.LoadingRequest.{LoadingRequestTerms}
+use Rattle.at_machines.specs.Deciding.{nothing, request_word}
 use Rattle.at_machines.specs.contracts.deciding.Deciding.{the_view}
-use Rattle.at_machines.specs.declared.round_stage.RoundStage.{RoundStage}
-use Rattle.at_machines.specs.declared.round_stage.RoundStage.TheVariants.{Loading, Proposing, Publishing}
 use Rattle.at_machines.proofs.deciding.Deciding.turn.Goals.{After-decided_request-loading, After-record_of_round-record, After-self, Else-not-published}
 use Rattle.at_machines.proofs.deciding.Deciding.turn.Goals as goal
 
 -- the round before the turn
 before : (c : After-self) (stage : RoundStage) → c.self.inside.stage ≡ stage
-    → IsDecidingSo c.self.inside.start.value.knows c.self.inside.mark.value.knows c.self.inside.totals.value c.self.inside.helping.value c.self.inside.front c.self.inside.account
+    → IsDecidingSo c.self.inside.start.value.knows c.self.inside.mark.value.knows c.self.inside.totals.value c.self.inside.helping.value c.self.inside.cut c.self.inside.account
     c.self.inside.round stage
 before c stage is =
-    subst (IsDecidingSo c.self.inside.start.value.knows c.self.inside.mark.value.knows c.self.inside.totals.value c.self.inside.helping.value c.self.inside.front
+    subst (IsDecidingSo c.self.inside.start.value.knows c.self.inside.mark.value.knows c.self.inside.totals.value c.self.inside.helping.value c.self.inside.cut
     c.self.inside.account c.self.inside.round) is c.self.invariant
 
 -- what the seat knew is what the last turn left
@@ -49,7 +29,7 @@ totals_before c = c.requires.totals ∙ sym (ap (λ (t : DecidingTerms). t.total
 
 -- the request that was decided is loaded whole
 loaded : (c : After-record_of_round-record)
-    → HasLoadedDecided c.self.inside.start.value.knows c.turn-loaded.new.seat.knows c.self.inside.helping.value c.self.inside.front c.in-Loading.decision
+    → HasLoadedDecided c.self.inside.start.value.knows c.turn-loaded.new.seat.knows c.self.inside.helping.value c.self.inside.cut c.in-Loading.decision
     c.record_of_round-record.result
 loaded c =
     let at = (goal.at.After-record_of_round-record c).After-self in
@@ -59,8 +39,8 @@ loaded c =
     let d = c.in-Loading.decision in
     let l : LoadingRequestTerms = c.in-Loading.loading in
     let x = c.in_ok-targets-in-Loading.field-0 in
-    subst (HasLoadedDecided start w i.helping.value i.front d) (sym c.record_of_round-record.ensures)
-    (HasLoadedDecided-LoadsRequest c.args.board.now.book start i.mark.value.knows i.totals.value i.helping.value i.front i.account i.round d l w x (book at)
+    subst (HasLoadedDecided start w i.helping.value i.cut d) (sym c.record_of_round-record.ensures)
+    (HasLoadedDecided-LoadsRequest c.args.board.now.book start i.mark.value.knows i.totals.value i.helping.value i.cut i.account i.round d l w x (book at)
     (before at (Loading d l) c.in-Loading.is) c.in_ok-targets-in-Loading.ensures.request)
 
 pub start-requires : goal.start-requires
@@ -75,8 +55,8 @@ start-requires c =
     let rec : Record = c.record_of_round-record.result in
     let told = loaded (goal.at.start-requires c).After-record_of_round-record in
     subst (λ (t : BookTerms). MayAppend t w rec)
-    (sym (book-HasLoadedDecided start i.mark.value.knows i.totals.value i.helping.value i.front i.account i.round (Loading d l) so w d rec told))
-    (MayAppend-HasLoadedDecided start i.mark.value.knows i.totals.value i.helping.value i.front i.account i.round (Loading d l) so w d rec told)
+    (sym (book-HasLoadedDecided start i.mark.value.knows i.totals.value i.helping.value i.cut i.account i.round (Loading d l) so w d rec told))
+    (MayAppend-HasLoadedDecided start i.mark.value.knows i.totals.value i.helping.value i.cut i.account i.round (Loading d l) so w d rec told)
 
 -- the record is published
 published : (c : Else-not-published)
@@ -96,7 +76,7 @@ count_published-requires-clause-counted c =
     let w : Knowledge = c.turn-published.new.seat.knows in
     let so = before at (Publishing d a) c.in-Publishing.is in
     subst (λ (t : TotalSums). HasCounted t w.book w.seen) (sym (totals_before at))
-    (HasCounted-Publishes i.start.value.knows i.mark.value.knows i.totals.value i.helping.value i.front i.account i.round (Publishing d a) so a.start d a.rec so.stage_so.2 w
+    (HasCounted-Publishes i.start.value.knows i.mark.value.knows i.totals.value i.helping.value i.cut i.account i.round (Publishing d a) so a.start d a.rec so.stage_so.2 w
     (published entry))
 
 pub returns-in-Proposing-clause-step : goal.returns-in-Proposing-clause-step
@@ -162,11 +142,11 @@ returns-else-not-published-clause-decided c =
     let a : AppendingTerms = c.in-Publishing.appending in
     let w : Knowledge = c.turn-published.new.seat.knows in
     let so = before at (Publishing d a) c.in-Publishing.is in
-    let told : DecidesNext i.start.value.knows.book i.start.value.knows w i.helping.value i.front d =
-    DecidesNext-HasLoadedDecided i.start.value.knows i.mark.value.knows i.totals.value i.helping.value i.front i.account i.round (Publishing d a) so a.start d a.rec
+    let told : DecidesNext i.start.value.knows.book i.start.value.knows w i.helping.value i.cut d =
+    DecidesNext-HasLoadedDecided i.start.value.knows i.mark.value.knows i.totals.value i.helping.value i.cut i.account i.round (Publishing d a) so a.start d a.rec
     so.stage_so.2 w (published entry) in
-    subst (λ (t : DecidingTerms). DecidesNext c.args.board.now.book t.start w t.helping t.front d) c.self.view_is
-    (subst (λ (t : BookTerms). DecidesNext t i.start.value.knows w i.helping.value i.front d) (sym (book at)) told)
+    subst (λ (t : DecidingTerms). DecidesNext c.args.board.now.book t.start w t.helping t.cut d) c.self.view_is
+    (subst (λ (t : BookTerms). DecidesNext t i.start.value.knows w i.helping.value i.cut d) (sym (book at)) told)
 
 -- the totals count the own records up to the one that was published
 pub count_published-requires-clause-own : goal.count_published-requires-clause-own
@@ -178,7 +158,7 @@ count_published-requires-clause-own c =
     let w : Knowledge = c.turn-published.new.seat.knows in
     let so = before at (Publishing c.in-Publishing.decision a) c.in-Publishing.is in
     let first : w.first ≡ a.start.first = ap (λ (v : Knowledge). v.first) (published entry).same in
-    let own = own-HasLoadedDecided i.start.value.knows i.mark.value.knows i.totals.value i.helping.value i.front i.account i.round
+    let own = own-HasLoadedDecided i.start.value.knows i.mark.value.knows i.totals.value i.helping.value i.cut i.account i.round
     (Publishing c.in-Publishing.decision a) so a.start c.in-Publishing.decision a.rec so.stage_so.2 in
     let start : c.turn-published.new.self.start ≡ a.start = ap (λ (t : AppendingTerms). t.start) c.turn-published.ensures.after in
     ap (λ (t : TotalSums). get_or t.upto w.first 0) (totals_before at)
@@ -194,7 +174,7 @@ count_published-requires-clause-process c =
     let same = (published entry).same in
     omega (
       arith,
-      process-HasLoadedDecided i.start.value.knows i.mark.value.knows i.totals.value i.helping.value i.front i.account i.round
+      process-HasLoadedDecided i.start.value.knows i.mark.value.knows i.totals.value i.helping.value i.cut i.account i.round
           (Publishing c.in-Publishing.decision a) so a.start c.in-Publishing.decision a.rec so.stage_so.2,
       ap (λ (v : Knowledge). v.first) same,
       ap (λ (v : Knowledge). v.book.processes) same,
@@ -210,9 +190,9 @@ returns-else-not-published-clause-upto c =
     let entry = (goal.at.returns-else-not-published-clause-upto c).Else-not-published in
     let at = (goal.at.Else-not-published entry).After-self in
     let w : Knowledge = c.turn-published.new.seat.knows in
-    let front : c.args.totals.now.upto ≡ c.args.self.now.front =
-    ap (λ (t : TotalSums). t.upto) (totals_before at) ∙ (c.self.invariant.upto ∙ ap (λ (t : DecidingTerms). t.front) c.self.view_is) in
-    c.count_published.ensures.upto ∙ ap (λ upto. slice_set upto w.first (own_part w).published) front
+    let cut : c.args.totals.now.upto ≡ c.args.self.now.cut =
+    ap (λ (t : TotalSums). t.upto) (totals_before at) ∙ (c.self.invariant.upto ∙ ap (λ (t : DecidingTerms). t.cut) c.self.view_is) in
+    c.count_published.ensures.upto ∙ ap (λ upto. slice_set upto w.first (own_part w).published) cut
 
 pub returns-else-not-published-clause-counted : goal.returns-else-not-published-clause-counted
 returns-else-not-published-clause-counted c =
@@ -221,7 +201,7 @@ returns-else-not-published-clause-counted c =
 
 -- the round is decided
 decided : (c : After-decided_request-loading)
-    → HasDecided c.self.inside.start.value.knows c.propose-decision.new.seat.knows c.self.inside.helping.value c.self.inside.front c.propose-decision.result
+    → HasDecided c.self.inside.start.value.knows c.propose-decision.new.seat.knows c.self.inside.helping.value c.self.inside.cut c.propose-decision.result
 decided c =
     let at = (goal.at.After-decided_request-loading c).After-self in
     let i = c.self.inside in
@@ -252,7 +232,7 @@ invariant_of-self c =
       account_is = c.self.invariant.account_is;
       round_is = c.self.invariant.round_is;
       counted = c.self.invariant.counted;
-      at_front = c.self.invariant.at_front;
+      at_cut = c.self.invariant.at_cut;
       upto = c.self.invariant.upto;
       own = c.self.invariant.own;
       helping = c.self.invariant.helping;
@@ -263,7 +243,7 @@ invariant_of-self c =
         ap (λ (l : LoadingRequestTerms). l.account) is ∙ c.self.invariant.account_is,
         ap (λ (l : LoadingRequestTerms). l.slot) is,
         ap (λ (l : LoadingRequestTerms). l.number) is,
-        subst (λ (l : LoadingRequestTerms). HasDecided i.start.value.knows l.start i.helping.value i.front c.propose-decision.result) (sym is)
+        subst (λ (l : LoadingRequestTerms). HasDecided i.start.value.knows l.start i.helping.value i.cut c.propose-decision.result) (sym is)
             (decided (goal.at.invariant_of-self c).After-decided_request-loading),
       );
     }
@@ -279,7 +259,7 @@ invariant_of-self-in-Loading c =
       account_is = c.self.invariant.account_is;
       round_is = c.self.invariant.round_is;
       counted = c.self.invariant.counted;
-      at_front = c.self.invariant.at_front;
+      at_cut = c.self.invariant.at_cut;
       upto = c.self.invariant.upto;
       own = c.self.invariant.own;
       helping = c.self.invariant.helping;
@@ -287,7 +267,7 @@ invariant_of-self-in-Loading c =
       stage_so = (
         ap (λ (a : AppendingTerms). a.mark) is ∙ sym (ap (λ (s : SeatTerms). s.knows) c.of-in-Loading.ensures),
         omega (arith, ap (λ (a : AppendingTerms). a.stored) is),
-        subst (λ (a : AppendingTerms). HasLoadedDecided i.start.value.knows a.start i.helping.value i.front c.in-Loading.decision a.rec) (sym is)
+        subst (λ (a : AppendingTerms). HasLoadedDecided i.start.value.knows a.start i.helping.value i.cut c.in-Loading.decision a.rec) (sym is)
             (loaded (goal.at.invariant_of-self-in-Loading c).After-record_of_round-record),
       );
     }
@@ -307,7 +287,7 @@ invariant_of-self-then-not-published c =
       account_is = c.self.invariant.account_is;
       round_is = c.self.invariant.round_is;
       counted = c.self.invariant.counted;
-      at_front = c.self.invariant.at_front;
+      at_cut = c.self.invariant.at_cut;
       upto = c.self.invariant.upto;
       own = c.self.invariant.own;
       helping = c.self.invariant.helping;
@@ -315,7 +295,7 @@ invariant_of-self-then-not-published c =
       stage_so = (
         ap (λ (t : AppendingTerms). t.mark) is ∙ sym (ap (λ (s : SeatTerms). s.knows) c.of-in-Publishing.ensures),
         omega (arith, ap (λ (t : AppendingTerms). t.stored) is, left, so.stage_so.1, ap (λ (b : BookTerms). record_width b) (book at)),
-        subst (λ (t : AppendingTerms). HasLoadedDecided i.start.value.knows t.start i.helping.value i.front d t.rec) (sym is) so.stage_so.2,
+        subst (λ (t : AppendingTerms). HasLoadedDecided i.start.value.knows t.start i.helping.value i.cut d t.rec) (sym is) so.stage_so.2,
       );
     }
 

@@ -1,15 +1,6 @@
 use Rattle.std.proofs.Common.{◌≡◌, ◌+◌, length, set, ap, subst, sym, ◌∙◌, arith, zero-add}
-use Rattle.std.proofs.lemmas.Grind.{common_steps}
-use Rattle.std.proofs.lemmas.List.{length-set}
-use Rattle.at_history.specs.BoardState.{publication_at}
-use Rattle.at_history.specs.Publications.{publications_of}
-use Rattle.at_history.specs.declared.publication.Entry.{Entry}
-use Rattle.at_board.specs.Knowledge.Records.{IsRecordWord, SeesForms}
-use Rattle.at_board.specs.declared.knowledge.Knowledge.{Knowledge}
-use Rattle.at_board.specs.declared.words.TheConstants.{RECORD_WORDS}
+use Rattle.at_machines.proofs.Prelude.{common_steps, length-set, publication_at, publications_of, Entry, IsRecordWord, SeesForms, Knowledge, RECORD_WORDS, IsLoadingSo, LoadingTerms, loading_after}
 use Rattle.at_machines.proofs.LoadingLaws.{IsLoadingSo-turn, entry_words-IsLoadingSo}
-use Rattle.at_machines.specs.Kept.{IsLoadingSo}
-use Rattle.at_machines.specs.Loading.{LoadingTerms, loading_after}
 use Rattle.at_machines.proofs.loading_entry.LoadingEntry.turn.Goals.{After-load_record_word}
 use Rattle.at_machines.proofs.loading_entry.LoadingEntry.turn.Goals as goal
 

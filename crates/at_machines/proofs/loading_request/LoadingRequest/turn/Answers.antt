@@ -1,17 +1,6 @@
 use Rattle.std.proofs.Common.{◌≡◌, ◌+◌, length, set, ap, subst, sym, ◌∙◌, arith}
-use Rattle.std.proofs.lemmas.Grind.{common_steps}
-use Rattle.std.proofs.lemmas.List.{length-set}
-use Rattle.at_history.specs.declared.request.Request.{Request}
-use Rattle.at_board.specs.Knowledge.Seats.{SeatTerms}
-use Rattle.at_board.specs.Steps.LoadRequestWord.{LoadsRequestWord}
-use Rattle.at_board.specs.Words.Packed.{request_words}
-use Rattle.at_board.specs.Words.Targets.{ArePacked, accounts_of}
-use Rattle.at_board.specs.declared.knowledge.Knowledge.{Knowledge}
-use Rattle.at_board.specs.declared.words.TheConstants.{REQUEST_WORDS}
-use Rattle.at_rows.specs.Asks.{opened}
+use Rattle.at_machines.proofs.Prelude.{common_steps, length-set, Request, SeatTerms, LoadsRequestWord, request_words, ArePacked, accounts_of, Knowledge, REQUEST_WORDS, opened, IsLoadingRequestSo, LoadingRequestTerms, request_after}
 use Rattle.at_machines.proofs.LoadingRequestLaws.{IsLoadingRequestSo-turn, LoadsRequest-IsLoadingRequestSo}
-use Rattle.at_machines.specs.KeptRequests.{IsLoadingRequestSo}
-use Rattle.at_machines.specs.LoadingRequest.{LoadingRequestTerms, request_after}
 use Rattle.at_machines.proofs.loading_request.LoadingRequest.turn.Goals.{After-of}
 use Rattle.at_machines.proofs.loading_request.LoadingRequest.turn.Goals as goal
 

@@ -1,15 +1,6 @@
 use Rattle.std.proofs.Common.{◌≡◌, ◌-◌, Some, ap, subst, sym, ◌∙◌, arith}
-use Rattle.std.proofs.lemmas.Grind.{common_steps}
-use Rattle.at_board.specs.Steps.LoadAnnounced.{LoadsAnnounced}
-use Rattle.at_board.specs.declared.knowledge.Knowledge.{Knowledge}
-use Rattle.at_rows.proofs.Laws.Rows.{KnowsOf-LoadsAnnounced}
-use Rattle.at_rows.specs.Rows.{LoadsRow}
-use Rattle.at_rows.specs.declared.open_request.OpenRequest.{OpenRequest}
+use Rattle.at_machines.proofs.Prelude.{common_steps, LoadsAnnounced, Knowledge, KnowsOf-LoadsAnnounced, LoadsRow, OpenRequest, IsLoadingRowSo, LoadingRowTerms, RowStage, Announced, Last}
 use Rattle.at_machines.proofs.LoadingRowLaws.{LoadsRow-IsLoadingRowSo-other, LoadsRow-IsLoadingRowSo-own}
-use Rattle.at_machines.specs.KeptRows.{IsLoadingRowSo}
-use Rattle.at_machines.specs.LoadingRow.{LoadingRowTerms}
-use Rattle.at_machines.specs.declared.row_stage.RowStage.{RowStage}
-use Rattle.at_machines.specs.declared.row_stage.RowStage.TheVariants.{Announced, Last}
 use Rattle.at_machines.proofs.loading_row.LoadingRow.turn.Goals.{After-load_announced-count, After-self}
 use Rattle.at_machines.proofs.loading_row.LoadingRow.turn.Goals as goal
 

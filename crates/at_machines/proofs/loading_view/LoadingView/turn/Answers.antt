@@ -1,15 +1,6 @@
 use Rattle.std.proofs.Common.{◌≡◌, ◌+◌, ◌<◌, length, set, ap, subst, sym, ◌∙◌, arith, ◌^◌}
-use Rattle.std.proofs.lemmas.Grind.{common_steps}
-use Rattle.std.proofs.lemmas.List.{length-set}
-use Rattle.at_ledger.specs.Book.{BookTerms}
-use Rattle.at_board.specs.Knowledge.Records.{IsRecordWord}
-use Rattle.at_board.specs.Knowledge.Seats.{IsKept}
-use Rattle.at_board.specs.declared.knowledge.Knowledge.{Knowledge}
-use Rattle.at_board.specs.declared.words.TheConstants.{RECORD_WORDS}
-use Rattle.at_log.proofs.Laws.SeenRecords.{small-IsRecordWord}
+use Rattle.at_machines.proofs.Prelude.{common_steps, length-set, BookTerms, IsRecordWord, IsKept, Knowledge, RECORD_WORDS, small-IsRecordWord, IsLoadingSo, LoadingTerms, loading_after}
 use Rattle.at_machines.proofs.LoadingLaws.{IsLoadingSo-turn, IsViewOf-IsLoadingSo}
-use Rattle.at_machines.specs.Kept.{IsLoadingSo}
-use Rattle.at_machines.specs.Loading.{LoadingTerms, loading_after}
 use Rattle.at_machines.proofs.loading_view.LoadingView.turn.Goals.{After-load_record_word-count}
 use Rattle.at_machines.proofs.loading_view.LoadingView.turn.Goals as goal
 

@@ -1,24 +1,7 @@
 use Rattle.std.proofs.Common.{◌≡◌, ◌+◌, ◌≤◌, ℕ, List, length, IfSome, sym, ap, subst, ◌∙◌, arith}
-use Rattle.std.proofs.lemmas.Grind.{common_steps}
-use Rattle.std.specs.List.{sum}
-use Rattle.at_base.specs.Counts.{Covers}
-use Rattle.at_ledger.specs.Book.{BookTerms}
-use Rattle.at_history.proofs.Laws.Prefixes.{IsPrefix-refl}
-use Rattle.at_board.specs.Knowledge.Seats.{SeatTerms}
-use Rattle.at_board.specs.declared.knowledge.Knowledge.{Knowledge}
-use Rattle.at_fold.specs.HasCounted.{HasRecords, StaysCounted}
-use Rattle.at_fold.specs.Sums.{TotalSums}
-use Rattle.at_single.proofs.Laws.Looks.{Covers-IsSnapshot, HasRecords-IsFront}
-use Rattle.at_single.specs.Looks.{HasLooked}
-use Rattle.at_snapshot.specs.Collected.{HasLoaded}
-use Rattle.at_snapshot.specs.Snapshots.{snapshot_steps}
+use Rattle.at_machines.proofs.Prelude.{common_steps, sum, Covers, BookTerms, IsPrefix-refl, SeatTerms, Knowledge, HasRecords, StaysCounted, TotalSums, Covers-IsSnapshot, HasRecords-IsCut, HasLooked, HasLoaded, snapshot_steps, IsLookingSo, IsSnapped, LookingTerms, MakesLookLoad, look_turns_left, LookStage, CatchUp, Snap}
 use Rattle.at_machines.proofs.Laws.Snapshots.{snapshot_steps-le}
 use Rattle.at_machines.proofs.LookingLaws.{HasLooked-snapped, IsLookingSo-caught, StaysCounted-HasLoaded, few-IsSnapped, sum-IsSnapped}
-use Rattle.at_machines.specs.KeptLooking.{IsLookingSo}
-use Rattle.at_machines.specs.KeptSnapshots.{IsSnapped}
-use Rattle.at_machines.specs.Looking.{LookingTerms, MakesLookLoad, look_turns_left}
-use Rattle.at_machines.specs.declared.look_stage.LookStage.{LookStage}
-use Rattle.at_machines.specs.declared.look_stage.LookStage.TheVariants.{CatchUp, Snap}
 use Rattle.at_machines.proofs.looking.Looking.turn.Goals.{After-copy, After-turn-caught, After-turn-snapped, then-is_ended, else-is_ended}
 use Rattle.at_machines.proofs.looking.Looking.turn.Goals as goal
 
@@ -58,21 +41,21 @@ stays c =
     (subst (λ (b : BookTerms). StaysCounted was b w.seen) (book c)
     (StaysCounted-HasLoaded v.book v w was (before c).counted (loads c)))
 
-pub returns-in_err-front-in-Snap-clause-counted : goal.returns-in_err-front-in-Snap-clause-counted
-returns-in_err-front-in-Snap-clause-counted c = stays (goal.at.returns-in_err-front-in-Snap-clause-counted c).After-turn-snapped
+pub returns-in_err-cut-in-Snap-clause-counted : goal.returns-in_err-cut-in-Snap-clause-counted
+returns-in_err-cut-in-Snap-clause-counted c = stays (goal.at.returns-in_err-cut-in-Snap-clause-counted c).After-turn-snapped
 
 -- the snapshot is whole
 snapped : (c : After-copy)
-    → IsSnapped c.args.self.now.start.book c.args.self.now.start c.turn-snapped.new.seat.knows c.in_ok-front-in-Snap.front
+    → IsSnapped c.args.self.now.start.book c.args.self.now.start c.turn-snapped.new.seat.knows c.in_ok-cut-in-Snap.cut
 snapped c =
     let at = (goal.at.After-copy c).After-turn-snapped in
     let w : Knowledge = c.turn-snapped.new.seat.knows in
-    let front : List ℕ = c.in_ok-front-in-Snap.front in
-    let told = c.in_ok-front-in-Snap.ensures in
-    let here : IsSnapped c.args.board.now.book c.in-Snap.snapping.start w front =
+    let cut : List ℕ = c.in_ok-cut-in-Snap.cut in
+    let told = c.in_ok-cut-in-Snap.ensures in
+    let here : IsSnapped c.args.board.now.book c.in-Snap.snapping.start w cut =
     record { snapshot = told.snapshot; loads = told.loads; collects = told.collects } in
-    subst (λ (b : BookTerms). IsSnapped b c.args.self.now.start w front) (sym (book at))
-    (subst (λ (v : Knowledge). IsSnapped c.args.board.now.book v w front) (before at).stage_so.start_is here)
+    subst (λ (b : BookTerms). IsSnapped b c.args.self.now.start w cut) (sym (book at))
+    (subst (λ (v : Knowledge). IsSnapped c.args.board.now.book v w cut) (before at).stage_so.start_is here)
 
 pub start-catching-requires-clause-counted : goal.start-catching-requires-clause-counted
 start-catching-requires-clause-counted c =
@@ -83,16 +66,16 @@ start-catching-requires-clause-more c =
     let at = (goal.at.start-catching-requires-clause-more c).After-turn-snapped in
     let v : Knowledge = c.args.self.now.start in
     let was : TotalSums = c.args.self.now.was in
-    let front : List ℕ = c.in_ok-front-in-Snap.front in
-    let here : Covers front was.upto =
-    Covers-IsSnapshot v.book v c.turn-snapped.new.seat.knows was front (snapped (goal.at.start-catching-requires-clause-more c).After-copy).snapshot (before at).counted in
+    let cut : List ℕ = c.in_ok-cut-in-Snap.cut in
+    let here : Covers cut was.upto =
+    Covers-IsSnapshot v.book v c.turn-snapped.new.seat.knows was cut (snapped (goal.at.start-catching-requires-clause-more c).After-copy).snapshot (before at).counted in
     subst (λ (t : TotalSums). Covers c.copy.result t.upto) (totals at) (subst (λ (xs : List ℕ). Covers xs was.upto) (sym c.copy.ensures) here)
 
 pub start-catching-requires-clause-seen : goal.start-catching-requires-clause-seen
 start-catching-requires-clause-seen c =
     let w : Knowledge = c.turn-snapped.new.seat.knows in
     subst (λ (xs : List ℕ). HasRecords c.args.board.now.book w.seen xs) (sym c.copy.ensures)
-    (HasRecords-IsFront c.args.board.now.book w.seen c.in_ok-front-in-Snap.front c.in_ok-front-in-Snap.ensures.snapshot.front)
+    (HasRecords-IsCut c.args.board.now.book w.seen c.in_ok-cut-in-Snap.cut c.in_ok-cut-in-Snap.ensures.snapshot.cut)
 
 pub returns-after-is_ended-clause-counted : goal.returns-after-is_ended-clause-counted
 returns-after-is_ended-clause-counted c = stays (goal.at.returns-after-is_ended-clause-counted c).After-turn-snapped
@@ -107,7 +90,7 @@ returns-after-is_ended-clause-left c =
       c.start-catching.ensures.left,
       ap look_turns_left (snaps at),
       (before at).stage_so.left,
-      few-IsSnapped v.book v c.turn-snapped.new.seat.knows c.in_ok-front-in-Snap.front (snapped (goal.at.returns-after-is_ended-clause-left c).After-copy),
+      few-IsSnapped v.book v c.turn-snapped.new.seat.knows c.in_ok-cut-in-Snap.cut (snapped (goal.at.returns-after-is_ended-clause-left c).After-copy),
       ap (λ (xs : List ℕ). sum xs) c.copy.ensures,
     )
 
@@ -117,18 +100,18 @@ returns-after-is_ended-clause-looked c =
     let s : LookingTerms = c.args.self.now in
     let b : BookTerms = c.args.board.now.book in
     let w : Knowledge = c.turn-snapped.new.seat.knows in
-    let front : List ℕ = c.in_ok-front-in-Snap.front in
+    let cut : List ℕ = c.in_ok-cut-in-Snap.cut in
     let whole = snapped (goal.at.returns-after-is_ended-clause-looked c).After-copy in
     elim c.if-is_ended.branch as (λ _. IfSome c.if-is_ended.result (HasLooked b s.start w s.was c.args.totals.now)) [
       | then-is_ended o ↦
-          let upto : s.totals.upto ≡ front =
+          let upto : s.totals.upto ≡ cut =
           ap (λ (t : TotalSums). t.upto) (sym c.requires.totals)
           ∙ (ap (λ (t : TotalSums). t.upto) (sym c.start-catching.ensures.totals)
           ∙ (c.is_ended-is_ended.ensures.upto o.if-is_ended.true ∙ (c.start-catching.ensures.counts ∙ c.copy.ensures))) in
-          let here = HasLooked-snapped s.start s.mark w s.was s.totals s.turns c.in-Snap.snapping (before at) front whole upto in
+          let here = HasLooked-snapped s.start s.mark w s.was s.totals s.turns c.in-Snap.snapping (before at) cut whole upto in
           subst (λ r. IfSome r (HasLooked b s.start w s.was c.args.totals.now)) (sym o.result-is)
-          (subst (λ (t : TotalSums). HasLooked b s.start w s.was t front) (sym c.requires.totals)
-          (subst (λ (k : BookTerms). HasLooked k s.start w s.was s.totals front) (book at) here))
+          (subst (λ (t : TotalSums). HasLooked b s.start w s.was t cut) (sym c.requires.totals)
+          (subst (λ (k : BookTerms). HasLooked k s.start w s.was s.totals cut) (book at) here))
       | else-is_ended o ↦ subst (λ r. IfSome r (HasLooked b s.start w s.was c.args.totals.now)) (sym o.result-is) tt
     ]
 
@@ -221,8 +204,8 @@ returns-in-CatchUp-clause-counting c =
 pub returns-in-CatchUp-clause-looked : goal.returns-in-CatchUp-clause-looked
 returns-in-CatchUp-clause-looked c = grind (arith, common_steps)
 
-pub returns-in_err-front-in-Snap-clause-counting : goal.returns-in_err-front-in-Snap-clause-counting
-returns-in_err-front-in-Snap-clause-counting c = grind (arith, common_steps)
+pub returns-in_err-cut-in-Snap-clause-counting : goal.returns-in_err-cut-in-Snap-clause-counting
+returns-in_err-cut-in-Snap-clause-counting c = grind (arith, common_steps)
 
 pub returns-in-CatchUp-clause-left : goal.returns-in-CatchUp-clause-left
 returns-in-CatchUp-clause-left c = grind (arith, common_steps)
@@ -239,8 +222,8 @@ invariant_of-self-in-CatchUp c =
     (IsLookingSo-caught i.start.value.knows i.mark.value.knows was i.totals.value c.turn-caught.new.totals i.turns c.in-CatchUp.catching c.turn-caught.new.self so
     told.knows told.totals told.counts told.left grown)
 
-pub returns-in_err-front-in-Snap-clause-turns : goal.returns-in_err-front-in-Snap-clause-turns
-returns-in_err-front-in-Snap-clause-turns c = grind (arith, common_steps)
+pub returns-in_err-cut-in-Snap-clause-turns : goal.returns-in_err-cut-in-Snap-clause-turns
+returns-in_err-cut-in-Snap-clause-turns c = grind (arith, common_steps)
 
 pub returns-in-CatchUp-clause-loads : goal.returns-in-CatchUp-clause-loads
 returns-in-CatchUp-clause-loads c = grind (arith, common_steps)
@@ -251,8 +234,8 @@ returns-after-is_ended-clause-mark c = grind (arith, common_steps)
 pub returns-in-CatchUp-clause-turns : goal.returns-in-CatchUp-clause-turns
 returns-in-CatchUp-clause-turns c = grind (arith, common_steps)
 
-pub returns-in_err-front-in-Snap-clause-more : goal.returns-in_err-front-in-Snap-clause-more
-returns-in_err-front-in-Snap-clause-more c = grind (arith, common_steps)
+pub returns-in_err-cut-in-Snap-clause-more : goal.returns-in_err-cut-in-Snap-clause-more
+returns-in_err-cut-in-Snap-clause-more c = grind (arith, common_steps)
 
 pub returns-after-is_ended-clause-turns : goal.returns-after-is_ended-clause-turns
 returns-after-is_ended-clause-turns c = grind (arith, common_steps)
@@ -263,8 +246,8 @@ returns-in-CatchUp-clause-start c = grind (arith, common_steps)
 pub returns-in-CatchUp-clause-ends : goal.returns-in-CatchUp-clause-ends
 returns-in-CatchUp-clause-ends c = grind (arith, common_steps)
 
-pub returns-in_err-front-in-Snap-clause-loads : goal.returns-in_err-front-in-Snap-clause-loads
-returns-in_err-front-in-Snap-clause-loads c = grind (arith, common_steps)
+pub returns-in_err-cut-in-Snap-clause-loads : goal.returns-in_err-cut-in-Snap-clause-loads
+returns-in_err-cut-in-Snap-clause-loads c = grind (arith, common_steps)
 
 pub returns-in-CatchUp-clause-mark : goal.returns-in-CatchUp-clause-mark
 returns-in-CatchUp-clause-mark c = grind (arith, common_steps)
@@ -278,8 +261,8 @@ returns-in-CatchUp-clause-steps c = grind (arith, common_steps)
 pub returns-after-is_ended-clause-so_far : goal.returns-after-is_ended-clause-so_far
 returns-after-is_ended-clause-so_far c = grind (arith, common_steps)
 
-pub returns-in_err-front-in-Snap-clause-left : goal.returns-in_err-front-in-Snap-clause-left
-returns-in_err-front-in-Snap-clause-left c = grind (arith, common_steps)
+pub returns-in_err-cut-in-Snap-clause-left : goal.returns-in_err-cut-in-Snap-clause-left
+returns-in_err-cut-in-Snap-clause-left c = grind (arith, common_steps)
 
 pub invariant_of-self : goal.invariant_of-self
 invariant_of-self c = grind (arith, common_steps)
@@ -287,20 +270,20 @@ invariant_of-self c = grind (arith, common_steps)
 pub returns-after-is_ended-clause-loads : goal.returns-after-is_ended-clause-loads
 returns-after-is_ended-clause-loads c = grind (arith, common_steps)
 
-pub returns-in_err-front-in-Snap-clause-start : goal.returns-in_err-front-in-Snap-clause-start
-returns-in_err-front-in-Snap-clause-start c = grind (arith, common_steps)
+pub returns-in_err-cut-in-Snap-clause-start : goal.returns-in_err-cut-in-Snap-clause-start
+returns-in_err-cut-in-Snap-clause-start c = grind (arith, common_steps)
 
 pub returns-after-is_ended-clause-load : goal.returns-after-is_ended-clause-load
 returns-after-is_ended-clause-load c = grind (arith, common_steps)
 
-pub returns-in_err-front-in-Snap-clause-mark : goal.returns-in_err-front-in-Snap-clause-mark
-returns-in_err-front-in-Snap-clause-mark c = grind (arith, common_steps)
+pub returns-in_err-cut-in-Snap-clause-mark : goal.returns-in_err-cut-in-Snap-clause-mark
+returns-in_err-cut-in-Snap-clause-mark c = grind (arith, common_steps)
 
 pub returns-after-is_ended-clause-more : goal.returns-after-is_ended-clause-more
 returns-after-is_ended-clause-more c = grind (arith, common_steps)
 
-pub returns-in_err-front-in-Snap-clause-so_far : goal.returns-in_err-front-in-Snap-clause-so_far
-returns-in_err-front-in-Snap-clause-so_far c = grind (arith, common_steps)
+pub returns-in_err-cut-in-Snap-clause-so_far : goal.returns-in_err-cut-in-Snap-clause-so_far
+returns-in_err-cut-in-Snap-clause-so_far c = grind (arith, common_steps)
 
 pub returns-after-is_ended-clause-counting : goal.returns-after-is_ended-clause-counting
 returns-after-is_ended-clause-counting c = grind (arith, common_steps)
@@ -314,11 +297,11 @@ returns-in-CatchUp-clause-exchanges c = grind (arith, common_steps)
 pub turn-caught-requires-clause-left : goal.turn-caught-requires-clause-left
 turn-caught-requires-clause-left c = grind (arith, common_steps)
 
-pub returns-in_err-front-in-Snap-clause-looked : goal.returns-in_err-front-in-Snap-clause-looked
-returns-in_err-front-in-Snap-clause-looked c = grind (arith, common_steps)
+pub returns-in_err-cut-in-Snap-clause-looked : goal.returns-in_err-cut-in-Snap-clause-looked
+returns-in_err-cut-in-Snap-clause-looked c = grind (arith, common_steps)
 
-pub returns-in_err-front-in-Snap-clause-within : goal.returns-in_err-front-in-Snap-clause-within
-returns-in_err-front-in-Snap-clause-within c = grind (arith, common_steps)
+pub returns-in_err-cut-in-Snap-clause-within : goal.returns-in_err-cut-in-Snap-clause-within
+returns-in_err-cut-in-Snap-clause-within c = grind (arith, common_steps)
 
 pub returns-after-is_ended-clause-totals : goal.returns-after-is_ended-clause-totals
 returns-after-is_ended-clause-totals c = grind (arith, common_steps)
@@ -329,11 +312,11 @@ returns-after-is_ended-clause-was c = grind (arith, common_steps)
 pub turn-snapped-requires-clause-mark : goal.turn-snapped-requires-clause-mark
 turn-snapped-requires-clause-mark c = grind (arith, common_steps)
 
-pub returns-in_err-front-in-Snap-clause-was : goal.returns-in_err-front-in-Snap-clause-was
-returns-in_err-front-in-Snap-clause-was c = grind (arith, common_steps)
+pub returns-in_err-cut-in-Snap-clause-was : goal.returns-in_err-cut-in-Snap-clause-was
+returns-in_err-cut-in-Snap-clause-was c = grind (arith, common_steps)
 
-pub returns-in_err-front-in-Snap-clause-load : goal.returns-in_err-front-in-Snap-clause-load
-returns-in_err-front-in-Snap-clause-load c = grind (arith, common_steps)
+pub returns-in_err-cut-in-Snap-clause-load : goal.returns-in_err-cut-in-Snap-clause-load
+returns-in_err-cut-in-Snap-clause-load c = grind (arith, common_steps)
 
 pub turn-caught-requires-clause-mark : goal.turn-caught-requires-clause-mark
 turn-caught-requires-clause-mark c = grind (arith, common_steps)
@@ -347,5 +330,5 @@ returns-in-CatchUp-clause-was c = grind (arith, common_steps)
 pub overflow_add-self : goal.overflow_add-self
 overflow_add-self c = grind (arith, common_steps)
 
-pub returns-in_err-front-in-Snap-clause-totals : goal.returns-in_err-front-in-Snap-clause-totals
-returns-in_err-front-in-Snap-clause-totals c = grind (arith, common_steps)
+pub returns-in_err-cut-in-Snap-clause-totals : goal.returns-in_err-cut-in-Snap-clause-totals
+returns-in_err-cut-in-Snap-clause-totals c = grind (arith, common_steps)

@@ -1,9 +1,6 @@
 use Rattle.std.proofs.Common.{None, sym, subst}
-use Rattle.at_board.specs.Knowledge.Seats.{SeatTerms}
+use Rattle.at_machines.proofs.Prelude.{SeatTerms, CollectingTerms, IsSnappingSo, Collect}
 use Rattle.at_machines.proofs.SnappingLaws.{IsSnappingSo-start}
-use Rattle.at_machines.specs.Collecting.{CollectingTerms}
-use Rattle.at_machines.specs.KeptSnapshots.{IsSnappingSo}
-use Rattle.at_machines.specs.declared.stage.Stage.TheVariants.{Collect}
 use Rattle.at_machines.proofs.snapping.Snapping.start.Goals as goal
 
 pub invariant_of-result : goal.invariant_of-result

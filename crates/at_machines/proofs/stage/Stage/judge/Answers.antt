@@ -1,11 +1,5 @@
 use Rattle.std.proofs.Common.{◌≡◌, ◌-◌, get_or, refl, ap, subst, ◌∙◌, arith}
-use Rattle.std.proofs.lemmas.Grind.{common_steps}
-use Rattle.at_snapshot.specs.Verdicts.{IsVerdictOn}
-use Rattle.at_snapshot.specs.declared.collects.Verdict.{Verdict}
-use Rattle.at_snapshot.specs.declared.collects.Verdict.TheVariants.{Lent, Repeated, Undecided}
-use Rattle.at_machines.specs.Collecting.{CollectingTerms}
-use Rattle.at_machines.specs.Loading.{LoadingTerms, starting_loading}
-use Rattle.at_machines.specs.declared.stage.Stage.TheVariants.{Borrow, Collect}
+use Rattle.at_machines.proofs.Prelude.{common_steps, IsVerdictOn, Verdict, Lent, Repeated, Undecided, CollectingTerms, LoadingTerms, starting_loading, Borrow, Collect}
 use Rattle.at_machines.proofs.stage.Stage.judge.Goals.{After-compare}
 use Rattle.at_machines.proofs.stage.Stage.judge.Goals as goal
 

@@ -1,16 +1,6 @@
 use Rattle.std.proofs.Common.{ℕ, ◌≡◌, ◌≢◌, ◌+◌, ◌<◌, List, Option, None, length, get_or, true, false, refl, ap, subst, sym, ◌∙◌, arith}
-use Rattle.std.proofs.lemmas.Grind.{common_steps}
-use Rattle.at_ledger.specs.Book.{BookTerms}
-use Rattle.at_board.specs.Knowledge.Seats.{SeatTerms}
-use Rattle.at_board.specs.declared.knowledge.Knowledge.{Knowledge}
-use Rattle.at_snapshot.proofs.Laws.Scans.{length-collect_of}
-use Rattle.at_snapshot.specs.Collected.{IsCollect}
-use Rattle.at_snapshot.specs.Verdicts.{IsVerdictOn}
+use Rattle.at_machines.proofs.Prelude.{common_steps, BookTerms, SeatTerms, Knowledge, length-collect_of, IsCollect, IsVerdictOn, CollectingTerms, LoadsLengthOf, collecting_after, IsSnappingSo, LeadsTo, TurnsStage, Stage, Collect}
 use Rattle.at_machines.proofs.SnappingLaws.{TurnsStage-judge, TurnsStage-load}
-use Rattle.at_machines.specs.Collecting.{CollectingTerms, LoadsLengthOf, collecting_after}
-use Rattle.at_machines.specs.KeptSnapshots.{IsSnappingSo, LeadsTo, TurnsStage}
-use Rattle.at_machines.specs.declared.stage.Stage.{Stage}
-use Rattle.at_machines.specs.declared.stage.Stage.TheVariants.{Collect}
 use Rattle.at_machines.proofs.stage.Stage.turn.Goals.{After-turn}
 use Rattle.at_machines.proofs.stage.Stage.turn.Goals as goal
 

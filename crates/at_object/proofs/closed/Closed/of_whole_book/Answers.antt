@@ -1,7 +1,5 @@
 use Rattle.std.proofs.Common.{ap, subst, ◌∙◌}
-use Rattle.at_ledger.specs.Book.{BookTerms}
-use Rattle.at_log.specs.Coherent.{Coherent}
-use Rattle.at_object.specs.Closings.{ClosedTerms}
+use Rattle.at_object.proofs.Prelude.{BookTerms, Coherent, ClosedTerms}
 use Rattle.at_object.proofs.OwnRoom.{Coherent-with_usable_room}
 use Rattle.at_object.proofs.closed.Closed.of_whole_book.Goals as goal
 

@@ -1,9 +1,6 @@
 use Rattle.std.proofs.Common.{List, sym, ap, subst, ◌∙◌, map}
-use Rattle.at_board.specs.Knowledge.Seats.{BoardTerms}
-use Rattle.at_log.specs.declared.receipt.Receipt.{Receipt}
+use Rattle.at_object.proofs.Prelude.{BoardTerms, Receipt, AreAccountedFor, PassTerms}
 use Rattle.at_object.proofs.ClosingSeats.{AreAllFree-seats, HasAllLogs-seats, HasRooms, IsEndWith-seats, room-seats}
-use Rattle.at_object.specs.Closings.{AreAccountedFor}
-use Rattle.at_object.specs.Passes.{PassTerms}
 use Rattle.at_object.proofs.ledger.Ledger.close.Goals as goal
 
 pub close-end-requires : goal.close-end-requires

@@ -1,8 +1,6 @@
 use Rattle.std.proofs.Common.{◌++◌, subst, sym, ap, ◌∙◌}
-use Rattle.at_history.specs.Publications.{longer}
-use Rattle.at_board.specs.declared.knowledge.Knowledge.{Knowledge}
+use Rattle.at_object.proofs.Prelude.{longer, Knowledge, PassTerms, Stands, sent_by}
 use Rattle.at_object.proofs.Laws.Learning.{IsOfOnePass-learned, Stands-learned, sent_by-learned}
-use Rattle.at_object.specs.Passes.{PassTerms, Stands, sent_by}
 use Rattle.at_object.proofs.ledger.Ledger.learn.Goals as goal
 
 pub invariant_of-pass : goal.invariant_of-pass

@@ -1,6 +1,5 @@
 use Rattle.std.proofs.Common.{sym, subst}
-use Rattle.at_ledger.specs.Book.{BookTerms}
-use Rattle.at_object.specs.Passes.{AreNewPasses}
+use Rattle.at_object.proofs.Prelude.{BookTerms, AreNewPasses}
 use Rattle.at_object.proofs.ledger.Ledger.new.Goals as goal
 
 pub returns-clause-passes : goal.returns-clause-passes

@@ -1,5 +1,5 @@
 use Rattle.std.proofs.Common.{refl}
-use Rattle.at_ledger.specs.declared.call.Call.TheVariants.{Pay}
+use Rattle.at_object.proofs.Prelude.{Pay}
 use Rattle.at_object.proofs.Laws.Within.{StaysWithin-payment}
 use Rattle.at_object.proofs.ledger.Ledger.pay.Goals as goal
 

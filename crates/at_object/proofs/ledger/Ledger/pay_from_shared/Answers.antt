@@ -1,26 +1,10 @@
 use Rattle.std.proofs.Common.{◌≡◌, ℕ, false, true, Some, refl, sym, ap, subst, ◌∙◌}
-use Rattle.at_ledger.specs.Account.{is_shared}
-use Rattle.at_ledger.specs.Book.{BookTerms, HasSlot, account_of, is_owner}
-use Rattle.at_ledger.specs.declared.call.Call.{Call}
-use Rattle.at_ledger.specs.declared.call.Call.TheVariants.{Pay}
-use Rattle.at_history.specs.Histories.{IsHistory}
-use Rattle.at_history.specs.Moves.{AreRuns}
-use Rattle.at_board.specs.Knowledge.Seats.{BoardTerms}
-use Rattle.at_board.specs.declared.knowledge.Knowledge.{Knowledge}
-use Rattle.at_ledger.specs.Call.{payout_of}
-use Rattle.at_log.specs.declared.receipt.Receipt.{Receipt}
+use Rattle.at_object.proofs.Prelude.{is_shared, BookTerms, HasSlot, account_of, is_owner, Call, Pay, IsHistory, AreRuns, BoardTerms, Knowledge, payout_of, Receipt, PaysInRound, PaymentMade, pass_of, PassTerms, has_used_up, Rest, decides_on}
 use Rattle.at_object.proofs.Laws.InRound.{IsPass-round}
 use Rattle.at_object.proofs.Laws.Made.{PaymentMade-round, others-le}
 use Rattle.at_object.proofs.Laws.Looked.{between-IsPass}
 use Rattle.at_object.proofs.Laws.OnePass.{IsOfOnePass-counted}
 use Rattle.at_object.proofs.Laws.Room.{HasSlot-is_owner, MayStoreRequest-room}
-use Rattle.at_object.specs.Paid.{PaysInRound}
-use Rattle.at_object.specs.Calls.{PaymentMade}
-use Rattle.at_object.specs.Parted.{pass_of}
-use Rattle.at_object.specs.Passes.{PassTerms}
-use Rattle.at_object.specs.Payments.{has_used_up}
-use Rattle.at_object.specs.declared.parts.Rest.{Rest}
-use Rattle.at_shared.specs.Helpings.{decides_on}
 use Rattle.at_object.proofs.ledger.Ledger.pay_from_shared.Goals.{After-count_one}
 use Rattle.at_object.proofs.ledger.Ledger.pay_from_shared.Goals as goal
 

@@ -1,25 +1,9 @@
 use Rattle.std.proofs.Common.{◌≡◌, false, Some, length, refl, sym, ap, subst, ◌∙◌, arith}
-use Rattle.at_ledger.specs.Book.{BookTerms}
-use Rattle.at_ledger.specs.declared.call.Call.{Call}
-use Rattle.at_ledger.specs.declared.call.Call.TheVariants.{Pay}
-use Rattle.at_history.specs.Rounds.{owns_of}
-use Rattle.at_board.specs.Knowledge.Seats.{BoardTerms}
-use Rattle.at_board.specs.Knowledge.Parts.{asking_on, own_part}
-use Rattle.at_board.specs.declared.knowledge.Asking.{Asking}
-use Rattle.at_board.specs.declared.knowledge.Knowledge.{Knowledge}
-use Rattle.at_ledger.specs.Call.{payout_of}
-use Rattle.at_log.specs.declared.receipt.Receipt.{Receipt}
+use Rattle.at_object.proofs.Prelude.{BookTerms, Call, Pay, owns_of, BoardTerms, asking_on, own_part, Asking, Knowledge, payout_of, Receipt, PaysAlone, PaymentMade, pass_of, IsPass, PassTerms, has_used_up, Rest, IsOnlyOwner}
 use Rattle.at_object.proofs.Laws.Alone.{IsPass-alone, asking-alone, process-alone}
 use Rattle.at_object.proofs.Laws.Made.{PaymentMade-alone, others-le}
 use Rattle.at_object.proofs.Laws.OnePass.{IsOfOnePass-counted}
 use Rattle.at_object.proofs.Laws.Room.{sent-room}
-use Rattle.at_object.specs.Paid.{PaysAlone}
-use Rattle.at_object.specs.Calls.{PaymentMade}
-use Rattle.at_object.specs.Parted.{pass_of}
-use Rattle.at_object.specs.Passes.{IsPass, PassTerms}
-use Rattle.at_object.specs.Payments.{has_used_up}
-use Rattle.at_object.specs.declared.parts.Rest.{Rest}
-use Rattle.at_single.specs.Standing.{IsOnlyOwner}
 use Rattle.at_object.proofs.ledger.Ledger.pay_from_single.Goals.{After-count_one}
 use Rattle.at_object.proofs.ledger.Ledger.pay_from_single.Goals as goal
 
@@ -41,7 +25,7 @@ paid c call payout =
       call_is = refl;
       reply = told.reply;
       placed = told.placed call payout;
-      after_front = told.after_front call;
+      after_cut = told.after_cut call;
       snapshot = told.snapshot;
       short = told.short;
       done = told.done;

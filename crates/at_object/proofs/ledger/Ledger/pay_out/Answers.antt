@@ -1,15 +1,6 @@
 use Rattle.std.proofs.Common.{◌≡◌, Some, refl, sym, ap, subst, ◌∙◌}
-use Rattle.at_ledger.specs.Book.{BookTerms}
-use Rattle.at_history.specs.Moves.{AreRuns}
-use Rattle.at_board.specs.Knowledge.Seats.{BoardTerms, IsKept}
-use Rattle.at_closing.specs.BetweenCalls.{IsBetweenCalls}
-use Rattle.at_log.specs.declared.receipt.Receipt.{Receipt}
+use Rattle.at_object.proofs.Prelude.{BookTerms, AreRuns, BoardTerms, IsKept, IsBetweenCalls, Receipt, PaymentMade, pass_of, PassTerms, one_more_call, refusal_of, Rest}
 use Rattle.at_object.proofs.Laws.Made.{PaymentMade-refused}
-use Rattle.at_object.specs.Calls.{PaymentMade}
-use Rattle.at_object.specs.Parted.{pass_of}
-use Rattle.at_object.specs.Passes.{PassTerms, one_more_call}
-use Rattle.at_object.specs.Payments.{refusal_of}
-use Rattle.at_object.specs.declared.parts.Rest.{Rest}
 use Rattle.at_object.proofs.ledger.Ledger.pay_out.Goals.{After-refuse}
 use Rattle.at_object.proofs.ledger.Ledger.pay_out.Goals as goal
 

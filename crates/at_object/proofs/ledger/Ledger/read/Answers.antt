@@ -1,29 +1,9 @@
 use Rattle.std.proofs.Common.{rules, ◌≡◌, ℕ, ◌+◌, ◌-◌, ◌≤◌, ◌*◌, ◌++◌, List, [], ◌∷◌, sym, ap, subst, ◌∙◌, arith, length}
-use Rattle.std.proofs.lemmas.List.Sums.{get_or-le-sum_by}
+use Rattle.at_object.proofs.Prelude.{get_or-le-sum_by, Balance, balance_after, place, prefix_of, owns_of, BoardTerms, SeatTerms, Asking, Knowledge, RECORD_WORDS, StandsBehind-cut, length-prefix_of-le, IsPlaced, is_at_own, is_at_round, Told, key_of, Receipt, PassTerms, Stands, others_counted, sent_by, Rest, asking_on-HasLoaded, decides_on, StandsAfter, IsSnapshot, snapshot_steps, cut_behind}
 use Rattle.std.specs.Prelude.{slice_index, sum}
-use Rattle.at_ledger.specs.declared.call.Reply.TheVariants.{Balance}
-use Rattle.at_history.specs.Balances.{balance_after}
-use Rattle.at_history.specs.Fronts.{place, prefix_of}
-use Rattle.at_history.specs.Rounds.{owns_of}
-use Rattle.at_board.specs.Knowledge.Seats.{BoardTerms, SeatTerms}
-use Rattle.at_board.specs.declared.knowledge.Asking.{Asking}
-use Rattle.at_board.specs.declared.knowledge.Knowledge.{Knowledge}
-use Rattle.at_board.specs.declared.words.TheConstants.{RECORD_WORDS}
-use Rattle.at_closing.proofs.Laws.Calls.{StandsBehind-front, length-prefix_of-le}
-use Rattle.at_log.specs.Placed.{IsPlaced}
-use Rattle.at_log.specs.Receipts.{is_at_own, is_at_round}
-use Rattle.at_log.specs.Told.{Told, key_of}
 use Rattle.at_object.proofs.Laws.Looked.{IsPass-HasLoaded, Told-HasLoaded, owns_of-HasLoaded}
-use Rattle.at_log.specs.declared.receipt.Receipt.{Receipt}
 use Rattle.at_object.proofs.Laws.OnePass.{IsOfOnePass-counted}
 use Rattle.at_object.proofs.Laws.Within.{read_or_refused}
-use Rattle.at_object.specs.Passes.{PassTerms, Stands, others_counted, sent_by}
-use Rattle.at_object.specs.declared.parts.Rest.{Rest}
-use Rattle.at_shared.proofs.Laws.Started.{asking_on-HasLoaded}
-use Rattle.at_shared.specs.Helpings.{decides_on}
-use Rattle.at_shared.specs.Settling.{StandsAfter}
-use Rattle.at_snapshot.specs.Snapshots.{IsSnapshot, snapshot_steps}
-use Rattle.at_single.specs.Standing.{front_behind}
 use Rattle.at_object.proofs.ledger.Ledger.read.Goals.{After-known-2}
 use Rattle.at_object.proofs.ledger.Ledger.read.Goals as goal
 
@@ -39,9 +19,9 @@ invariant_of-pass c =
     let now : Rest = record was { totals = c.read_account-receipt.new.totals; calls = c.count_one.new.self } in
     IsOfOnePass-counted c.pass.inside.seat c.read_account-receipt.new.seat was now c.pass.invariant
     (told.board.id ∙ sym (ap (λ (t : PassTerms). t.board) c.pass.view_is ∙ (c.requires.pass.id ∙ sym (ap (λ (t : BoardTerms). t.id) c.self.view_is))))
-    (ap (λ (t : Knowledge). t.first) told.at_front.loads.same) c.count_one.ensures
+    (ap (λ (t : Knowledge). t.first) told.at_cut.loads.same) c.count_one.ensures
     (IsPass-HasLoaded c.self.inside.board.book v c.read_account-receipt.new.seat.knows c.known.ensures.seat c.known-2.ensures.seat book told.board.book
-    told.at_front.loads was.totals c.read_account-receipt.new.totals was.sent c.pass.invariant.pass told.counted told.own_counted)
+    told.at_cut.loads was.totals c.read_account-receipt.new.totals was.sent c.pass.invariant.pass told.counted told.own_counted)
 
 -- the receipt is right after the earlier ones
 placed : (c : After-known-2) → (earlier : List Receipt)
@@ -57,11 +37,11 @@ after_seen : (c : After-known-2) → StandsAfter (length c.args.pass.now.knows.s
 after_seen c = λ previous.
     let w : Knowledge = c.read_account-receipt.new.seat.knows in
     let r = c.read_account-receipt.result in
-    let front = front_behind w r.at in
+    let cut = cut_behind w r.at in
     omega (
       arith,
-      c.read_account-receipt.ensures.after_front previous,
-      length-prefix_of-le front c.pass.inside.seat.knows.seen w.seen c.read_account-receipt.ensures.snapshot.begins,
+      c.read_account-receipt.ensures.after_cut previous,
+      length-prefix_of-le cut c.pass.inside.seat.knows.seen w.seen c.read_account-receipt.ensures.snapshot.begins,
       ap (λ (t : PassTerms). length t.knows.seen) c.pass.view_is,
     )
 
@@ -73,17 +53,17 @@ stands c = λ earlier stands.
     let v : Knowledge = c.pass.inside.seat.knows in
     let w : Knowledge = c.read_account-receipt.new.seat.knows in
     let r = c.read_account-receipt.result in
-    let front = front_behind w r.at in
+    let cut = cut_behind w r.at in
     let same : v ≡ c.args.pass.now.knows = ap (λ (t : PassTerms). t.knows) c.pass.view_is in
     let book : v.book ≡ c.self.inside.board.book =
     ap (λ (t : Knowledge). t.book) same ∙ (c.requires.pass.book ∙ sym (ap (λ (t : BoardTerms). t.book) c.self.view_is)) in
-    let first : w.first ≡ v.first = ap (λ (t : Knowledge). t.first) told.at_front.loads.same in
-    Told-HasLoaded c.self.inside.board.book v w c.known.ensures.seat c.known-2.ensures.seat book told.board.book told.at_front.loads
+    let first : w.first ≡ v.first = ap (λ (t : Knowledge). t.first) told.at_cut.loads.same in
+    Told-HasLoaded c.self.inside.board.book v w c.known.ensures.seat c.known-2.ensures.seat book told.board.book told.at_cut.loads
     c.pass.inside.rest.totals c.read_account-receipt.new.totals c.pass.inside.rest.sent c.pass.invariant.pass earlier r
     (subst (λ (t : Knowledge). Told t.book t.first t.seen earlier) (sym same) stands) (told.placed earlier)
-    (StandsBehind-front v.first v.seen w.seen r front told.snapshot.begins
-    (λ previous. subst (λ p. 2 * place front ≤ key_of p w.seen previous r) first (told.after_front previous)))
-    (ap is_at_own told.at_front.at_front) (ap is_at_round told.at_front.at_front)
+    (StandsBehind-cut v.first v.seen w.seen r cut told.snapshot.begins
+    (λ previous. subst (λ p. 2 * place cut ≤ key_of p w.seen previous r) first (told.after_cut previous)))
+    (ap is_at_own told.at_cut.at_cut) (ap is_at_round told.at_cut.at_cut)
 
 -- no own record was published
 sent : (c : After-known-2)
@@ -95,8 +75,8 @@ sent c =
     let same : v ≡ c.args.pass.now.knows = ap (λ (t : PassTerms). t.knows) c.pass.view_is in
     let book : v.book ≡ c.self.inside.board.book =
     ap (λ (t : Knowledge). t.book) same ∙ (c.requires.pass.book ∙ sym (ap (λ (t : BoardTerms). t.book) c.self.view_is)) in
-    ap (λ p. owns_of p w.seen) (ap (λ (t : Knowledge). t.first) told.at_front.loads.same)
-    ∙ (owns_of-HasLoaded c.self.inside.board.book v w c.known.ensures.seat c.known-2.ensures.seat book told.board.book told.at_front.loads
+    ap (λ p. owns_of p w.seen) (ap (λ (t : Knowledge). t.first) told.at_cut.loads.same)
+    ∙ (owns_of-HasLoaded c.self.inside.board.book v w c.known.ensures.seat c.known-2.ensures.seat book told.board.book told.at_cut.loads
     c.pass.inside.rest.totals c.read_account-receipt.new.totals c.pass.inside.rest.sent c.pass.invariant.pass
     ∙ ap (λ (t : Knowledge). owns_of t.first t.seen) same)
 
@@ -128,7 +108,7 @@ decides c a =
     let told = c.read_account-receipt.ensures in
     let v : Knowledge = c.pass.inside.seat.knows in
     ap (λ (t : Asking). t.decides) (asking_on-HasLoaded c.self.inside.board.book v c.read_account-receipt.new.seat.knows a
-    (omega (arith, c.known.ensures.seat.one_part)) told.at_front.loads)
+    (omega (arith, c.known.ensures.seat.one_part)) told.at_cut.loads)
     ∙ ap (λ (t : PassTerms). decides_on t.knows a) c.pass.view_is
 
 pub returns-clause-made : goal.returns-clause-made
@@ -137,13 +117,13 @@ returns-clause-made c =
     let told = c.read_account-receipt.ensures in
     let w : Knowledge = c.read_account-receipt.new.seat.knows in
     let r = c.read_account-receipt.result in
-    let front = front_behind w r.at in
+    let cut = cut_behind w r.at in
     record {
       call_is = told.call;
-      at_front = told.at_front.at_front;
-      reply = subst (λ (t : BoardTerms). r.reply ≡ Balance (balance_after t.book (prefix_of front w.seen) c.args.account)) c.self.view_is told.reply;
-      snapshot = subst (λ (t : BoardTerms). IsSnapshot t.book c.args.pass.now.knows w front) c.self.view_is
-          (subst (λ (t : PassTerms). IsSnapshot c.self.inside.board.book t.knows w front) c.pass.view_is told.snapshot);
+      at_cut = told.at_cut.at_cut;
+      reply = subst (λ (t : BoardTerms). r.reply ≡ Balance (balance_after t.book (prefix_of cut w.seen) c.args.account)) c.self.view_is told.reply;
+      snapshot = subst (λ (t : BoardTerms). IsSnapshot t.book c.args.pass.now.knows w cut) c.self.view_is
+          (subst (λ (t : PassTerms). IsSnapshot c.self.inside.board.book t.knows w cut) c.pass.view_is told.snapshot);
       placed = λ earlier _. placed d earlier;
       stands = stands d;
       after_seen = after_seen d;

@@ -1,9 +1,6 @@
 use Rattle.std.proofs.Common.{◌∷◌, [], Some, ap, refl, length, sym, subst}
-use Rattle.at_ledger.specs.Call.{AreTargetsOn}
-use Rattle.at_ledger.specs.declared.call.Call.TheVariants.{Transfer}
-use Rattle.at_log.specs.declared.receipt.Receipt.{Receipt}
+use Rattle.at_object.proofs.Prelude.{AreTargetsOn, Transfer, Receipt, PaymentMade}
 use Rattle.at_object.proofs.Laws.Within.{AreTargetsOn-single, StaysWithin-payment}
-use Rattle.at_object.specs.Calls.{PaymentMade}
 use Rattle.at_object.proofs.ledger.Ledger.transfer.Goals.{After-pay_out-reply}
 use Rattle.at_object.proofs.ledger.Ledger.transfer.Goals as goal
 

@@ -1,9 +1,5 @@
 use Rattle.std.proofs.Common.{◌≡◌, length, refl, sym, ap, subst, ◌∙◌}
-use Rattle.at_history.specs.Rounds.{named}
-use Rattle.at_ledger.specs.Book.{HasSlot}
-use Rattle.at_board.specs.declared.knowledge.Knowledge.{Knowledge}
-use Rattle.at_closing.proofs.Laws.Seats.{named-IsBetweenCalls}
-use Rattle.at_object.specs.Passes.{PassTerms}
+use Rattle.at_object.proofs.Prelude.{named, HasSlot, Knowledge, named-IsBetweenCalls, PassTerms}
 use Rattle.at_object.proofs.pass.Pass.asked.Goals as goal
 
 pub returns-clause-rounds : goal.returns-clause-rounds

@@ -1,5 +1,5 @@
 use Rattle.std.proofs.Common.{arith}
-use Rattle.std.proofs.lemmas.Grind.{common_steps}
+use Rattle.at_orders.proofs.Prelude.{common_steps}
 use Rattle.at_orders.proofs.ground.Ground.book.Goals as goal
 
 pub returns-clause-known : goal.returns-clause-known

@@ -1,5 +1,5 @@
 use Rattle.std.proofs.Common.{arith}
-use Rattle.std.proofs.lemmas.Grind.{common_steps}
+use Rattle.at_orders.proofs.Prelude.{common_steps}
 use Rattle.at_orders.proofs.ground.Ground.file.Goals as goal
 
 pub bounds-self-inside-process : goal.bounds-self-inside-process

@@ -1,5 +1,5 @@
 use Rattle.std.proofs.Common.{arith}
-use Rattle.std.proofs.lemmas.Grind.{common_steps}
+use Rattle.at_orders.proofs.Prelude.{common_steps}
 use Rattle.at_orders.proofs.ground.Ground.place.Goals as goal
 
 pub returns-clause-within : goal.returns-clause-within

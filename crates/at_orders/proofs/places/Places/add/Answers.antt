@@ -1,4 +1,4 @@
-use Rattle.std.proofs.lemmas.Grind.{common_steps}
+use Rattle.at_orders.proofs.Prelude.{common_steps}
 use Rattle.std.proofs.Common.{not, ap, ◌∙◌, arith}
 use Rattle.at_orders.proofs.Placing.{has_place-some}
 use Rattle.at_orders.proofs.places.Places.add.Goals as goal

@@ -1,8 +1,5 @@
-use Rattle.std.proofs.lemmas.Grind.{common_steps}
+use Rattle.at_orders.proofs.Prelude.{common_steps, take_all, ArePlaces, HasFirstPlace, HasPlace, IsCallOn}
 use Rattle.std.proofs.Common.{◌≡◌, ℕ, Option, List, length, take, All, sym, subst, arith}
-use Rattle.std.proofs.lemmas.List.{take_all}
-use Rattle.at_orders.specs.Walk.{ArePlaces, HasFirstPlace, HasPlace}
-use Rattle.at_ledger.specs.Call.{IsCallOn}
 use Rattle.at_orders.proofs.Placing.{calls-more, first-known}
 use Rattle.at_orders.proofs.places.Places.add_file.Goals as goal
 

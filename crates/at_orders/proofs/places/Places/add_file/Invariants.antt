@@ -1,5 +1,5 @@
 use Rattle.std.proofs.Common.{All, length, take}
-use Rattle.at_orders.specs.Walk.{ArePlaces, HasFirstPlace, KeepsPlaces}
+use Rattle.at_orders.proofs.Prelude.{ArePlaces, HasFirstPlace, KeepsPlaces}
 use Rattle.at_orders.proofs.places.Places.add_file.Given as goal
 
 abbrev pub invariant-loop-call : goal.invariant-loop-call

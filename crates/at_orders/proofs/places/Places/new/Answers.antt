@@ -1,11 +1,5 @@
-use Rattle.std.proofs.lemmas.Grind.{common_steps}
+use Rattle.at_orders.proofs.Prelude.{common_steps, take_all, contents_of, get_or-contents_of, length-contents_of, IsCallOn, Call, ArePlaces, HasFirstPlace}
 use Rattle.std.proofs.Common.{◌≡◌, ℕ, [], Option, List, length, get_or, take, All, sym, subst, ◌∙◌, arith}
-use Rattle.std.proofs.lemmas.List.{take_all}
-use Rattle.at_ledger.specs.Files.{contents_of}
-use Rattle.at_ledger.proofs.FileLists.{get_or-contents_of, length-contents_of}
-use Rattle.at_ledger.specs.Call.{IsCallOn}
-use Rattle.at_ledger.specs.declared.call.Call.{Call}
-use Rattle.at_orders.specs.Walk.{ArePlaces, HasFirstPlace}
 use Rattle.at_orders.proofs.Placing.{files-more}
 use Rattle.at_orders.proofs.places.Places.new.Goals as goal
 

@@ -1,6 +1,5 @@
 use Rattle.std.proofs.Common.{◌≡◌, All, length, take}
-use Rattle.at_ledger.specs.Files.{contents_of}
-use Rattle.at_orders.specs.Walk.{ArePlaces, HasFirstPlace}
+use Rattle.at_orders.proofs.Prelude.{contents_of, ArePlaces, HasFirstPlace}
 use Rattle.at_orders.proofs.places.Places.new.Given as goal
 
 abbrev pub invariant-loop-file : goal.invariant-loop-file

@@ -1,10 +1,6 @@
 use Rattle.std.proofs.Common.{◌≡◌, ℕ, ◌+◌, List, [], get_or, length, set, ap, refl, ◌∙◌, arith}
-use Rattle.std.proofs.lemmas.Grind.{get_or_default_zero, common_steps}
-use Rattle.std.proofs.lemmas.Option.{slice_get_within}
+use Rattle.at_orders.proofs.Prelude.{get_or_default_zero, common_steps, slice_get_within, Global, with_item, with_made}
 use Rattle.std.specs.Prelude.{Vec}
-use Rattle.std.specs.Global.{Global}
-use Rattle.std.specs.Vec.{with_item}
-use Rattle.at_ledger.specs.NextCalls.{with_made}
 use Rattle.at_orders.proofs.Requests.{stage_after-made}
 use Rattle.at_orders.proofs.stage.Stage.after.Goals as goal
 

@@ -1,5 +1,5 @@
 use Rattle.std.proofs.Common.{sym, ◌∙◌, arith}
-use Rattle.std.proofs.lemmas.Grind.{get_or_default_zero}
+use Rattle.at_orders.proofs.Prelude.{get_or_default_zero}
 use Rattle.at_orders.proofs.stage.Stage.balance.Goals as goal
 
 pub returns : goal.returns

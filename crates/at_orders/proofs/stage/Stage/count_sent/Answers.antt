@@ -1,5 +1,5 @@
 use Rattle.std.proofs.Common.{arith}
-use Rattle.std.proofs.lemmas.Grind.{common_steps}
+use Rattle.at_orders.proofs.Prelude.{common_steps}
 use Rattle.at_orders.proofs.stage.Stage.count_sent.Goals as goal
 
 pub returns-clause-standing : goal.returns-clause-standing

@@ -1,8 +1,5 @@
-use Rattle.std.proofs.lemmas.Grind.{common_steps}
+use Rattle.at_orders.proofs.Prelude.{common_steps, take_all, BookTerms, account_of, Stage}
 use Rattle.std.proofs.Common.{◌≡◌, ℕ, length, map, replicate, take, ap, ◌∙◌, arith}
-use Rattle.std.proofs.lemmas.List.{take_all}
-use Rattle.at_ledger.specs.Book.{BookTerms, account_of}
-use Rattle.at_orders.specs.declared.stage.Stage.{Stage}
 use Rattle.at_orders.proofs.Requests.{first-stands, standing-first}
 use Rattle.at_orders.proofs.stage.Stage.first.Goals as goal
 

@@ -1,5 +1,5 @@
 use Rattle.std.proofs.Common.{◌≡◌, map, take}
-use Rattle.at_ledger.specs.Book.{account_of}
+use Rattle.at_orders.proofs.Prelude.{account_of}
 use Rattle.at_orders.proofs.stage.Stage.first.Given as goal
 
 abbrev pub invariant-loop-account : goal.invariant-loop-account

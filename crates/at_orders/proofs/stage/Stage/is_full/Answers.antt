@@ -1,12 +1,6 @@
-use Rattle.std.proofs.lemmas.Option.{slice_get_within}
-use Rattle.std.proofs.lemmas.Grind.{common_steps}
+use Rattle.at_orders.proofs.Prelude.{slice_get_within, common_steps, le-leb, get_or_default, is_shared, BookTerms, account_of, payments_from}
 use Rattle.std.proofs.Common.{◌≡◌, ℕ, Some, true, leb, length, get_or, take, [], sym, ap, subst, ◌∙◌, arith}
 use Rattle.std.specs.Prelude.{slice_get}
-use Rattle.std.proofs.lemmas.Bool.{le-leb}
-use Rattle.std.proofs.lemmas.List.{get_or_default}
-use Rattle.at_ledger.specs.Account.{is_shared}
-use Rattle.at_ledger.specs.Book.{BookTerms, account_of}
-use Rattle.at_orders.specs.Stages.{payments_from}
 use Rattle.at_orders.proofs.Requests.{first_account-payout, is_full-counted}
 use Rattle.at_orders.proofs.stage.Stage.is_full.Goals as goal
 

@@ -1,7 +1,6 @@
-use Rattle.std.proofs.lemmas.Grind.{common_steps}
+use Rattle.at_orders.proofs.Prelude.{common_steps, IsCallOn-more}
 use Rattle.std.proofs.Common.{◌<◌, length, sym, ◌∙◌, arith, ◌^◌}
 use Rattle.at_orders.proofs.Requests.{made-read, made-step}
-use Rattle.at_ledger.proofs.Calls.{IsCallOn-more}
 use Rattle.at_orders.proofs.stage.Stage.make.Goals as goal
 
 pub returns-in_default-clause-ledger : goal.returns-in_default-clause-ledger

@@ -1,13 +1,6 @@
-use Rattle.std.proofs.lemmas.Grind.{common_steps}
+use Rattle.at_orders.proofs.Prelude.{common_steps, with_items_is, Global, with_items, amount_of, credited, AreKept, Stage}
 use Rattle.std.proofs.Common.{◌≡◌, ℕ, ◌-◌, List, length, get_or, set, refl, sym, ap, subst, ◌∙◌, arith}
-use Rattle.std.proofs.lemmas.List.{with_items_is}
-use Rattle.std.specs.Global.{Global}
 use Rattle.std.specs.Prelude.{Vec}
-use Rattle.std.specs.Vec.{with_items}
-use Rattle.at_ledger.specs.Call.{amount_of}
-use Rattle.at_ledger.specs.State.{credited}
-use Rattle.at_orders.specs.Walk.{AreKept}
-use Rattle.at_orders.specs.declared.stage.Stage.{Stage}
 use Rattle.at_orders.proofs.Crediting.{amount-few, covered-all, moved-has, standing-moved, taken-few}
 use Rattle.at_orders.proofs.stage.Stage.move_amounts.Goals as goal
 

@@ -1,4 +1,4 @@
-use Rattle.std.proofs.lemmas.Grind.{common_steps}
+use Rattle.at_orders.proofs.Prelude.{common_steps}
 use Rattle.std.proofs.Common.{◌<◌, length, refl, sym, ◌∙◌, arith}
 use Rattle.at_orders.proofs.Requests.{made-payment}
 use Rattle.at_orders.proofs.stage.Stage.pay.Goals as goal

@@ -1,10 +1,5 @@
-use Rattle.std.proofs.lemmas.Grind.{common_steps}
+use Rattle.at_orders.proofs.Prelude.{common_steps, is_shared, slots_of, BookTerms, account_of, LedgerState, moved, with_sent, ledger_at, HasNumbers}
 use Rattle.std.proofs.Common.{◌≡◌, ℕ, cond, false, get_or, sym, ap, subst, ◌∙◌, arith}
-use Rattle.at_ledger.specs.Account.{is_shared, slots_of}
-use Rattle.at_ledger.specs.Book.{BookTerms, account_of}
-use Rattle.at_ledger.specs.State.{LedgerState, moved, with_sent}
-use Rattle.at_orders.specs.Stages.{ledger_at}
-use Rattle.at_orders.specs.Walk.{HasNumbers}
 use Rattle.at_orders.proofs.Crediting.{has-all}
 use Rattle.at_orders.proofs.Requests.{own_room-left, slots-single}
 use Rattle.at_orders.proofs.stage.Stage.succeed.Goals as goal

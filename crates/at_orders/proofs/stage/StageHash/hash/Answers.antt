@@ -1,9 +1,6 @@
-use Rattle.std.proofs.lemmas.Grind.{common_steps}
+use Rattle.at_orders.proofs.Prelude.{common_steps, fold, take_min, fold-append}
 use Rattle.std.proofs.Common.{◌≡◌, ℕ, List, take, sym, ap, ◌∙◌, arith}
-use Rattle.std.specs.List.{fold}
 use Rattle.std.specs.Hash as fed
-use Rattle.std.proofs.lemmas.List.{take_min}
-use Rattle.std.proofs.lemmas.List.Sums.{fold-append}
 use Rattle.at_orders.proofs.stage.StageHash.hash.Goals as goal
 
 pub returns : goal.returns

@@ -1,16 +1,7 @@
 use Rattle.std.proofs.Common.{◌≡◌, ◌<◌, Option, Some, ap, subst, sym, ◌∙◌, arith}
-use Rattle.at_ledger.specs.Book.{BookTerms}
-use Rattle.at_board.specs.Knowledge.Seats.{SeatTerms}
-use Rattle.at_board.specs.declared.knowledge.Knowledge.{Knowledge}
+use Rattle.at_snapshot.proofs.Prelude.{BookTerms, SeatTerms, Knowledge, collect_of, IsScanOf, ScanTerms, SeesOwnRecords, collects_after, scan_after, IsSnapshot, OnCounts, IsVerdictOn, answer_of, Collects, Verdict, Turn}
 use Rattle.at_snapshot.proofs.Laws.Scans.{IsScanOf-after}
 use Rattle.at_snapshot.proofs.Laws.Verdicts.{IsAnswer-IsVerdictOn, OnCounts-IsAnswer}
-use Rattle.at_snapshot.specs.Collected.{collect_of}
-use Rattle.at_snapshot.specs.Scans.{IsScanOf, ScanTerms, SeesOwnRecords, collects_after, scan_after}
-use Rattle.at_snapshot.specs.Snapshots.{IsSnapshot, OnCounts}
-use Rattle.at_snapshot.specs.Verdicts.{IsVerdictOn, answer_of}
-use Rattle.at_snapshot.specs.declared.collects.Collects.{Collects}
-use Rattle.at_snapshot.specs.declared.collects.Verdict.{Verdict}
-use Rattle.at_snapshot.specs.declared.scan.Turn.{Turn}
 use Rattle.at_snapshot.proofs.scan.Scan.turn.Goals as goal
 
 -- a scan by its parts

@@ -1,13 +1,6 @@
 use Rattle.std.proofs.Common.{◌≡◌, ◌<◌, ◌∙◌, Option, Some, None, ap, arith, get_or, length, subst, sym}
-use Rattle.std.proofs.lemmas.List.{get_or_read}
-use Rattle.std.specs.Vec.{vec_capacity}
-use Rattle.at_ledger.specs.declared.call.Call.{Call}
-use Rattle.at_calling.specs.Calling.{CallingTerms, IsWay, first_step, next_step, refusal_in}
-use Rattle.at_object.specs.Parted.{pass_of}
+use Rattle.at_stepper.proofs.Prelude.{get_or_read, vec_capacity, Call, CallingTerms, IsWay, first_step, next_step, refusal_in, pass_of, CallerTerms, calls_left_of, IsCallerOf, StartsNext, caller_of, Making}
 use Rattle.at_stepper.proofs.CallerLaws.{IsCallerOf-begun, StartsNext-begun, none-stage_in}
-use Rattle.at_stepper.specs.Callers.{CallerTerms, calls_left_of}
-use Rattle.at_stepper.specs.KeptCallers.{IsCallerOf, StartsNext, caller_of}
-use Rattle.at_stepper.specs.declared.caller.Making.{Making}
 use Rattle.at_stepper.proofs.caller.Caller.begin.Goals.{After-become_next}
 use Rattle.at_stepper.proofs.caller.Caller.begin.Goals as goal
 

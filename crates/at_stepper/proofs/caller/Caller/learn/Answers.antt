@@ -1,10 +1,6 @@
 use Rattle.std.proofs.Common.{◌≡◌, ◌∙◌, Option, None, ap, subst, sym}
-use Rattle.std.specs.Vec.{vec_capacity}
-use Rattle.at_calling.specs.Calling.{CallingTerms}
-use Rattle.at_history.specs.Publications.{IsPrefix}
+use Rattle.at_stepper.proofs.Prelude.{vec_capacity, CallingTerms, IsPrefix, CallerTerms, HasLearned, IsCallerOf, caller_of}
 use Rattle.at_stepper.proofs.CallerLaws.{HasLearned-seat, IsCallerOf-learned, none-stage_in, seen-learned}
-use Rattle.at_stepper.specs.Callers.{CallerTerms, HasLearned}
-use Rattle.at_stepper.specs.KeptCallers.{IsCallerOf, caller_of}
 use Rattle.at_stepper.proofs.caller.Caller.learn.Goals.{After-learn_overview}
 use Rattle.at_stepper.proofs.caller.Caller.learn.Goals as goal
 

@@ -1,12 +1,6 @@
 use Rattle.std.proofs.Common.{◌≡◌, ◌<◌, ◌∙◌, Option, Some, None, ap, arith, get_or, length, refl, subst, sym}
-use Rattle.std.proofs.lemmas.List.{get_or_read}
-use Rattle.at_ledger.specs.Book.{BookTerms}
-use Rattle.at_ledger.specs.declared.call.Call.{Call}
-use Rattle.at_calling.specs.Calling.{CallingTerms, first_step, refusal_in}
-use Rattle.at_object.specs.Parted.{pass_of}
+use Rattle.at_stepper.proofs.Prelude.{get_or_read, BookTerms, Call, CallingTerms, first_step, refusal_in, pass_of, CallerTerms, IsNextOf, calls_left_of, caller_of}
 use Rattle.at_stepper.proofs.NextLaws.{IsNextOf-begins, IsNextOf-going_on}
-use Rattle.at_stepper.specs.Callers.{CallerTerms, IsNextOf, calls_left_of}
-use Rattle.at_stepper.specs.KeptCallers.{caller_of}
 use Rattle.at_stepper.proofs.caller.Caller.next.Goals as goal
 
 pub returns-in-Some : goal.returns-in-Some

@@ -1,9 +1,7 @@
 use Rattle.std.proofs.Common.{◌≡◌, ◌∙◌, IfSome, None, ap, subst, sym}
-use Rattle.at_board.specs.Knowledge.Overviews.{OverviewTerms}
+use Rattle.at_stepper.proofs.Prelude.{OverviewTerms, CallerTerms, own_seen, TakesTurn, stage_in}
 use Rattle.at_stepper.proofs.BeginningLaws.{BeginsCall-next, IfSome-some, IsTurned-begun, IsTurned-some}
 use Rattle.at_stepper.proofs.CallerLaws.{in_making, none-making}
-use Rattle.at_stepper.specs.Callers.{CallerTerms, own_seen}
-use Rattle.at_stepper.specs.KeptCallers.{TakesTurn, stage_in}
 use Rattle.at_stepper.proofs.caller.Caller.next_turn.Goals as goal
 
 pub returns-then-is_some-clause-turned : goal.returns-then-is_some-clause-turned

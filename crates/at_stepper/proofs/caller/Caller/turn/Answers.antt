@@ -1,13 +1,6 @@
 use Rattle.std.proofs.Common.{◌≡◌, ◌∙◌, ◌<◌, Option, Some, None, IfSome, ap, arith, refl, subst, sym}
-use Rattle.std.specs.Vec.{vec_capacity}
-use Rattle.at_log.specs.declared.receipt.Receipt.{Receipt}
-use Rattle.at_calling.proofs.Laws.Published.{published-MakesCallStep}
-use Rattle.at_calling.specs.Calling.{CallingTerms, call_turns_left}
+use Rattle.at_stepper.proofs.Prelude.{vec_capacity, Receipt, published-MakesCallStep, CallingTerms, call_turns_left, CallerTerms, IsCallerOf, TakesTurn, caller_of, Making, Answer, Step}
 use Rattle.at_stepper.proofs.CallerLaws.{IsCallerOf-answered, TakesTurn-answered, TakesTurn-caller, TakesTurn-turned, left-going_on, own_seen-published}
-use Rattle.at_stepper.specs.Callers.{CallerTerms}
-use Rattle.at_stepper.specs.KeptCallers.{IsCallerOf, TakesTurn, caller_of}
-use Rattle.at_stepper.specs.declared.caller.Making.{Making}
-use Rattle.at_stepper.specs.declared.turned.Turned.TheVariants.{Answer, Step}
 use Rattle.at_stepper.proofs.StepLaws.{process-MakesCallStep}
 use Rattle.at_stepper.proofs.caller.Caller.turn.Goals.{After-become_next}
 use Rattle.at_stepper.proofs.caller.Caller.turn.Goals as goal

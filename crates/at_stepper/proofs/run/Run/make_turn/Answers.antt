@@ -1,10 +1,7 @@
 use Rattle.std.proofs.Common.{◌≡◌, ◌∙◌, ◌<◌, arith, length, nat_lt, refl, sym}
-use Rattle.std.proofs.lemmas.Bool.{le-ltb, lt-ltb}
-use Rattle.at_history.specs.Publications.{count_of}
+use Rattle.at_stepper.proofs.Prelude.{le-ltb, lt-ltb, count_of, CallerTerms, stepper_terms}
 use Rattle.at_stepper.proofs.RunLaws.{length-PublishesAtMostOne, own_seen-at}
 use Rattle.at_stepper.proofs.SteppingLaws.{known-calls_left}
-use Rattle.at_stepper.specs.Callers.{CallerTerms}
-use Rattle.at_stepper.specs.KeptStepping.{stepper_terms}
 use Rattle.at_stepper.proofs.run.Run.make_turn.Goals as goal
 
 pub returns-clause-made : goal.returns-clause-made

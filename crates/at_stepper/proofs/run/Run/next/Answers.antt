@@ -1,8 +1,6 @@
 use Rattle.std.proofs.Common.{◌≡◌, ◌<◌, length, get_or, subst}
-use Rattle.std.proofs.lemmas.List.{get_or_read}
-use Rattle.at_board.specs.Knowledge.Seats.{BoardTerms}
+use Rattle.at_stepper.proofs.Prelude.{get_or_read, BoardTerms, CallerTerms, IsNextOf}
 use Rattle.at_stepper.proofs.SteppingLaws.{known-calls_left}
-use Rattle.at_stepper.specs.Callers.{CallerTerms, IsNextOf}
 use Rattle.at_stepper.proofs.run.Run.next.Goals as goal
 
 pub returns : goal.returns

@@ -1,14 +1,7 @@
 use Rattle.std.proofs.Common.{◌∙◌, ◌<◌, List, ap, length, set, subst, sym}
-use Rattle.std.proofs.lemmas.List.{with_items_is}
-use Rattle.std.specs.Vec.{with_item}
-use Rattle.at_board.specs.Knowledge.Overviews.{IsOverviewOf, OverviewTerms}
-use Rattle.at_board.specs.Knowledge.Seats.{BoardTerms}
-use Rattle.at_history.specs.Publications.{IsPrefix}
+use Rattle.at_stepper.proofs.Prelude.{with_items_is, with_item, IsOverviewOf, OverviewTerms, BoardTerms, IsPrefix, CallerTerms, AreAllIn, AreCallersOn, HaveJustTheirOwn, IsAllPublished, TurnsOne}
 use Rattle.at_stepper.proofs.RunLaws.{AreAllIn-shown, AreCallersOn-shown, IsAllPublished-shown, TurnsOne-shown}
 use Rattle.at_stepper.proofs.SteppingLaws.{known-calls_left}
-use Rattle.at_stepper.specs.Callers.{CallerTerms}
-use Rattle.at_stepper.specs.KeptStepping.{AreAllIn, AreCallersOn, HaveJustTheirOwn, IsAllPublished}
-use Rattle.at_stepper.specs.Stepping.{TurnsOne}
 use Rattle.at_stepper.proofs.run.Run.turn.Goals as goal
 
 pub next_turn-turned-requires-clause-seen : goal.next_turn-turned-requires-clause-seen

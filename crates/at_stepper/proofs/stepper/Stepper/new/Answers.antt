@@ -1,19 +1,12 @@
 use Rattle.std.proofs.Common.{◌∙◌, List, Vec, Global, ap, subst, sym}
-use Rattle.std.proofs.lemmas.List.{length-map}
-use Rattle.at_board.specs.Knowledge.Overviews.{IsOverviewOf}
-use Rattle.at_board.specs.Knowledge.Seats.{BoardTerms}
-use Rattle.at_history.specs.declared.publication.Publication.{Publication}
-use Rattle.at_ledger.specs.Book.{BookTerms}
-use Rattle.at_ledger.specs.declared.call.Call.{Call}
-use Rattle.at_log.specs.Receipts.{lists_in}
+use Rattle.at_stepper.proofs.Prelude.{length-map, IsOverviewOf, BoardTerms, Publication, BookTerms, Call, contents_of, AreCallersOn, IsAllPublished}
 use Rattle.at_stepper.proofs.SteppingLaws.{AreCallersOn-begun, IsAllPublished-begun}
-use Rattle.at_stepper.specs.KeptStepping.{AreCallersOn, IsAllPublished}
 use Rattle.at_stepper.proofs.stepper.Stepper.new.Goals as goal
 
 pub invariant_of-result : goal.invariant_of-result
 invariant_of-result c =
     let ledger : BoardTerms = c.in-Ok.memory.ledger in
-    let files = lists_in c.args.files.items in
+    let files = contents_of c.args.files.items in
     let made = c.run_of.ensures in
     record {
       callers =

@@ -1,7 +1,5 @@
 use Rattle.std.proofs.Common.{◌≡◌, ◌∙◌, ap, subst, sym}
-use Rattle.at_stepper.specs.KeptStepping.{run_in, stepper_terms}
-use Rattle.at_stepper.specs.Stepping.{StepperTerms, TurnsOne}
-use Rattle.at_stepper.specs.declared.progress.Progress.{Progress}
+use Rattle.at_stepper.proofs.Prelude.{run_in, stepper_terms, StepperTerms, TurnsOne, Progress}
 use Rattle.at_stepper.proofs.stepper.Stepper.turn.Goals as goal
 
 pub returns : goal.returns

@@ -1,12 +1,6 @@
 use Rattle.std.proofs.Common.{◌≡◌, ◌++◌, ◌∷◌, [], ap, length, refl, set, subst, sym, take, List, Some, ◌+◌}
 use Rattle.std.specs.Prelude.{IfSome}
-use Rattle.std.specs.Option.{option_map}
-use Rattle.at_ledger.specs.declared.call.Call.{Call}
-use Rattle.at_log.specs.Receipts.{calls_of}
-use Rattle.at_log.specs.declared.receipt.Receipt.{Receipt}
-use Rattle.at_object.specs.Passes.{IsPassOf}
-use Rattle.at_workers.specs.Costs.{CostTerms, IsCalled, cost_of, costs_with}
-use Rattle.at_workers.specs.Jobs.{HasCosts, JobTerms, MakesNext}
+use Rattle.at_workers.proofs.Prelude.{option_map, Call, calls_of, Receipt, IsPassOf, CostTerms, IsCalled, cost_of, costs_with, HasCosts, JobTerms, MakesNext}
 use Rattle.at_workers.proofs.Played.{HasCosts-noted, IsCallOn-next, IsJob-called, MakesNext-called, next-within}
 use Rattle.at_workers.proofs.job.Job.make_next.Goals.{in-None, in-Some}
 use Rattle.at_workers.proofs.job.Job.make_next.Goals as goal

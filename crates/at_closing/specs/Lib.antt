@@ -1,4 +1,0 @@
-pub mod InOrder
-pub mod BetweenCalls
-pub mod Left
-pub mod Standing

@@ -1,6 +1,0 @@
-use Rattle.std.proofs.Common.{◌≡◌, ◌++◌, flat_map, take}
-use Rattle.at_hledger.specs.LedgerText.{entry_text}
-use Rattle.at_hledger.proofs.text.push_entries.Given as goal
-
-abbrev pub invariant-loop-line : goal.invariant-loop-line
-invariant-loop-line l = l.out.items ≡ l.initial.out.items ++ flat_map (entry_text l.names) (take l.line-index l.lines)

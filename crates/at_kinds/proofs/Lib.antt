@@ -1,5 +1,0 @@
-pub mod CountLaws
-pub mod TextLaws
-pub mod SumLaws
-pub mod GroupLaws
-pub mod RightGroups

@@ -1,9 +1,0 @@
-use Rattle.std.proofs.Common.{◌≡◌, ◌<◌, All, take}
-use Rattle.at_ledger.specs.Book.{account_of}
-use Rattle.at_kinds.proofs.groups.owners_of.Given as goal
-
-abbrev pub invariant-loop-slot : goal.invariant-loop-slot
-invariant-loop-slot l = record {
-  owners : l.owners.items ≡ take l.slot (account_of l.book l.account).owners;
-  known : All (λ owner. owner < l.book.processes) l.owners.items;
-}

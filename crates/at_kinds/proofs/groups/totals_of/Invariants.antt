@@ -1,5 +1,0 @@
-use Rattle.at_kinds.specs.Totals.{AreTotals}
-use Rattle.at_kinds.proofs.groups.totals_of.Given as goal
-
-abbrev pub invariant-loop-account : goal.invariant-loop-account
-invariant-loop-account l = AreTotals l.book l.counts l.account l.totals

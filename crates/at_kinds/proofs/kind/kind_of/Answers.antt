@@ -1,6 +1,0 @@
-use Rattle.std.proofs.Common.{arith}
-use Rattle.std.proofs.lemmas.Grind.{common_steps}
-use Rattle.at_kinds.proofs.kind.kind_of.Goals as goal
-
-pub payment_kind-requires : goal.payment_kind-requires
-payment_kind-requires c = grind (arith, common_steps)

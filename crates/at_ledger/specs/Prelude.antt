@@ -1,0 +1,4 @@
+-- What this crate's contracts and definitions name of other crates, in one place.
+pub use Rattle.std.specs.Global.{Global}
+pub use Rattle.std.specs.List.{list_any, range_with_len, zip}
+pub use Rattle.std.specs.Option.{option_or}

@@ -1,0 +1,4 @@
+pub mod Prelude
+pub mod Logs
+pub mod Reading
+pub mod Draft

@@ -1,0 +1,4 @@
+pub mod Prelude
+pub mod Laws
+pub mod SharedLaws
+mod TurnLaws

@@ -1,0 +1,10 @@
+pub mod Prelude
+pub mod Standing
+pub mod Looks
+pub mod HelpingTerms
+pub mod Helpings
+pub mod Starting
+pub mod Unsettled
+pub mod HelpTurns
+pub mod PaymentTurns
+pub mod Settling

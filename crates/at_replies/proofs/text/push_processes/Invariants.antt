@@ -1,9 +1,0 @@
-use Rattle.std.proofs.Common.{◌≡◌, ◌++◌}
-use Rattle.at_ledger.specs.Files.{contents_of}
-use Rattle.at_report.specs.Records.{records_text}
-use Rattle.at_replies.specs.OrdersText.{replies_records}
-use Rattle.at_replies.proofs.text.push_processes.Given as goal
-
-abbrev pub invariant-loop-p : goal.invariant-loop-p
-invariant-loop-p l =
-    l.out.items ≡ l.initial.out.items ++ records_text (replies_records l.book l.names (contents_of l.files) (contents_of l.answers) l.p)

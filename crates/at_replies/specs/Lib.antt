@@ -1,2 +1,0 @@
-pub mod OrdersText
-pub mod Parted

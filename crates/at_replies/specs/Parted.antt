@@ -1,9 +1,0 @@
--- Words that go on in a field.
-use Rattle.std.specs.Prelude.{ℕ, Bool, true, false, List}
-use Rattle.std.specs.List.{join_with_byte}
-use Rattle.at_report.specs.Lines.{Words, spaced}
-
--- the words with a space between each two, and one before them where a word stands there
-abbrev pub parted : Bool → Words → List ℕ
-parted true words = spaced words
-parted false words = join_with_byte 32 words

@@ -1,6 +1,0 @@
-use Rattle.at_rows.specs.Oldest.{IsFirstBelow}
-use Rattle.at_rows.proofs.asked.oldest.Given as goal
-
--- the oldest so far
-abbrev pub invariant-loop-i : goal.invariant-loop-i
-invariant-loop-i l = IsFirstBelow l.asked l.done l.i l.first

@@ -1,6 +1,0 @@
--- The laws that crates above at_single cite, by what they are about: what a look tells of totals and of its seat, what it lets a receipt
--- and a payment be, and a payment that is published after it.
-pub mod Looks
-pub mod OwnRecords
-pub mod Paid
-pub mod Placed

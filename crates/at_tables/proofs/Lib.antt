@@ -1,0 +1,12 @@
+pub mod Prelude
+pub mod CountLaws
+pub mod KindsTextLaws
+pub mod SumLaws
+pub mod GroupLaws
+pub mod RightGroups
+-- no call that took a pass costs more than its bounds
+pub mod WithinLaws
+pub mod FieldLaws
+-- how many calls of each process the first turns have answered
+pub mod TurnCountLaws
+pub mod LedgerTextLaws

@@ -1,0 +1,16 @@
+pub mod Prelude
+pub mod Kinds
+pub mod Counting
+pub mod KindsText
+pub mod Groups
+pub mod GroupKeys
+pub mod Totals
+pub mod CallFields
+pub mod Sentence
+pub mod Bounds
+pub mod CostsText
+pub mod OrdersText
+pub mod Parted
+pub mod Addresses
+pub mod TraceText
+pub mod LedgerText

@@ -1,2 +1,0 @@
--- how many calls of each process the first turns have answered
-pub mod CountLaws
