@@ -1,6 +1,6 @@
 #!/bin/sh
 # Tests the release that `bindings/release.sh` has left: unpacked in a new folder, with an empty environment, a path on which rt isn't, and
-# from another folder, both programs and the examples in C, Rust and Python run, and the release's own program verifies their reports.
+# from another folder, the program and the examples in C, Rust and Python run, and the release's own program verifies their reports.
 set -eu
 cd "$(dirname "$0")/.."
 version=$(sed -n 's/^#define BEZGLAMI_VERSION //p' bindings/c/bezglami.h)
@@ -26,13 +26,13 @@ alone() {
 }
 
 examples=$release/examples
-alone "$release/bin/at_program" run "$examples/usual/book.csv" "$examples/usual/pay0.csv" | cmp - "$examples/usual/usual.report"
-alone "$release/bin/at_showing" kinds "$examples/usual/book.csv" "$examples/usual/pay0.csv" | cmp - "$examples/usual/usual.kinds"
-tried='both programs'
+alone "$release/bin/bezglami" run "$examples/usual/book.csv" "$examples/usual/pay0.csv" | cmp - "$examples/usual/usual.report"
+alone "$release/bin/bezglami" kinds "$examples/usual/book.csv" "$examples/usual/pay0.csv" | cmp - "$examples/usual/usual.kinds"
+tried='the program'
 
 # Whether the release's program says that the file `report` is one of a run of these files.
 verified() {
-    [ "$(alone "$release/bin/at_program" verify "$1" report "$2" "$3")" = "verified $(sed -n '1s/journal //p' report)" ]
+    [ "$(alone "$release/bin/bezglami" verify "$1" report "$2" "$3")" = "verified $(sed -n '1s/journal //p' report)" ]
 }
 
 short=$examples/short

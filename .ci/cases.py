@@ -2,9 +2,8 @@
 """Tries the built programs on the tables of cases in `tables/`, as many at once as there are processors.
 
     cases.py [TABLE [WORD]]    all tables, one of them, or of that the cases with this word in their names
-        --program PATH         the programs that are tried are crates/at_program/out/at_program, crates/at_showing/out/at_showing and
-        --second PATH          crates/at_example/out/at_example, where no other is named
-        --example PATH
+        --program PATH         the programs that are tried are crates/at_program/out/at_program and crates/at_example/out/at_example,
+        --example PATH         where no other is named
         --list                 only prints the names of the cases
 
 A table NAME is the rows of `tables/NAME.txt`, the cases that `tables/NAME.py` makes, or both. `tables/numbers.txt` says how many cases it
@@ -95,7 +94,7 @@ def main():
     parser = argparse.ArgumentParser(description="Tries the built programs on tables of cases.")
     for name in ("table", "word"):
         parser.add_argument(name, nargs="?")
-    for name, program in (("--program", "at_program"), ("--second", "at_showing"), ("--example", "at_example")):
+    for name, program in (("--program", "at_program"), ("--example", "at_example")):
         parser.add_argument(name, default=trying.PATHS[program], dest=program)
     parser.add_argument("--list", action="store_true")
     asked = parser.parse_args()
@@ -105,7 +104,7 @@ def main():
         return 0
     if not CASES:
         sys.exit("cases.py: no such case")
-    for program in ("at_program", "at_showing", "at_example"):
+    for program in ("at_program", "at_example"):
         trying.PATHS[program] = Path(getattr(asked, program)).resolve()
     with tempfile.TemporaryDirectory() as path:
         shim.build(path)

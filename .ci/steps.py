@@ -112,7 +112,7 @@ class Check:
                 self.say(where, named, "of a library on which the crate doesn't stand")
             self.path(crate, where, named, named.path)
         for named in file.paths:
-            if named.path[0] == "":
+            if named.path[0] == "" and not (len(named.path) == 2 and named.path[1][:1].isupper()):
                 self.say(where, named, "a function of a type in < >")
             for known in meanings.get(named.path[0], [named.path[:1]] if named.path[1:] else []):
                 self.path(crate, where, named, known + named.path[1:])

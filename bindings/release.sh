@@ -1,5 +1,5 @@
 #!/bin/sh
-# Leaves a release in out/, from what `bezglami build` has left: one folder with the two programs, the libraries, the header, the bindings,
+# Leaves a release in out/, from what `bezglami build` has left: one folder with the program, the libraries, the header, the bindings,
 # the examples and the licences, and the same as a tar.gz. Who has the folder needs the C library, and no toolchain of Rattle.
 set -eu
 root=$(CDPATH='' cd -- "$(dirname -- "$0")/.." && pwd)
@@ -39,11 +39,11 @@ copy_licences() {
     {
         echo '# Licences of what is linked'
         echo
-        echo 'The programs and the libraries stand on these libraries of the toolchain, each with the licence files that it has there.'
+        echo 'The program and the libraries stand on these libraries of the toolchain, each with the licence files that it has there.'
         echo
         echo '| library | licence files |'
         echo '|---|---|'
-        for used in $(linked_below at_c at_program at_showing); do
+        for used in $(linked_below at_c at_program); do
             files=
             for file in "$kit/rattle/$used"/LICEN[CS]E* "$kit/rattle/$used"/COPYING* "$kit/rattle/$used"/NOTICE*; do
                 [ -f "$file" ] || continue
@@ -66,8 +66,7 @@ The asset transfer object: a payment ledger that no thread waits for. This folde
 
 | here | what it is |
 |---|---|
-| \`bin/at_program\` | the program: \`run\`, \`check\`, \`make\`, \`replay\`, \`agree\`, \`deliver\`, \`verify\` |
-| \`bin/at_showing\` | the second program: \`kinds\`, \`costs\`, \`orders\`, \`ledger\`, \`trace\`, \`show\` |
+| \`bin/bezglami\` | the program; it prints its commands where it is given no word |
 | \`include/bezglami.h\` | the header of the library for C |
 | \`lib/libbezglami.a\`, \`lib/libbezglami.so\` | the library, static and shared |
 | \`bindings/c\`, \`bindings/rust\`, \`bindings/python\` | examples in C, a crate, and a module |
@@ -78,7 +77,7 @@ The asset transfer object: a payment ledger that no thread waits for. This folde
 Each of these runs in this folder:
 
 \`\`\`
-bin/at_program run examples/household/book.csv examples/household/ann.csv examples/household/bob.csv
+bin/bezglami run examples/household/book.csv examples/household/ann.csv examples/household/bob.csv
 cc -std=c11 -pthread -Iinclude bindings/c/short.c lib/libbezglami.a -o short && ./short
 cc -std=c11 -pthread -Iinclude bindings/c/short.c -Llib -lbezglami -Wl,-rpath,"\$PWD/lib" -o shared && ./shared
 cc -std=c11 -pthread -Iinclude bindings/c/example.c lib/libbezglami.a -o example
@@ -90,7 +89,7 @@ python3 bindings/python/example.py
 Each of them prints its report to the output, and all else to the error output. The program tells whether such a report is one of a legal run:
 
 \`\`\`
-./short >report && bin/at_program verify examples/short/book.csv report examples/short/ann.csv examples/short/bob.csv
+./short >report && bin/bezglami verify examples/short/book.csv report examples/short/ann.csv examples/short/bob.csv
 \`\`\`
 END
 }
@@ -98,7 +97,7 @@ END
 rm -rf -- "$release" "$release.tar.gz"
 mkdir -p -- "$release/bin" "$release/docs" "$release/include" "$release/licences"
 "$root/bindings/libraries.sh" "$release/lib"
-cp -- "$root/crates/at_program/out/at_program" "$root/crates/at_showing/out/at_showing" "$release/bin/"
+cp -- "$root/crates/at_program/out/at_program" "$release/bin/bezglami"
 cp -- "$root/bindings/c/bezglami.h" "$release/include/"
 for guide in bindings formats rust python; do cp -- "$root/docs/$guide.md" "$release/docs/"; done
 git -C "$root" ls-files bindings/c bindings/rust bindings/python examples | grep -v -e '\.h$' -e '/test\.c$' | (cd -- "$root" && tar -cf - -T -) | tar -xf - -C "$release"

@@ -14,13 +14,13 @@ EVERYWHERE = paths("""
     std::cmp::Reverse std::fmt::Debug std::fmt::Display std::hash::Hash std::hash::Hasher std::mem::drop std::mem::replace
     std::collections::BTreeMap std::collections::BTreeMap::new std::collections::BTreeSet std::collections::BTreeSet::new
     std::collections::HashSet std::collections::HashSet::new std::collections::LinkedList
-    std::collections::VecDeque std::collections::VecDeque::from
+    std::collections::VecDeque std::collections::VecDeque::from std::marker::PhantomData
     arrayvec::ArrayVec arrayvec::ArrayVec::from arrayvec::ArrayVec::new itoa::Buffer::new
 """)
 
 # The crates that name nothing more.
 PLAIN = """
-    at_base at_broadcast at_calling at_fold at_history at_loading at_log at_logs at_machines at_object at_pages at_payments at_requests at_snapshot
+    at_base at_broadcast at_calling at_fold at_history at_log at_logs at_machines at_object at_pages at_payments at_requests at_snapshot
     at_stepper at_tables at_verify
 """.split()
 
@@ -30,7 +30,7 @@ PATHS = [
     (["at_board"], paths("""
         atomic_table::Closed atomic_table::Join atomic_table::Play atomic_table::Seat atomic_table::Shared atomic_table::Split
         atomic_table::Table atomic_table::Table::of_words atomic_table::TableRule
-        std::marker::Brand std::marker::PhantomData
+        std::marker::Brand
         std::sync::atomic::Ordering::SeqCst std::sync::atomic::raw std::sync::atomic::raw::load
     """)),
     # The places of at_c, and what its callers hold of one ledger. Programs in C bring their own threads.
@@ -48,10 +48,10 @@ PATHS = [
     # The outer world.
     (["at_io"], paths("std::fs std::fs::open std::io std::io::Read std::io::Write std::rt::Files")),
     (["at_commands"], paths("std::env::args std::io std::io::ErrorKind::OutOfMemory std::rt::Env")),
-    (["at_program", "at_showing"], paths("std::mem std::mem::forget std::process::ExitCode std::process::ExitCode::from")),
+    (["at_program"], paths("std::mem std::mem::forget std::process::ExitCode std::process::ExitCode::from")),
     (["at_example"], paths("anyhow::Result std::io std::io::Result")),
     # Threads that are started and joined by one call of std.
-    (["at_agree", "at_commands", "at_example", "at_journal", "at_program", "at_report", "at_shows", "at_workers"],
+    (["at_agree", "at_commands", "at_example", "at_journal", "at_program", "at_report", "at_workers"],
      paths("std::thread::Threads")),
     (["at_agree", "at_workers"], paths("std::thread::for_each_mut")),
     (["at_commands"], paths("std::thread::join_mut std::thread::map_vec")),
@@ -64,7 +64,7 @@ UNNAMED = {"at_object": ["atomic_table"], "at_c": ["atomic_table", "core", "std_
 # What needs no import.
 PRELUDE = set("""
     Box Option Result Some None Ok Err String Vec AllocGlobal HostRuntime Print
-    Copy Clone Debug Default Drop Eq From Hash Ord PartialEq PartialOrd Send Sync
+    Copy Clone Debug Default Drop Eq FnOnce From Hash Ord PartialEq PartialOrd Send Sync
 """.split())
 
 # What std and the kit name within a path, and their methods.
@@ -121,8 +121,8 @@ ONCE = {"turn", "Arc::new", "try_clone", "try_unwrap", "Board::new", "Ledger::ne
 # What makes a seat of each process, and gathers them, before and after all steps. And words that mean other things in these.
 FREE = {
     "at_board/deal.rt deal", "at_board/close.rt gather",
-    "at_broadcast/node.rt deliver", "at_broadcast/progress.rt store", "at_commands/verifying.rt claim_text", "at_pages/curves.rt publishing_turn",
-    "at_pages/loads.rt first_load", "at_shows/answering.rt view_printed",
+    "at_broadcast/node.rt deliver", "at_broadcast/progress.rt store", "at_commands/commanding.rt command_text",
+    "at_pages/curves.rt publishing_turn", "at_pages/loads.rt first_load",
 }
 
 # Each function that has such words, and these in their order; - is what stands in no function.
@@ -208,11 +208,11 @@ PLACES = """
     at_agree/agreement.rt propose_all: for_each_mut
     at_agree/council.rt new: Ledger::new
     at_workers/running.rt run_all: for_each_mut
+    at_commands/commanding.rt command_text: load
     at_commands/opening.rt open: Ledger::new
     at_commands/opening.rt open_and_load: join_mut
     at_commands/playing.rt closed_after: Ledger::new
     at_commands/playing.rt jobs_for: map_vec
-    at_commands/verifying.rt claim_text: load
     at_example/main.rt closed_after: Ledger::new
     at_broadcast/node.rt deliver: store
     at_broadcast/progress.rt settle: while
@@ -229,5 +229,4 @@ PLACES = """
     at_report/by_threads.rt halves: join
     at_report/by_threads.rt quarters: join
     at_report/by_threads.rt report_in_pieces: join
-    at_shows/answering.rt view_printed: load
 """

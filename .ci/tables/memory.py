@@ -144,7 +144,7 @@ def cases():
         ("ledger", "ledger", *usual),
         ("trace", "trace", *helping),
         ("show", "show", *helping),
-        ("a refusal of the second program", "kinds", *bad),
+        ("a refusal of a command that shows", "kinds", *bad),
     ):
         yield Case(name, tried, words)
     yield Case("run, of two processes", two_processes, "run")

@@ -82,4 +82,4 @@ def cases():
     yield Case("an output that closes early", closes)
     yield Case("an error output that is full", full_errors)
     yield Case("too little memory", little, "run")
-    yield Case("too little memory for the second program", little, "kinds")
+    yield Case("too little memory for a command that shows", little, "kinds")

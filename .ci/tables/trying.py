@@ -17,9 +17,7 @@ TYPED = b"read,0\n"
 SECONDS = 300
 
 # The programs, where the runner has no other words, and the library of `shim.py`, once that is built.
-PATHS = {name: ROOT / "crates" / name / "out" / name for name in ("at_program", "at_showing", "at_example")}
-# The commands of the second program.
-SECOND = {b"kinds", b"costs", b"orders", b"ledger", b"trace", b"show"}
+PATHS = {name: ROOT / "crates" / name / "out" / name for name in ("at_program", "at_example")}
 
 Answer = namedtuple("Answer", "status out err")
 
@@ -37,13 +35,6 @@ class Case:
 
     def __init__(self, name, tries, *given):
         self.name, self.tries, self.given = name, tries, given
-
-
-def program_of(words):
-    """The program that these words are for, and its words."""
-    if words[:1] == [b"SECOND"]:
-        return PATHS["at_showing"], words[1:]
-    return PATHS["at_showing" if words[:1] and words[0] in SECOND else "at_program"], words
 
 
 class Folder:
@@ -68,14 +59,12 @@ class Folder:
         """Runs a command, and gives its status and both streams. Its standard input is `typed`, or else a pipe, which it has to leave
         alone. `memory` limits the address space, in KiB."""
         words = [bytes_of(word) for word in words]
-        if program is None:
-            program, words = program_of(words)
         limit = memory and (lambda: resource.setrlimit(resource.RLIMIT_AS, (memory * 1024, memory * 1024)))
         surroundings = {name: str(value) for name, value in surroundings.items()}
         with standard_input(typed) as given:
             try:
                 ended = subprocess.run(
-                    [program, *words], cwd=self.path, stdin=given, stdout=out, stderr=err, timeout=SECONDS, check=False,
+                    [program or PATHS["at_program"], *words], cwd=self.path, stdin=given, stdout=out, stderr=err, timeout=SECONDS, check=False,
                     preexec_fn=limit, env={**os.environ, **surroundings},
                 )
             except subprocess.TimeoutExpired:

@@ -1,5 +1,7 @@
 pub mod Prelude
 pub mod Laws
+mod ValueLaws
+mod CountLaws
 pub mod JobsMade
 pub mod JobsAsked
 pub mod JobsRun
@@ -12,6 +14,6 @@ pub mod SettledSteps
 pub mod SettledRuns
 pub mod DrawnCalls
 pub mod GeneratedRuns
-pub mod LoadedTexts
-pub mod Endings
+pub mod Deliveries
+pub mod PlayedCosts
 pub mod PieceLaws

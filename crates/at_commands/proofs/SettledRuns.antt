@@ -1,6 +1,7 @@
 -- Runs in which the balances and the room cover all calls: each transfer is done, and each account is left with its credits and without its debits.
 use Rattle.std.proofs.Common.{◌≡◌, ◌∙◌, ℕ, ◌+◌, ◌<◌, ◌≤◌, Bool, true, false, not, cond, ◌==◌, List, [], ◌∷◌, map, length, All, sum_by, count_by, refl, ap, arith}
-use Rattle.at_commands.proofs.Prelude.{eq-eqb, All-cons, All-head, All-nil, All-tail, sum_by-cons, BookTerms, LedgerState, Step, asked_of, balance_of, sent_of, step, Run, asked_in, run_after, run_from, Line, Done, run_from-cons, run_from-nil, done_in, is_done_reply, is_read, call_credit, call_debit}
+use Rattle.at_commands.proofs.Prelude.{eq-eqb, All-cons, All-head, All-nil, All-tail, sum_by-cons, BookTerms, LedgerState, Step, asked_of, balance_of, sent_of, step, Run, asked_in, run_after, run_from, Line, run_from-cons, run_from-nil, done_in, is_done_reply, is_read, call_credit, call_debit}
+use Rattle.at_ledger.specs.declared.call.Reply.TheVariants.{Done}
 use Rattle.at_commands.proofs.SettledSteps.{IsDoneStep, IsDoneStep-step, IsMoved, IsOwnCall, IsSized, MayStep}
 
 -- the lines of one process, and the debits of an account, among these

@@ -1,6 +1,7 @@
 -- One call whose source and room cover it: a transfer is done, and moves its amount.
 use Rattle.std.proofs.Common.{◌≡◌, ◌∙◌, ℕ, ◌+◌, ◌-◌, ◌*◌, ◌<◌, ◌≤◌, Bool, true, false, not, cond, ◌==◌, nat_lt, List, [], ◌∷◌, length, get_or, set, refl, sym, ap, arith, inl, inr, length-set}
-use Rattle.at_commands.proofs.Prelude.{and_right, cases_eq, cond_both, eq-eqb, eqb-true, le-ltb, ne_eqb, or_from, get_or-set_other, get_or-set_same, mul-add-lt, same_from_place, mul_comm, is_shared, BookTerms, account_of, is_owner, LedgerState, Step, after_done, asked_of, asked_position, balance_of, is_full, moved, pay, sent_of, step, with_asked, with_sent, credited, Call, Transfer, Read, Pay, Done, is_done_reply, is_read, call_credit, call_debit}
+use Rattle.at_commands.proofs.Prelude.{and_right, cases_eq, cond_both, eq-eqb, eqb-true, le-ltb, ne_eqb, or_from, get_or-set_other, get_or-set_same, mul-add-lt, same_from_place, mul_comm, is_shared, BookTerms, account_of, is_owner, LedgerState, Step, after_done, asked_of, asked_position, balance_of, is_full, moved, pay, sent_of, step, with_asked, with_sent, credited, Call, Transfer, Read, Pay, is_done_reply, is_read, call_credit, call_debit}
+use Rattle.at_ledger.specs.declared.call.Reply.TheVariants.{Done}
 
 -- the call moves what its process owns, between accounts that are there
 abbrev pub IsOwnCall : BookTerms → ℕ → Call → Type 0

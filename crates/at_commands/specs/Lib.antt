@@ -1,6 +1,14 @@
 pub mod Prelude
+pub mod Limits
+pub mod Words
+pub mod Loading
+pub mod Faults
+pub mod Counting
 pub mod Outcome
 pub mod Writing
+pub mod Commands
+pub mod Forms
+pub mod Commanding
 pub mod Generator
 pub mod Running
 pub mod Asking
@@ -11,4 +19,7 @@ pub mod Claims
 pub mod Nodes
 pub mod Delivering
 pub mod Replaying
-pub mod Answered
+pub mod Tracing
+pub mod Picturing
+pub mod Views
+pub mod Table

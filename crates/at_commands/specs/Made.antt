@@ -1,7 +1,9 @@
 -- What `make` prints: openings, credits and debits, whatever the order of the calls.
-use Rattle.std.specs.Prelude.{◌≡◌, ℕ, ◌+◌, ◌-◌, ◌==◌, false, not, All, List, length, map, sum_by, if◌then◌else◌, Option, Some}
-use Rattle.at_commands.specs.Prelude.{range_with_len, BookTerms, account_of, amount_of, LedgerState, opening_state, Legal, Whole, Call, Transfer, Read, Pay, Line, ClosedTerms, is_read, summary_of, summary_text, Making}
+use Rattle.std.specs.Prelude.{◌≡◌, ℕ, ⊤, ◌+◌, ◌-◌, ◌==◌, false, not, All, List, length, map, sum_by, if◌then◌else◌, Option, Some}
+use Rattle.at_commands.specs.Prelude.{range_with_len, BookTerms, account_of, amount_of, LedgerState, opening_state, Legal, Whole, Call, Transfer, Read, Pay, Line, ClosedTerms, is_read, summary_of, summary_text}
+use Rattle.at_commands.specs.declared.numbers.Making.{Making}
 use Rattle.at_ledger.specs.declared.call.Reply.TheVariants.{Done}
+use Rattle.at_commands.specs.Commands.{Promise, unread_promise}
 use Rattle.at_commands.specs.Generator.{book_made, files_made}
 use Rattle.at_commands.specs.Running.{IsClosedAfter, journal_of}
 
@@ -69,3 +71,13 @@ pub record SummarizesRun (m : Making) (kept : Option ClosedTerms) : Type 0 where
   pub whole : Whole (files_made m.first m.processes m.calls) (journal_of closed)
   pub legal : Legal (book_made m.processes m.calls) (journal_of closed)
   pub summed : made m.first m.processes m.calls ≡ summary_text (book_made m.processes m.calls) (journal_of closed) m.first m.calls
+
+-- the text is that of the numbers: the summary of every legal run of their calls, whatever its order. It is that of the run that was made
+pub record PrintsMade (m : Making) (kept : Option ClosedTerms) (text : List ℕ) : Type 0 where
+  pub printed : text ≡ made m.first m.processes m.calls
+  pub all : IsMade m.first m.processes m.calls text
+  pub ran : SummarizesRun m kept
+
+-- what `make` promises of its three numbers
+abbrev pub make_promise : Making → Promise ⊤
+make_promise m = unread_promise (PrintsMade m)

@@ -1,11 +1,12 @@
 -- Nodes, each of which is given the messages that a list of deliveries names for it.
 use Rattle.std.specs.Prelude.{◌≡◌, ℕ, ◌<◌, ◌≤◌, Bool, ◌&&◌, ◌==◌, List, length, map, All, slice_index_or, Option, Some, None, if◌then◌else◌}
-use Rattle.at_commands.specs.Prelude.{list_any, singles_of, IsMessageOn, MessageList, message_of, IsNode, NodeState, ShowsBalances, IsClosed, Message, most_messages, Delivery, BookTerms, nodes_text, LoadedOf}
+use Rattle.at_commands.specs.Prelude.{list_any, singles_of, IsMessageOn, MessageList, message_of, IsNode, NodeState, ShowsBalances, IsClosed, Message, most_messages, Delivery, BookTerms, nodes_text}
+use Rattle.at_commands.specs.Loading.{LoadedOf}
+use Rattle.at_commands.specs.Forms.{FurtherOf}
 
 -- a book, the messages of each process, and the deliveries
-pub record Broadcast : Type 0 where
-  pub sent : LoadedOf Message
-  pub deliveries : List Delivery
+abbrev pub Broadcast : Type 0
+Broadcast = FurtherOf Message Delivery
 
 -- how many messages each process has
 abbrev pub counts_of : LoadedOf Message → List ℕ
@@ -40,8 +41,8 @@ AreNodesOf l deliveries nodes = (i : ℕ) (s : NodeState) → i < length nodes �
 -- the text is the output of a node for each process
 pub record PrintsNodes (c : Broadcast) (text : List ℕ) : Type 0 where
   pub nodes : List NodeState
-  pub count : length nodes ≡ c.sent.book.processes
-  pub are : AreNodesOf c.sent c.deliveries nodes
+  pub count : length nodes ≡ c.what.book.processes
+  pub are : AreNodesOf c.what c.further nodes
   pub printed : text ≡ nodes_text nodes
 
 -- messages of one process that can be delivered beside the book

@@ -1,22 +1,34 @@
 //! What is answered of what the words ask, and the line of a refusal.
 
 ghost use Rattle.std.specs.Prelude.{◌≡◌, ◌≢◌, ◌≤◌, true, None, option_map, IfSome};
-ghost use Rattle.at_commands.specs.Answered.{Leaves, LeavesNoLedger, ReadsNothing};
+ghost use Rattle.at_commands.specs.Commanding.{Does};
+ghost use Rattle.at_commands.specs.Outcome.{found, outcome};
+ghost use Rattle.at_commands.specs.Prelude.{Rose, SameFiles};
+ghost use Rattle.at_commands.specs.Table.{Leaves, LeavesNoLedger, ReadsNothing, promised};
+ghost use Rattle.at_commands.specs.Words.{IsWithinLimits, Wanted, asked_shown, form_shown, further_shown};
 ghost use Rattle.at_commands.specs.Writing.{TookLine};
-ghost use Rattle.at_commands.specs.Prelude.{Rose, SameFiles, IsWithinLimits, asked_shown};
 
 use crate::agreeing::answer_agree;
-use crate::delivering::answer_deliver;
+use crate::asked::Asked;
+use crate::beside::{Beside, Further};
+use crate::checking::Check;
+use crate::commanding::answer_command;
+use crate::delivering::Delivering;
 use crate::making::answer_make;
-use crate::replaying::{ReplayReport, answer_turns};
-use crate::running::answer_files;
-use crate::verifying::answer_verify;
+use crate::over::Over;
+use crate::picturing::Page;
+use crate::replaying::{InTurns, ReplayReport};
+use crate::running::answer_run;
+use crate::tracing::Trace;
+use crate::verifying::Verifying;
+use crate::views::{Kinds, Orders, answer_costs, answer_ledger};
+use crate::words::{Form, FormCommand, FurtherCommand, FurtherForm, USAGE};
 use at_io::{Shelf, Sink, put_all};
-use at_loading::Asked;
 use at_object::Closed;
 use at_report::{Status, UsageFault, fault_text};
 use at_workers::Gate;
 use std::alloc::Global;
+use std::marker::PhantomData;
 use std::thread::Threads;
 
 /// Writes the line of a refusal. A fault of the sink changes nothing: there is nobody left to tell.
@@ -28,7 +40,113 @@ pub fn tell<E: Sink>(err: &mut E, status: &Status)
         → TookLine status.now (E.faults err.old) (E.faults err.new) (E.taken err.old)
         (E.taken err.new) }
 {
-    let _ = put_all(err, fault_text(status).as_slice());
+    let _ = put_all(err, fault_text(USAGE, status).as_slice());
+}
+
+/// Does what the words of a command ask that reads a book and payments.
+fn answer_form<R: Threads + Sync, F: Shelf, O: Sink, G: Gate + Sync>(
+    rt: &R,
+    alloc: Global,
+    shelf: &mut F,
+    out: &mut O,
+    command: FormCommand,
+    form: &Form<'_>,
+    gate: &G,
+    kept: &mut Option<Closed>,
+) -> Status
+    ensures { Does (promised (Wanted.Files command (form_shown form.now))).promise F.tells F.file
+        F.faults O.tells O.taken O.faults shelf.old shelf.new out.old out.new kept.old kept.new
+        result }
+{
+    let form = *form;
+    match command {
+        FormCommand::Run => answer_run(rt, alloc, shelf, out, &form, gate, kept),
+        FormCommand::Check => answer_command(rt, alloc, shelf, out, &Check { form }, kept),
+        FormCommand::Kinds => {
+            answer_command(rt, alloc, shelf, out, &Over { form, own: Kinds }, kept)
+        }
+        FormCommand::Orders => {
+            answer_command(rt, alloc, shelf, out, &Over { form, own: Orders }, kept)
+        }
+        FormCommand::Costs => answer_costs(rt, alloc, shelf, out, &form, gate, kept),
+        FormCommand::Ledger => answer_ledger(rt, alloc, shelf, out, &form, gate, kept),
+    }
+}
+
+/// The words of a command that reads one further file.
+fn beside<'a, X: Further>(form: &FurtherForm<'a>) -> Beside<'a, X>
+    ensures { result.form ≡ form.now }
+{
+    Beside {
+        form: *form,
+        of: PhantomData,
+    }
+}
+
+/// Does what the words of a command ask that reads one further file.
+fn answer_further<R: Threads + Sync, F: Shelf, O: Sink>(
+    rt: &R,
+    alloc: Global,
+    shelf: &mut F,
+    out: &mut O,
+    command: FurtherCommand,
+    form: &FurtherForm<'_>,
+    kept: &mut Option<Closed>,
+) -> Status
+    ensures { Does (promised (Wanted.Further command (further_shown form.now))).promise F.tells F.file
+        F.faults O.tells O.taken O.faults shelf.old shelf.new out.old out.new kept.old kept.new
+        result }
+{
+    match command {
+        FurtherCommand::Replay => {
+            answer_command(
+                rt,
+                alloc,
+                shelf,
+                out,
+                &beside::<InTurns<ReplayReport>>(form),
+                kept,
+            )
+        }
+        FurtherCommand::Trace => {
+            answer_command(rt, alloc, shelf, out, &beside::<InTurns<Trace>>(form), kept)
+        }
+        FurtherCommand::Show => {
+            answer_command(rt, alloc, shelf, out, &beside::<InTurns<Page>>(form), kept)
+        }
+        FurtherCommand::Verify => {
+            answer_command(rt, alloc, shelf, out, &beside::<Verifying>(form), kept)
+        }
+        FurtherCommand::Deliver => {
+            answer_command(rt, alloc, shelf, out, &beside::<Delivering>(form), kept)
+        }
+    }
+}
+
+/// Does what was asked.
+fn answer_asked<R: Threads + Sync, F: Shelf, O: Sink, G: Gate + Sync>(
+    rt: &R,
+    alloc: Global,
+    asked: &Asked<'_>,
+    shelf: &mut F,
+    out: &mut O,
+    gate: &G,
+    kept: &mut Option<Closed>,
+) -> Status
+    requires { IsWithinLimits (asked_shown asked.now) }
+    ensures { Does (promised (asked_shown asked.now)).promise F.tells F.file F.faults O.tells O.taken
+        O.faults shelf.old shelf.new out.old out.new kept.old kept.new result }
+{
+    match asked {
+        Asked::Files { command, form } => {
+            answer_form(rt, alloc, shelf, out, *command, form, gate, kept)
+        }
+        Asked::Further { command, form } => {
+            answer_further(rt, alloc, shelf, out, *command, form, kept)
+        }
+        Asked::Make(making) => answer_make(rt, alloc, shelf, out, *making, gate, kept),
+        Asked::Agree(values) => answer_agree(rt, alloc, shelf, out, values.as_slice(), kept),
+    }
 }
 
 /// Does what was asked, and tells nobody of a refusal. Where nothing was, the words are refused.
@@ -51,21 +169,8 @@ pub fn answer<R: Threads + Sync, F: Shelf, O: Sink, G: Gate + Sync>(
     ensures unread { ReadsNothing (option_map asked_shown asked.now) → shelf.new ≡ shelf.old }
     ensures no_ledger { LeavesNoLedger (option_map asked_shown asked.now) → kept.new ≡ None }
     ensures answered { Leaves (option_map asked_shown asked.now)
-        (record {
-          tells = F.tells shelf.old;
-          files = F.file shelf.old;
-          faults = F.faults shelf.old;
-          faults_now = F.faults shelf.new;
-        })
-        (record {
-          tells = O.tells out.old;
-          before = O.taken out.old;
-          after = O.taken out.new;
-          faults = O.faults out.old;
-          faults_now = O.faults out.new;
-          kept = kept.new;
-          answer = result;
-        }) }
+        (found F.tells F.file F.faults shelf.old shelf.new)
+        (outcome O.tells O.taken O.faults out.old out.new kept.new result) }
     ensures done_kept { result ≡ Status.Done
         → (F.faults shelf.new ≡ F.faults shelf.old) × (O.faults out.new ≡ O.faults out.old) }
     ensures write_fault { result ≡ Status.WriteFault
@@ -75,11 +180,6 @@ pub fn answer<R: Threads + Sync, F: Shelf, O: Sink, G: Gate + Sync>(
 {
     match asked {
         None => Status::Usage(UsageFault::Words),
-        Some(Asked::Files(form)) => answer_files(rt, alloc, shelf, out, form, gate, kept),
-        Some(Asked::Verify(asked)) => answer_verify(alloc, shelf, out, asked),
-        Some(Asked::Deliver(asked)) => answer_deliver(alloc, shelf, out, asked),
-        Some(Asked::Replay(asked)) => answer_turns::<F, O, ReplayReport>(alloc, shelf, out, asked),
-        Some(Asked::Make(making)) => answer_make(rt, alloc, *making, out, gate, kept),
-        Some(Asked::Agree(values)) => answer_agree(rt, alloc, values.as_slice(), out, kept),
+        Some(asked) => answer_asked(rt, alloc, asked, shelf, out, gate, kept),
     }
 }

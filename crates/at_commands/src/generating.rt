@@ -1,7 +1,8 @@
 //! The book and the calls that a number gives.
 
 ghost use Rattle.std.specs.Prelude.{◌≡◌, ◌+◌, ◌*◌, ◌<◌, ◌≤◌, None, length, All, IfOk, OnOk};
-ghost use Rattle.at_commands.specs.Prelude.{IsPlayable, contents_of, MayMake, most_made_processes, range_with_len, IsBook, account_fault, terms_with, with_account};
+ghost use Rattle.at_commands.specs.Prelude.{IsPlayable, contents_of, range_with_len, IsBook, account_fault, terms_with, with_account};
+ghost use Rattle.at_commands.specs.Limits.{MayMake, most_made_processes};
 ghost use Rattle.at_commands.specs.Generator.{book_of_own_accounts, book_made, call_drawn, calls_drawn, drawn, files_made, next_state, state_after_call, state_after_calls};
 ghost use Rattle.at_commands.specs.Made.{AllDone, AllSum, made};
 

@@ -1,30 +1,43 @@
-//! What each command answers: its text from what its files hold, or from the numbers among its words, and the refusal
-//! that comes in its place.
+//! The commands: what words ask, what the files that they name hold, and what is printed of it, or why nothing is.
 //!
-//! `answer` does what the words ask: it calls `answer_files` for `run` and `check`, and the call of its name for each other
-//! command. Each makes its whole text first, and ends by writing it (`end`). `tell` writes the line of a refusal.
-//!
-//! Whoever adds commands of its own has the same calls: `words_given`, `play`, which runs files, `play_noting`, which
-//! notes what each call cost too, `end_keeping`, and `answer_turns`, which plays a schedule.
+//! `asked_by` gives the words their meaning, and `answer` does what they ask. A command is a value (`Command`): it says what it promises,
+//! and loads what its files hold; one that reads a book and payments is `Over` these, and one that reads a further file is `Beside` them.
+//! The table of what each of them promises stands in the definition `promised`. The whole text is made before the first of it is written.
+//! `tell` writes the line of a refusal.
 #![tactic(auto)]
 
 mod agreeing;
 mod answering;
+mod asked;
+mod beside;
+mod checking;
 mod closing_journal;
+mod commanding;
+mod counting;
 mod delivering;
 mod ending;
+mod file_forms;
 mod generating;
 mod given;
+mod loading;
 mod making;
 mod nodes;
+mod numbers;
 mod opening;
+mod over;
+mod picturing;
 mod playing;
 mod replaying;
 mod running;
+mod tracing;
 mod verifying;
+mod views;
+mod words;
 
 pub use crate::answering::{answer, tell};
-pub use crate::ending::{Printed, end_keeping};
+pub use crate::asked::{Asked, asked_by};
 pub use crate::given::words_given;
-pub use crate::playing::{play, play_noting};
-pub use crate::replaying::{TurnsText, answer_turns};
+pub use crate::numbers::{
+    MADE_CALLS_MAX, MADE_PROCESSES_MAX, Making, VALUE_MAX, VALUES_MAX, VALUES_MIN, Values,
+};
+pub use crate::words::{Form, FormCommand, FurtherCommand, FurtherForm};

@@ -1,20 +1,50 @@
-//! What `make` answers.
+//! What `make` prints.
 
-ghost use Rattle.std.specs.Prelude.{◌≡◌, ◌≢◌, ◌≤◌, None, IfOk};
-ghost use Rattle.at_commands.specs.Answered.{AnsweredMake};
-ghost use Rattle.at_commands.specs.Made.{IsMade, SummarizesRun, made};
-ghost use Rattle.at_commands.specs.Prelude.{Rose, MayMake};
+ghost use Rattle.std.specs.Prelude.{◌≡◌, ⊤, IfOk, IfErr};
+ghost use Rattle.at_commands.specs.Commanding.{Does};
+ghost use Rattle.at_commands.specs.Made.{PrintsMade, make_promise};
+ghost use Rattle.at_commands.specs.Limits.{MayMake};
 
-use crate::ending::{Printed, end_keeping};
+use crate::commanding::{Command, answer_by};
+use crate::ending::Printed;
 use crate::generating::{Made, generate};
+use crate::numbers::Making;
 use crate::playing::play;
-use at_io::Sink;
-use at_loading::Making;
+use at_io::{Shelf, Sink};
 use at_object::Closed;
-use at_report::{Pieces, Status, summary};
+use at_report::{Status, summary};
 use at_workers::Gate;
-use std::alloc::{AllocError, Global};
+use std::alloc::Global;
 use std::thread::Threads;
+
+/// The numbers of `make`.
+#[derive(Drop)]
+pub(crate) struct Make {
+    making: Making,
+}
+
+impl Command for Make {
+    type Loaded = ();
+
+    ghost What = { ⊤ };
+
+    ghost shown = { λ l. tt };
+
+    ghost known = { λ l. ⊤ };
+
+    ghost promise = { λ s. make_promise s.making };
+
+    fn load<R: Threads + Sync, F: Shelf>(
+        &self,
+        _rt: &R,
+        _alloc: Global,
+        _shelf: &mut F,
+    ) -> Result<(), Status> {
+        Ok(())
+    }
+
+    fn lawful(&self) {}
+}
 
 /// The summary of a run of the calls that a number gives, all processes at once.
 fn made_text<R: Threads + Sync, G: Gate + Sync>(
@@ -22,53 +52,35 @@ fn made_text<R: Threads + Sync, G: Gate + Sync>(
     alloc: Global,
     making: Making,
     gate: &G,
-) -> Result<Printed, AllocError>
+) -> Result<Printed, Status>
     requires { MayMake making.processes making.calls }
-    ensures text { IfOk result
-        (λ p. p.text ≡ made making.first making.processes making.calls) }
-    ensures all { IfOk result
-        (λ p. IsMade making.first making.processes making.calls p.text) }
-    ensures ran { IfOk result (λ p. SummarizesRun making p.closed) }
+    ensures prints { IfOk result (λ p. PrintsMade making p.closed p.text) }
+    ensures err { IfErr result (λ refusal. refusal ≡ Status.NoMemory) }
 {
     let Made { book, files } = generate(alloc, making.first, making.processes, making.calls)?;
     let (closed, lines) = play(rt, alloc, &book, files, gate)?;
     let text = summary(alloc, &book, lines.as_slice(), making.first, making.calls)?;
-    Ok(Printed {
-        text: Pieces::one(alloc, text)?,
-        closed: Some(closed),
-    })
+    Printed::of(alloc, text, Some(closed))
 }
 
 /// Does what the words of `make` ask.
-pub fn answer_make<R: Threads + Sync, O: Sink, G: Gate + Sync>(
+pub(crate) fn answer_make<R: Threads + Sync, F: Shelf, O: Sink, G: Gate + Sync>(
     rt: &R,
     alloc: Global,
-    making: Making,
+    shelf: &mut F,
     out: &mut O,
+    making: Making,
     gate: &G,
     kept: &mut Option<Closed>,
 ) -> Status
-    requires kept { kept.old ≡ None }
-    requires may { MayMake making.processes making.calls }
-    ensures later { O.faults out.old ≤ O.faults out.new }
-    ensures as_told { O.tells out.new ≡ O.tells out.old }
-    ensures answered { AnsweredMake making
-        (record {
-          tells = O.tells out.old;
-          before = O.taken out.old;
-          after = O.taken out.new;
-          faults = O.faults out.old;
-          faults_now = O.faults out.new;
-          kept = kept.new;
-          answer = result;
-        }) }
-    ensures done_kept { result ≡ Status.Done → O.faults out.new ≡ O.faults out.old }
-    ensures write_fault { result ≡ Status.WriteFault → Rose (O.faults out.old) (O.faults out.new) }
-    ensures untouched { result ≢ Status.Done → result ≢ Status.WriteFault
-        → (out.new ≡ out.old) × (kept.new ≡ None) }
+    requires { MayMake making.processes making.calls }
+    ensures { Does (make_promise making) F.tells F.file F.faults O.tells O.taken O.faults shelf.old
+        shelf.new out.old out.new kept.old kept.new result }
 {
-    let Ok(printed) = made_text(rt, alloc, making, gate) else {
-        return Status::NoMemory;
-    };
-    end_keeping(Ok(printed), out, kept)
+    let text = |_loaded: ()| -> Result<Printed, Status>
+        requires { MayMake making.processes making.calls }
+        ensures prints { IfOk result (λ p. PrintsMade making p.closed p.text) }
+        ensures err { IfErr result (λ refusal. refusal ≡ Status.NoMemory) }
+    { made_text(rt, alloc, making, gate) };
+    answer_by(rt, alloc, shelf, out, &Make { making }, text, kept)
 }

@@ -1,13 +1,14 @@
 //! Nodes that messages are delivered to.
 
-ghost use Rattle.std.specs.Prelude.{◌≡◌, ◌^◌, ◌<◌, ◌≤◌, ◌++◌, [], ◌∷◌, length, replicate, map, All, List, Ok, IfOk, OnOk};
-ghost use Rattle.at_commands.specs.Prelude.{singles_of, IsNode, starting_state, contents_of, IsDelivery, Delivery, loaded_shown};
+ghost use Rattle.std.specs.Prelude.{◌≡◌, ◌<◌, ◌++◌, [], ◌∷◌, length, replicate, All, List, Ok, IfOk, OnOk};
+ghost use Rattle.at_commands.specs.Prelude.{singles_of, IsNode, starting_state, contents_of, IsDelivery, Delivery};
+ghost use Rattle.at_commands.specs.Loading.{loaded_shown};
 ghost use Rattle.at_commands.specs.Nodes.{AreNodesOf, AreSent, IsNodeOf, counts_of};
 
+use crate::loading::Loaded;
 use at_broadcast::{LogBook, Message, Node};
 use at_files::Delivery;
 use at_ledger::Book;
-use at_loading::Loaded;
 use std::alloc::{AllocError, Global};
 
 /// A node for each process, to which nothing was delivered.

@@ -2,12 +2,16 @@
 
 ghost use Rattle.std.specs.Prelude.{◌≡◌, ◌≤◌, ℕ, length, true, All, Ok, Err, IfOk, IfErr, OnOk};
 ghost use Rattle.at_commands.specs.Running.{HasNewPasses};
-ghost use Rattle.at_commands.specs.Prelude.{SameFiles, IsPlayable, contents_of, HasFileNumbers, MayRefuse, IsBookRead, MayReach, Spelled, loaded, loaded_beside, named_book, form_shown, words_of};
+ghost use Rattle.at_commands.specs.Prelude.{SameFiles, contents_of};
+ghost use Rattle.at_commands.specs.Faults.{HasFileNumbers, MayRefuse};
+ghost use Rattle.at_commands.specs.Loading.{IsBookRead, IsSpelled, MayReach, PaysBytes, Spelled, loaded, loaded_beside, named_book};
+ghost use Rattle.at_commands.specs.Words.{form_shown, words_of};
 
+use crate::loading::load_payments;
+use crate::words::Form;
 use at_files::Names;
 use at_io::Shelf;
 use at_ledger::{Book, Call};
-use at_loading::{Form, load_payments};
 use at_object::{Ledger, Pass};
 use at_report::Status;
 use std::alloc::{AllocError, Global};
@@ -36,7 +40,7 @@ pub(crate) fn open_and_load<R: Threads, F: Shelf>(
     Result<Vec<Vec<Call>>, Status>,
 )
     requires { IsBookRead (F.tells shelf.old) (F.file shelf.old) form.now.book.now
-        (words_of form.now.payments.now) (named_book book.now names.now) }
+        (words_of form.now.files.now) (named_book book.now names.now) }
     ensures opened { IfOk result.0 (λ r. HasNewPasses book.now r.0 r.1.items) }
     ensures files { SameFiles (F.tells shelf.old) (F.tells shelf.new) (F.file shelf.old)
         (F.file shelf.new) }
@@ -49,14 +53,15 @@ pub(crate) fn open_and_load<R: Threads, F: Shelf>(
         → IfOk result.1 (λ files. Spelled (F.file shelf.old) (form_shown form.now)
         (loaded_beside (named_book book.now names.now) (contents_of files.items))) }
     ensures known { IfOk result.1
-        (λ files. All (IsPlayable (length book.now.accounts)) (contents_of files.items)) }
+        (λ files. All (IsSpelled (PaysBytes (named_book book.now names.now)))
+        (contents_of files.items)) }
     ensures count { IfOk result.1 (λ files. length files.items ≡ book.now.processes) }
     ensures err { IfErr result.1
         (λ refusal. MayRefuse (F.tells shelf.old) (loaded (F.file shelf.old) (form_shown form.now))
         (F.faults shelf.old) (F.faults shelf.new) refusal) }
     ensures reached { (file : ℕ) → result.1 ≡ Err (Status.ReadFault file)
         → MayReach (F.tells shelf.old) (F.file shelf.old) (form_shown form.now) file }
-    ensures numbered { IfErr result.1 (HasFileNumbers (length form.now.payments.now)) }
+    ensures numbered { IfErr result.1 (HasFileNumbers (length form.now.files.now)) }
 {
     join_mut(
         rt,

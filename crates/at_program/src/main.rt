@@ -1,12 +1,8 @@
 //! The asset transfer object at the command line: what the words ask, from the bytes of the files to the bytes of
 //! the report.
 //!
-//! `serve` does it all, over any shelf and sinks. `run` and `make` make the calls of all processes at once on one ledger,
-//! and `agree` those of a council; `replay` makes calls one step at a time, in the order of a schedule.
-//! Over a shelf and sinks that tell what they hold, what `run` prints is one legal run of the calls that the files' bytes
-//! spell, however the threads' steps fall, what `make` prints is what every legal run of the calls that its numbers give
-//! leads to, what `agree` prints is the one value that all processes were answered, `verify` takes the report of a legal
-//! run and no other, and each refusal names the first fault.
+//! `serve` does it all, over any shelf and sinks, for every command. Over a shelf and sinks that tell what they hold, what `run` prints
+//! is one legal run of the calls that the files' bytes spell, however the threads' steps fall, and each refusal names the first fault.
 #![tactic(auto)]
 
 #[cfg(test)]

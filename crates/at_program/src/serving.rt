@@ -1,15 +1,15 @@
 //! All that the program does.
 
 ghost use Rattle.std.specs.Prelude.{◌≡◌, ◌≢◌, ◌↔◌, ◌≤◌, true, None};
-ghost use Rattle.at_commands.specs.Answered.{Leaves, LeavesNoLedger, ReadsNothing};
+ghost use Rattle.at_commands.specs.Outcome.{found, outcome};
+ghost use Rattle.at_commands.specs.Table.{Leaves, LeavesNoLedger, ReadsNothing};
+ghost use Rattle.at_commands.specs.Words.{wanted_of, words_of};
 ghost use Rattle.at_commands.specs.Writing.{TookLine};
 ghost use Rattle.at_io.specs.Faults.{Rose};
 ghost use Rattle.at_io.specs.Shelf.{SameFiles};
-ghost use Rattle.at_loading.specs.Words.{wanted_of, words_of};
 
-use at_commands::{answer, tell};
+use at_commands::{answer, asked_by, tell};
 use at_io::{Shelf, Sink};
-use at_loading::asked_by;
 use at_object::Closed;
 use at_report::{Status, UsageFault};
 use at_workers::Gate;
@@ -32,11 +32,12 @@ fn tell_unless_done<E: Sink>(err: &mut E, status: &Status)
 
 /// Does all that the program does: reads the files that the words name, one after another, or makes the calls that
 /// they ask for, and writes the command's text to `out`, or the line of the first refusal to `err`. The whole text is
-/// made before the first write. `words` are those after the program's name. `run` and `make` make the calls of all
+/// made before the first write. `words` are those after the program's name. `run`, `make`, `costs` and `ledger` make the calls of all
 /// processes at once on one ledger, by a thread for each process where threads can be had; the gate is told of each call.
 /// `agree` makes those of a council so, and no gate is told. Under `Done` and a write fault they leave that ledger, closed,
-/// in `kept`. `replay` makes the calls a step at a time, by the turns of a schedule, on this thread. The work grows with the
-/// bytes of the files, or with the calls that are made.
+/// in `kept`. `replay`, `trace` and `show` make the calls a step at a time, by the turns of a schedule, on this thread. The work grows
+/// with the bytes of the files, or with the calls that are made; for `kinds` by a logarithm of the accounts more, for `orders` with the
+/// stages that the orders go through, for `trace` with the turns, and for `show` with the turns times the processes.
 pub fn serve<R: Threads + Sync, F: Shelf, O: Sink, E: Sink, G: Gate + Sync>(
     rt: &R,
     alloc: Global,
@@ -58,31 +59,18 @@ pub fn serve<R: Threads + Sync, F: Shelf, O: Sink, E: Sink, G: Gate + Sync>(
     ensures words { (result ≡ Status.Usage UsageFault.Words)
         ↔ (wanted_of (words_of words.now) ≡ None) }
 
-    // The theorem: what the words' command leaves. For each command it is a record, whose fields are the contract of that command.
-    // For `run` and `check` this is `AnsweredFiles`, whose field `done` says that all bytes that were taken are the text of the
-    // command for what was read, which is what the files' bytes spell where the shelf tells them.
+    // The theorem: what the words' command leaves. Its field `written` says that what was written is the text that the command promises
+    // (`promised`) of what was loaded, which is what the files' bytes spell where the shelf tells them. For `run` that is the report of a
+    // journal that is one legal run of the calls, however the threads' steps fell (`ReportsRun`).
     ensures answered { Leaves (wanted_of (words_of words.now))
-        (record {
-          tells = F.tells shelf.old;
-          files = F.file shelf.old;
-          faults = F.faults shelf.old;
-          faults_now = F.faults shelf.new;
-        })
-        (record {
-          tells = O.tells out.old;
-          before = O.taken out.old;
-          after = O.taken out.new;
-          faults = O.faults out.old;
-          faults_now = O.faults out.new;
-          kept = kept.new;
-          answer = result;
-        }) }
+        (found F.tells F.file F.faults shelf.old shelf.new)
+        (outcome O.tells O.taken O.faults out.old out.new kept.new result) }
 
-    // Words that name no file leave the shelf as it was, and only those of `run`, `make` and `agree` leave a ledger.
+    // Words that name no file leave the shelf as it was, and those whose text is of no closed ledger leave none.
     ensures unread { ReadsNothing (wanted_of (words_of words.now)) → shelf.new ≡ shelf.old }
     ensures no_ledger { LeavesNoLedger (wanted_of (words_of words.now)) → kept.new ≡ None }
 
-    // What faults were counted, and what a refusal leaves.
+    // What faults were calls_counted, and what a refusal leaves.
     ensures done_kept { result ≡ Status.Done
         → (F.faults shelf.new ≡ F.faults shelf.old) × (O.faults out.new ≡ O.faults out.old) }
     ensures write_fault { result ≡ Status.WriteFault

@@ -65,32 +65,36 @@ messages_cause messages.Number = codes "number"
 messages_cause messages.UnknownAccount = codes "unknown account"
 messages_cause messages.DepsOutOfRange = codes "deps out of range"
 
--- what the words have to be
-abbrev pub usage_text : UsageFault → List ℕ
-usage_text usage.Words = codes "usage: run BOOK PAY... | check BOOK PAY... | make NUMBER PROCESSES CALLS | replay BOOK SCHEDULE PAY... | agree VALUE... | deliver BOOK ORDER MSG... | verify BOOK REPORT PAY..."
-usage_text (usage.Files wanted given) = codes "files: wanted " ++ decimal wanted ++ codes ", given " ++ decimal given
+-- the most bytes of a usage
+abbrev pub most_usage : ℕ
+most_usage = 800
+
+-- what is wrong with the words: they have no form, for which the usage stands, or there are too many files or too few
+abbrev pub usage_text : List ℕ → UsageFault → List ℕ
+usage_text forms usage.Words = forms
+usage_text forms (usage.Files wanted given) = codes "files: wanted " ++ decimal wanted ++ codes ", given " ++ decimal given
 
 -- a fault in a file: its line and cause
 abbrev pub line_and_cause : ℕ → List ℕ → List ℕ
 line_and_cause line cause = codes ": line " ++ decimal line ++ codes ": " ++ cause
 
 -- what is said of each refusal, and nothing of a run that is done
-abbrev pub fault_words : Status → List ℕ
-fault_words Done = []
-fault_words (Usage fault) = usage_text fault
-fault_words (BadBook bad) = codes "book" ++ line_and_cause bad.line (book_cause bad.why)
-fault_words (BadPayments process bad) = codes "payments " ++ decimal process ++ line_and_cause bad.line (payments_cause bad.why)
-fault_words (ReadFault file) = codes "read fault: file " ++ decimal file
-fault_words WriteFault = codes "write fault"
-fault_words NoMemory = codes "no memory"
-fault_words (TooLong file) = codes "too long: file " ++ decimal file
-fault_words (BadSchedule line why) = codes "schedule" ++ line_and_cause line (schedule_cause why)
-fault_words (BadOrder line why) = codes "order" ++ line_and_cause line (order_cause why)
-fault_words (BadMessages process line why) = codes "messages " ++ decimal process ++ line_and_cause line (messages_cause why)
-fault_words (NotLegal line) = codes "report" ++ line_and_cause line (codes "not legal")
-fault_words TooManyOrders = codes "too many orders"
+abbrev pub fault_words : List ℕ → Status → List ℕ
+fault_words forms Done = []
+fault_words forms (Usage fault) = usage_text forms fault
+fault_words forms (BadBook bad) = codes "book" ++ line_and_cause bad.line (book_cause bad.why)
+fault_words forms (BadPayments process bad) = codes "payments " ++ decimal process ++ line_and_cause bad.line (payments_cause bad.why)
+fault_words forms (ReadFault file) = codes "read fault: file " ++ decimal file
+fault_words forms WriteFault = codes "write fault"
+fault_words forms NoMemory = codes "no memory"
+fault_words forms (TooLong file) = codes "too long: file " ++ decimal file
+fault_words forms (BadSchedule line why) = codes "schedule" ++ line_and_cause line (schedule_cause why)
+fault_words forms (BadOrder line why) = codes "order" ++ line_and_cause line (order_cause why)
+fault_words forms (BadMessages process line why) = codes "messages " ++ decimal process ++ line_and_cause line (messages_cause why)
+fault_words forms (NotLegal line) = codes "report" ++ line_and_cause line (codes "not legal")
+fault_words forms TooManyOrders = codes "too many orders"
 
 -- the line of a refusal, with its newline
-abbrev pub fault_line : Status → List ℕ
-fault_line Done = []
-fault_line status = fault_words status ++ 10 ∷ []
+abbrev pub fault_line : List ℕ → Status → List ℕ
+fault_line forms Done = []
+fault_line forms status = fault_words forms status ++ 10 ∷ []

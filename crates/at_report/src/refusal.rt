@@ -1,7 +1,7 @@
 //! The one line of each refusal, which takes no memory.
 
 ghost use Rattle.std.specs.Prelude.{◌≡◌, ◌+◌, ◌≤◌, [], ◌++◌, length, decimal};
-ghost use Rattle.at_report.specs.FaultText.{fault_line, limit_text, book_cause, payments_cause, schedule_cause, order_cause, messages_cause, usage_text, line_and_cause, fault_words};
+ghost use Rattle.at_report.specs.FaultText.{fault_line, limit_text, book_cause, payments_cause, schedule_cause, order_cause, messages_cause, usage_text, line_and_cause, fault_words, most_usage};
 
 use crate::status::{Status, UsageFault};
 use arrayvec::ArrayVec;
@@ -9,10 +9,7 @@ use at_files::{BookWhy, MessagesWhy, OrderWhy, PaymentsWhy, ScheduleWhy};
 use at_ledger::BookError;
 
 /// The text of a refusal: one line, with its newline.
-pub type FaultText = ArrayVec<u8, 256>;
-
-const USAGE: &str = "usage: run BOOK PAY... | check BOOK PAY... | make NUMBER PROCESSES CALLS \
-     | replay BOOK SCHEDULE PAY... | agree VALUE... | deliver BOOK ORDER MSG... | verify BOOK REPORT PAY...";
+pub type FaultText = ArrayVec<u8, 1_024>;
 
 fn limit_text(e: &BookError) -> &'static str
     ensures text { result.now ≡ limit_text e.now }
@@ -99,14 +96,14 @@ fn messages_cause(why: &MessagesWhy) -> &'static str
 }
 
 fn push_text(out: &mut FaultText, text: &str)
-    requires { length out.old.items + length text.now ≤ 256 }
+    requires { length out.old.items + length text.now ≤ 1024 }
     ensures { out.new.items ≡ out.old.items ++ text.now }
 {
     out.try_extend_from_slice(text.as_bytes()).unwrap();
 }
 
 fn push_decimal(out: &mut FaultText, n: u64)
-    requires { length out.old.items + 20 ≤ 256 }
+    requires { length out.old.items + 20 ≤ 1024 }
     ensures text { out.new.items ≡ out.old.items ++ decimal n }
     ensures short { length out.new.items ≤ length out.old.items + 20 }
 {
@@ -114,7 +111,7 @@ fn push_decimal(out: &mut FaultText, n: u64)
 }
 
 fn push_line_and_cause(out: &mut FaultText, line: u32, cause: &str)
-    requires room { length out.old.items + 60 ≤ 256 }
+    requires room { length out.old.items + 60 ≤ 1024 }
     requires short { length cause.now ≤ 20 }
     ensures text { out.new.items ≡ out.old.items ++ line_and_cause line cause.now }
     ensures short { length out.new.items ≤ length out.old.items + 60 }
@@ -155,13 +152,14 @@ fn push_bad_of(out: &mut FaultText, text: &str, process: u32, line: u32, cause: 
     push_line_and_cause(out, line, cause);
 }
 
-fn push_usage(out: &mut FaultText, fault: &UsageFault)
-    requires { length out.old.items ≤ 50 }
-    ensures text { out.new.items ≡ out.old.items ++ usage_text fault.now }
-    ensures short { length out.new.items ≤ length out.old.items + 200 }
+fn push_usage(out: &mut FaultText, usage: &str, fault: &UsageFault)
+    requires room { length out.old.items ≤ 50 }
+    requires short { length usage.now ≤ most_usage }
+    ensures text { out.new.items ≡ out.old.items ++ usage_text usage.now fault.now }
+    ensures short { length out.new.items ≤ length out.old.items + most_usage }
 {
     match fault {
-        UsageFault::Words => push_text(out, USAGE),
+        UsageFault::Words => push_text(out, usage),
         UsageFault::Files { wanted, given } => {
             push_numbered(out, "files: wanted ", u64::from(*wanted));
             push_numbered(out, ", given ", *given);
@@ -169,14 +167,15 @@ fn push_usage(out: &mut FaultText, fault: &UsageFault)
     }
 }
 
-fn push_words(out: &mut FaultText, status: &Status)
-    requires { out.old.items ≡ [] }
-    ensures text { out.new.items ≡ fault_words status.now }
-    ensures short { length out.new.items ≤ 200 }
+fn push_words(out: &mut FaultText, usage: &str, status: &Status)
+    requires empty { out.old.items ≡ [] }
+    requires short { length usage.now ≤ most_usage }
+    ensures text { out.new.items ≡ fault_words usage.now status.now }
+    ensures short { length out.new.items ≤ most_usage }
 {
     match status {
         Status::Done => {}
-        Status::Usage(fault) => push_usage(out, fault),
+        Status::Usage(fault) => push_usage(out, usage, fault),
         Status::BadBook(bad) => push_bad(out, "book", bad.line, book_cause(&bad.why)),
         Status::BadPayments { process, fault } => push_bad_of(
             out,
@@ -203,15 +202,17 @@ fn push_words(out: &mut FaultText, status: &Status)
     }
 }
 
-/// The line of a refusal, with its newline, and nothing for a run that is done. It takes no memory.
-pub fn fault_text(status: &Status) -> FaultText
-    ensures { result.items ≡ fault_line status.now }
+/// The line of a refusal, with its newline, and nothing for a run that is done. For words of no form it is the usage that is given, of at most 800 bytes. It
+/// takes no memory.
+pub fn fault_text(usage: &str, status: &Status) -> FaultText
+    requires { length usage.now ≤ most_usage }
+    ensures { result.items ≡ fault_line usage.now status.now }
 {
     let mut out = ArrayVec::new();
     if matches!(status, Status::Done) {
         return out;
     }
-    push_words(&mut out, status);
+    push_words(&mut out, usage, status);
     out.push(b'\n');
     out
 }

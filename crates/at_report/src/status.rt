@@ -3,6 +3,7 @@
 ghost use Rattle.std.specs.Prelude.{◌≡◌};
 
 use at_files::{BadBook, BadPayments, MessagesWhy, OrderWhy, ScheduleWhy};
+use std::alloc::AllocError;
 
 /// What is wrong with the words of the command line.
 #[derive(Clone, Copy, PartialEq, Eq)]
@@ -62,6 +63,17 @@ pub enum Status {
     },
     /// The orders of the calls are more than are walked.
     TooManyOrders,
+}
+
+impl From<AllocError> for Status {
+    ghost use Rattle.std.specs.Prelude.{◌≡◌};
+    ghost use Rattle.at_report.specs.declared.status.Status.TheVariants as statuses;
+
+    ghost from_gives = { λ _ status. status ≡ statuses.NoMemory };
+
+    fn from(_none: AllocError) -> Status {
+        Status::NoMemory
+    }
 }
 
 impl Status {

@@ -1,6 +1,7 @@
 -- Runs of calls that name accounts of the book: the lines of whole files are such a run, and no call changes the total.
 use Rattle.std.proofs.Common.{◌≡◌, ℕ, ◌-◌, ◌<◌, ◌≤◌, ◌==◌, not, ltb, Bool, true, false, cond, List, [], ◌∷◌, length, set, map, sum, All, refl, sym, subst, ◌∙◌, arith, eq-eqb}
-use Rattle.at_commands.proofs.Prelude.{ltb-false, length-map, length-set, All-cons, All-head, All-nil, All-tail, sum-map, sum_by-set, length-credited, sum-credited, is_shared, BookTerms, account_of, is_owner, total_of, AreTargetsOn, IsCallOn, IsLineOn, TargetPair, amount_of, Whole, asked_in, last_state, lines_of, run_from, LedgerState, Step, after_done, after_short, balance_of, is_full, moved, opening_state, pay, step, with_asked, with_sent, Call, Pay, Read, Transfer, Line, Done, Full, NotOwner, Short}
+use Rattle.at_commands.proofs.Prelude.{ltb-false, length-map, length-set, All-cons, All-head, All-nil, All-tail, sum-map, sum_by-set, length-credited, sum-credited, is_shared, BookTerms, account_of, is_owner, total_of, AreTargetsOn, IsCallOn, IsLineOn, TargetPair, amount_of, Whole, asked_in, last_state, lines_of, run_from, LedgerState, Step, after_done, after_short, balance_of, is_full, moved, opening_state, pay, step, with_asked, with_sent, Call, Pay, Read, Transfer, Line, Full, NotOwner, Short}
+use Rattle.at_ledger.specs.declared.call.Reply.TheVariants.{Done}
 
 -- the lines of a whole list name accounts of the book, where all calls of the files do
 

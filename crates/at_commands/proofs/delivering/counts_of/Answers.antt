@@ -1,6 +1,7 @@
 use Rattle.std.proofs.Common.{◌≡◌, ◌∙◌, ◌^◌, ◌<◌, [], get_or, length, arith}
-use Rattle.at_commands.proofs.Prelude.{length-set, contents_of, get_or-contents_of, length-contents_of, same_length}
-use Rattle.at_commands.proofs.Laws.Deliveries.{counted_all, counted_next}
+use Rattle.at_commands.proofs.Prelude.{length-set, contents_of, get_or-contents_of, length-contents_of}
+use Rattle.at_commands.proofs.Laws.FilesLoaded.{same_length}
+use Rattle.at_commands.proofs.Deliveries.{counted_all, counted_next}
 use Rattle.at_commands.proofs.delivering.counts_of.Goals as goal
 
 -- a process has few messages

@@ -1,5 +1,5 @@
 use Rattle.std.proofs.Common.{refl}
-use Rattle.at_commands.proofs.Prelude.{later-kept}
+use Rattle.at_commands.proofs.Laws.MayRefuse.{later-kept}
 use Rattle.at_commands.proofs.ending.end_keeping.Goals as goal
 
 pub returns-in-Ok : goal.returns-in-Ok

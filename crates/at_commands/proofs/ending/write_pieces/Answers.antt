@@ -1,5 +1,5 @@
 use Rattle.std.proofs.Common.{◌∙◌, ap, inr, refl, sym}
-use Rattle.at_commands.proofs.Endings.{done-write_fault}
+use Rattle.at_commands.proofs.Laws.Commands.{done-write_fault}
 use Rattle.at_commands.proofs.PieceLaws.{TakesPrefix-pieces}
 use Rattle.at_commands.proofs.ending.write_pieces.Goals as goal
 

@@ -1,5 +1,6 @@
 use Rattle.std.proofs.Common.{◌≡◌, ◌∙◌, Ok, get_or, [], ap, refl, arith}
-use Rattle.at_commands.proofs.Prelude.{length-contents_of, loaded_shown, same_length}
+use Rattle.at_commands.proofs.Prelude.{length-contents_of, loaded_shown}
+use Rattle.at_commands.proofs.Laws.FilesLoaded.{same_length}
 use Rattle.at_commands.proofs.NodesGiven.{IsNodeOf-deliver, file_of, message_known, message_on, number_small, number_within}
 use Rattle.at_commands.proofs.nodes.deliver_one.Goals as goal
 

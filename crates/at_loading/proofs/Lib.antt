@@ -1,4 +1,0 @@
-pub mod Prelude
-pub mod Laws
-mod ValueLaws
-mod CountLaws

@@ -1,6 +1,0 @@
-use Rattle.std.proofs.Common.{arith}
-use Rattle.at_loading.proofs.Prelude.{common_steps}
-use Rattle.at_loading.proofs.numbers.value_of.Goals as goal
-
-pub returns-in_err-n-clause-below : goal.returns-in_err-n-clause-below
-returns-in_err-n-clause-below c = grind (arith, common_steps)

@@ -1,5 +1,0 @@
-pub mod Prelude
-pub mod Formless
-pub mod Refusals
-pub mod Refusing
-pub mod PlayedCosts
