@@ -86,7 +86,7 @@ class Export:
         except UnicodeDecodeError as fault:
             line, found = fault.object[: fault.start].count(b"\n") + 1, f"{fault.object[fault.start]:02x}"
             self.faults.add((path, line, ""), found, f"this byte is no {self.asked.encoding}: give the encoding, as cp1252, by --encoding")
-        except (OSError, LookupError) as fault:
+        except (OSError, LookupError, UnicodeError) as fault:
             self.faults.end(f"{path}: it can't be read: {getattr(fault, 'strerror', fault)}")
         self.faults.end()
 
@@ -360,10 +360,10 @@ def make(asked, faults):
     amounts = [export.amount(row) for row in export.rows]
     export.name_rows()
     decimals = max(len(amount.part) for amount in [*amounts, *export.openings.values()]) if asked.decimals is None else asked.decimals
-    payments = list(export.payments([export.units_of(amount, decimals) for amount in amounts]))
+    units = [export.units_of(amount, decimals) for amount in amounts]
     openings = {name: (amount, export.units_of(amount, decimals)) for name, amount in export.openings.items()}
     faults.end()
-    book = Book(asked, payments, export.joint, faults)
+    book = Book(asked, list(export.payments(units)), export.joint, faults)
     book.open_with(openings)
     book.write()
     return book.told(f"{10**-decimals:.{decimals}f} {export.rows[0].get('currency', '')}".strip())

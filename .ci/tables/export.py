@@ -244,7 +244,8 @@ REFUSED = [
         f'line 3: column payer: found "ann-muller": its name is ann-muller, as that of "Ann Müller": {ALIKE}',
         f'line 3: column payee: found "BOB": its name is bob, as that of "Bob": {ALIKE}']),
     ("cut names that clash", HEAD + "1,Ann,Stadtwerke Bad Homburg,5\n2,Ann,Stadtwerke Bad Honnef,5\n", [], [
-        f'line 3: column payee: found "Stadtwerke Bad Honnef": its name is stadtwerke-bad-h, as that of "Stadtwerke Bad Homburg": {ALIKE}']),
+        'line 3: column payee: found "Stadtwerke Bad Honnef": its name is stadtwerke-bad-h, as that of '
+        f'"Stadtwerke Bad Homburg": {ALIKE}']),
     ("names without a letter first", HEAD + "1,7Up,東京,5\n", [], [
         f'line 2: column {kind}: found "{text}": a name has a letter from a to z first: spell it so'
         for kind, text in (("payer", "7Up"), ("payee", "東京"))]),
@@ -333,7 +334,8 @@ def largest(folder):
 
 def example(folder, name, *words):
     """An export of the example makes what stands beside it, and what `kinds` and `orders` print of that stands there too."""
-    answer = imports(folder, f"export/{name}.csv", "--to", "made", "--joint", "export/joint.csv", "--openings", "export/openings.csv", *words)
+    words = ["--joint", "export/joint.csv", "--openings", "export/openings.csv", *words]
+    answer = imports(folder, f"export/{name}.csv", "--to", "made", *words)
     expect(answer, 0, answer.out, b"")
     for path in (EXAMPLES / "export" / "made").iterdir():
         same(folder.read(f"made/{path.name}"), path.read_bytes())
