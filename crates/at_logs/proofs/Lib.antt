@@ -1,2 +1,5 @@
 pub mod Prelude
 pub mod ReadingLaws
+pub mod ReaderLoops
+pub mod ReaderLaws
+pub mod EntryLaws

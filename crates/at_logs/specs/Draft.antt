@@ -1,6 +1,6 @@
 -- A payment that was made and isn't in its log yet.
 use Rattle.std.specs.Prelude.{◌≡◌, ℕ, ◌+◌, ◌≤◌, List, slice_index}
-use Rattle.at_logs.specs.Prelude.{TargetPair, IsNode, NodeState, Follows, IsMadeAt}
+use Rattle.at_logs.specs.Prelude.{TargetPair, NodeState, Follows, IsMadeAt}
 use Rattle.at_logs.specs.Reading.{ComesNext, ReadingState}
 use Rattle.at_logs.specs.declared.node.Draft.{Draft}
 

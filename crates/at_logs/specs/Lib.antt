@@ -2,3 +2,5 @@ pub mod Prelude
 pub mod Logs
 pub mod Reading
 pub mod Draft
+pub mod Entry
+pub mod Readers

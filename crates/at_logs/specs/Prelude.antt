@@ -1,5 +1,5 @@
 -- What this crate's contracts and definitions name of other crates, in one place.
-pub use Rattle.std.specs.List.{range_with_len}
+pub use Rattle.std.specs.List.{flat_map, range_with_len}
 pub use Rattle.at_base.specs.Counts.{Covers}
 pub use Rattle.at_broadcast.specs.LogBook.{LogTerms, account_on_logs, most_logs, single_log}
 pub use Rattle.at_broadcast.specs.Messages.{IsMessageOn, message_of, with_message}
@@ -12,3 +12,5 @@ pub use Rattle.at_broadcast.specs.declared.message.TheConstants.{MESSAGES_MAX}
 pub use Rattle.at_ledger.specs.Account.{AccountTerms, is_shared}
 pub use Rattle.at_ledger.specs.Book.{BookTerms, account_of}
 pub use Rattle.at_ledger.specs.Call.{AreTargetsOn, TargetPair, amount_of}
+pub use Rattle.at_ledger.specs.Limits.{most_targets}
+pub use Rattle.sha2.specs.Sha256.{sha256}

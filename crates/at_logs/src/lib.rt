@@ -3,8 +3,14 @@
 //! Each process has a log of its own, and each shared account has one more, to which its owners append.
 #![tactic(auto)]
 
+mod entry;
 mod logs;
 mod node;
+mod reading;
+mod spelling;
 
+pub use crate::entry::{ENTRY_MESSAGES_MAX, Entry, EntryMessage};
 pub use crate::logs::logs_of;
 pub use crate::node::{Draft, Node};
+pub use crate::reading::read_entry;
+pub use crate::spelling::{entry_bytes, hash_of};

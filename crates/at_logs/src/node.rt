@@ -1,7 +1,7 @@
 //! A node over logs.
 
-ghost use Rattle.std.specs.Prelude.{◌≡◌, ◌<◌, ◌↔◌, ℕ, Some, length, slice_index, true, false, Ok, IsTrue, IfOk, IfSome, IfNone, OnOk, OnErr};
-ghost use Rattle.at_logs.specs.Prelude.{AreTargetsOn, account_on_logs, IsMessageOn, with_message, one_more_of};
+ghost use Rattle.std.specs.Prelude.{◌≡◌, ◌<◌, ◌≤◌, ◌↔◌, ℕ, Some, length, replicate, slice_index, slice_set, true, false, Ok, IsTrue, IfOk, IfSome, IfNone, OnOk, OnErr};
+ghost use Rattle.at_logs.specs.Prelude.{AreTargetsOn, account_on_logs, IsMessageOn, with_message, most_logs, one_more_of};
 
 use at_broadcast::{LogBook, LogCounts, MESSAGES_MAX, Message};
 use at_ledger::Targets;
@@ -13,6 +13,7 @@ use std::marker::Model;
 pub struct Node {
     core: at_broadcast::Node,
     read: LogCounts,
+    last: Vec<LogCounts>,
 }
 
 impl Model for Node {
@@ -20,9 +21,9 @@ impl Model for Node {
 
     ghost Value = { ReadingState };
 
-    ghost view = { λ n. record { node = n.core; read = n.read } };
+    ghost view = { λ n. record { node = n.core; read = n.read; last = n.last.items } };
 
-    ghost invariant = { λ n. IsReading (record { node = n.core; read = n.read }) };
+    ghost invariant = { λ n. IsReading (record { node = n.core; read = n.read; last = n.last.items }) };
 }
 
 /// A payment that was made for a log and isn't in it yet. Nothing counts it until its append was answered.
@@ -42,10 +43,24 @@ impl Node {
     {
         let core = at_broadcast::Node::new(alloc, book)?;
         core.known();
+        let last = zeros_of_each(alloc, book.logs())?;
         Ok(Node {
             core,
             read: LogCounts::zeros(book.logs()),
+            last,
         })
+    }
+
+    /// Whether the message can be the next of the log.
+    fn comes_next(&self, log: u32, message: &Message) -> bool
+        requires log_in { log < self.now.node.book.logs }
+        requires message_in { IsMessageOn self.now.node.book.logs (length self.now.node.book.accounts) message.now }
+        ensures { IsTrue result ↔ ComesNext self.now log message.now }
+    {
+        let number = self.read.get(log);
+        message.deps.get(log) == number
+            && number < MESSAGES_MAX
+            && message.deps.covers(&self.last[log as usize])
     }
 
     /// Takes the next message of a log, and validates all that it makes valid. It answers false where the message can't be the next of the
@@ -59,17 +74,19 @@ impl Node {
         ensures messages { result ≡ Ok true
             → self.new.node.messages ≡ with_message self.old.node.messages log (slice_index self.old.read log) message.now }
         ensures read { result ≡ Ok true → self.new.read ≡ one_more_of self.old.read log }
+        ensures last { result ≡ Ok true → self.new.last ≡ slice_set self.old.last log message.now.deps }
         ensures book { self.new.node.book ≡ self.old.node.book }
         ensures reading { IsReading self.new }
         ensures err { OnErr result (self.new ≡ self.old) }
     {
-        let number = self.read.get(log);
-        if message.deps.get(log) != number || number == MESSAGES_MAX {
+        if !self.comes_next(log, message) {
             return Ok(false);
         }
+        let number = self.read.get(log);
         self.core.deliver(log, number, message)?;
         self.core.known();
         self.read.set(log, number + 1);
+        self.last[log as usize] = message.deps.copy();
         Ok(true)
     }
 
@@ -119,6 +136,7 @@ impl Node {
         ensures messages { OnOk result
             (self.new.node.messages ≡ with_message self.old.node.messages draft.now.log (slice_index self.old.read draft.now.log) draft.now.message) }
         ensures read { OnOk result (self.new.read ≡ one_more_of self.old.read draft.now.log) }
+        ensures last { OnOk result (self.new.last ≡ slice_set self.old.last draft.now.log draft.now.message.deps) }
         ensures is_final { OnOk result (IsFinalAt self.new.node draft.now) }
         ensures book { self.new.node.book ≡ self.old.node.book }
         ensures err { OnErr result (self.new ≡ self.old) }
@@ -142,4 +160,17 @@ impl Node {
     {
         self.core.balance(account)
     }
+}
+
+/// As many counts of zero for each log as there are logs.
+fn zeros_of_each(alloc: Global, logs: u32) -> Result<Vec<LogCounts>, AllocError>
+    requires some { 1 ≤ logs }
+    requires few { logs ≤ most_logs }
+    ensures { IfOk result (λ last. last.items ≡ replicate logs (replicate logs 0)) }
+{
+    let mut last = Vec::new(alloc);
+    for _ in 0..logs {
+        last.push(LogCounts::zeros(logs))?;
+    }
+    Ok(last)
 }

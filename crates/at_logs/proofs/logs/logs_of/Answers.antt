@@ -1,4 +1,4 @@
-use Rattle.std.proofs.Common.{◌≡◌, ℕ, ◌+◌, ◌<◌, ◌≤◌, Bool, true, false, cond, List, [], ◌∷◌, ◌++◌, length, map, take, sum_by, ap, sym, ◌∙◌, arith}
+use Rattle.std.proofs.Common.{◌≡◌, ℕ, ◌<◌, ◌≤◌, Bool, true, false, cond, List, [], ◌∷◌, ◌++◌, length, map, sum_by, ap, sym, ◌∙◌, arith}
 use Rattle.at_logs.proofs.Prelude.{range_with_len, length-map, take_all, length-range_with_len, map-range_with_len_more, sum_by-append, sum_by-cons, sum_by_more, AccountTerms, is_shared, no_account, BookTerms, account_of, LogAccount, log_account}
 use Rattle.at_logs.proofs.logs.logs_of.Goals as goal
 
