@@ -20,7 +20,7 @@ EVERYWHERE = paths("""
 
 # The crates that name nothing more.
 PLAIN = """
-    at_base at_broadcast at_calling at_fold at_history at_log at_logs at_machines at_object at_pages at_payments at_requests at_snapshot
+    at_base at_broadcast at_calling at_fold at_history at_log at_machines at_object at_pages at_payments at_requests at_snapshot
     at_stepper at_tables at_verify
 """.split()
 
@@ -42,6 +42,7 @@ PATHS = [
     # Files of words.
     (["at_ledger", "at_files", "at_io", "at_orders"], paths("thiserror::Error")),
     (["at_files", "at_orders"], paths("indexmap::IndexSet indexmap::IndexSet::new")),
+    (["at_logs"], paths("sha2::Digest sha2::Sha256 sha2::Sha256::digest")),
     (["at_files"], paths("""
         csv::ByteRecord csv::ByteRecord::new csv::Reader csv::ReaderBuilder csv::ReaderBuilder::new memchr::memchr2
     """)),
@@ -69,12 +70,12 @@ PRELUDE = set("""
 
 # What std and the kit name within a path, and their methods.
 METHODS = set("""
-    File ErrorKind OutOfMemory Result Write MAX from_array from_raw from_slice into_raw_with_allocator with_capacity
+    File ErrorKind OutOfMemory Result Write MAX from_array from_be_bytes from_raw from_slice into_raw_with_allocator with_capacity
     all alloc any as_bytes as_mut_slice as_ref as_str capacity checked_add checked_mul checked_sub clear contains copied copy_from_slice
     enumerate extend_from_slice filter flexible flush format free from_reader get get_index_of get_mut has_headers insert into_iter
     is_ascii_digit is_ascii_lowercase is_empty is_err is_none is_null is_ok is_some iter iter_mut len map map_err max min new next
     partition_point pop pop_first pop_front push push_reserved read_byte_record reserve resize saturating_add saturating_mul saturating_sub
-    skip split_first stderr stdout strip_prefix take to_vec truncate try_extend_from_slice unwrap unwrap_or wrapping_add wrapping_mul zip
+    skip split_at split_first stderr stdout strip_prefix take to_be_bytes to_vec truncate try_extend_from_slice unwrap unwrap_or wrapping_add wrapping_mul zip
 """.split())
 
 MACROS = {"matches", "unreachable", "vec"}
