@@ -110,6 +110,10 @@ def looks_kinds(given):
     same(given.run("kinds"), model.kinds_text(given.book, given.files))
 
 
+def looks_needs(given):
+    same(given.run("needs"), model.needs_text(given.book, given.files))
+
+
 def looks_run(given):
     text = given.run("run")
     model.is_report(given.book, given.files, text.decode())
@@ -183,6 +187,7 @@ def looks_deliver(given):
 LOOKS = {
     "check": (looks_check, 16384),
     "kinds": (looks_kinds, 16384),
+    "needs": (looks_needs, 16384),
     "run": (looks_run, 16384),
     "verify": (looks_verify, 16384),
     "replay": (looks_replay, 64),

@@ -140,6 +140,7 @@ def cases():
         ("a refusal", "check", *bad),
         ("kinds", "kinds", *owners),
         ("kinds, of names", "kinds", *household),
+        ("needs", "needs", *owners),
         ("costs", "costs", *usual),
         ("ledger", "ledger", *usual),
         ("trace", "trace", *helping),

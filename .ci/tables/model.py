@@ -142,6 +142,22 @@ def is_ledger(book, files, text):
     same(text, ledger_text(book, play(book, files, order_of(book, files, titles))[0]))
 
 
+def use_of(account):
+    """How the owners of an account use it."""
+    return ("nobody", "alone", "shared")[min(len(account.owners), 2)]
+
+
+def needs_text(book, files):
+    """What `needs` prints."""
+    texts = ["account,kind,opening,asked,missing,owner,owner_asked"]
+    for a, account in enumerate(book.accounts):
+        asks = [sum(n for call in files[p] if call.word != "read" and call.account == a for _, n in call.pairs) for p in account.owners]
+        head = [account.name, use_of(account), account.opening, sum(asks), max(sum(asks) - account.opening, 0)]
+        tails = [[book.processes[p], n] for p, n in zip(account.owners, asks)] or [["", ""]]
+        texts += [",".join(map(str, head + tail)) for tail in tails]
+    return lines(*texts)
+
+
 def kinds_text(book, files):
     """What `kinds` prints."""
     kinds, paid, groups = Counter(), Counter(), Counter()
@@ -154,8 +170,7 @@ def kinds_text(book, files):
     counts = {kind: kinds[kind] for kind in ("refused", "alone", "agreed")}
     texts = [f"payments {sum(counts.values())}", *(f"{kind} {number}" for kind, number in counts.items()), f"accounts {len(book.accounts)}"]
     for i, account in enumerate(book.accounts):
-        word = ("nobody", "alone", "shared")[min(len(account.owners), 2)]
-        texts.append(" ".join([account.name, word, str(paid[i]), *(book.processes[p] for p in account.owners)]))
+        texts.append(" ".join([account.name, use_of(account), str(paid[i]), *(book.processes[p] for p in account.owners)]))
     some = sorted((-number, owners) for owners, number in groups.items() if number)
     texts += [f"groups {len(some)}", *(" ".join([str(-number), *(book.processes[p] for p in owners)]) for number, owners in some)]
     return lines(*texts)

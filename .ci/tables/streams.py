@@ -15,6 +15,7 @@ WORDS = {
     "deliver": ["deliver", "deliver/book.csv", "deliver/order.csv", "deliver/send0.csv", "deliver/send1.csv"],
     "verify": ["verify", BOOK, "usual/usual.report", PAY],
     "kinds": ["kinds", BOOK, PAY],
+    "needs": ["needs", BOOK, PAY],
     "costs": ["costs", BOOK, PAY],
     "orders": ["orders", BOOK, PAY],
     "ledger": ["ledger", BOOK, PAY],

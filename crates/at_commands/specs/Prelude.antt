@@ -71,6 +71,7 @@ pub use Rattle.at_tables.specs.Bounds.{AreCostsWithin}
 pub use Rattle.at_tables.specs.CostsText.{costs_text}
 pub use Rattle.at_tables.specs.Groups.{AreGroups, groups_of}
 pub use Rattle.at_tables.specs.KindsText.{kinds_text}
+pub use Rattle.at_tables.specs.NeedsText.{needs_text}
 pub use Rattle.at_tables.specs.LedgerText.{ledger_text}
 pub use Rattle.at_tables.specs.OrdersText.{orders_text}
 pub use Rattle.at_tables.specs.TraceText.{trace_text}

@@ -14,10 +14,10 @@ use Rattle.at_commands.specs.Outcome.{Found, Outcome}
 use Rattle.at_commands.specs.Picturing.{ShowsPage}
 use Rattle.at_commands.specs.Replaying.{Printing, ReportsReplay, turns_terms}
 use Rattle.at_commands.specs.Tracing.{ShowsTrace}
-use Rattle.at_commands.specs.Views.{costs_terms, kinds_terms, ledger_terms, orders_terms}
+use Rattle.at_commands.specs.Views.{costs_terms, kinds_terms, ledger_terms, needs_terms, orders_terms}
 use Rattle.at_commands.specs.Words.{FurtherForm, Wanted}
 use Rattle.at_commands.specs.Words.Wanted.{Agree, Files, Further, Make}
-use Rattle.at_commands.specs.declared.words.FormCommand.TheVariants.{Run, Check, Kinds, Orders, Costs, Ledger}
+use Rattle.at_commands.specs.declared.words.FormCommand.TheVariants.{Run, Check, Kinds, Needs, Orders, Costs, Ledger}
 use Rattle.at_commands.specs.declared.words.FurtherCommand.TheVariants.{Replay, Trace, Show, Verify, Deliver}
 
 -- what a command promises that plays a schedule
@@ -37,6 +37,7 @@ abbrev pub promised : Wanted → Promised
 promised (Files Run form) = promised_of (payments_promise run_terms form)
 promised (Files Check form) = promised_of (check_promise form)
 promised (Files Kinds form) = promised_of (payments_promise kinds_terms form)
+promised (Files Needs form) = promised_of (payments_promise needs_terms form)
 promised (Files Orders form) = promised_of (payments_promise orders_terms form)
 promised (Files Costs form) = promised_of (payments_promise costs_terms form)
 promised (Files Ledger form) = promised_of (payments_promise ledger_terms form)

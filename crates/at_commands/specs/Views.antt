@@ -1,6 +1,6 @@
 -- What each command shows of a book and payments.
 use Rattle.std.specs.Prelude.{◌≡◌, ℕ, ◌<◌, List, [], slice_index_or}
-use Rattle.at_commands.specs.Prelude.{AreCostsWithin, costs_text, ledger_text, AreGroups, groups_of, kinds_text, Line, Call, receipts_of, ClosedTerms, AreAnswers, Replies, orders_text, CostTerms, OpeningsCover, HasMoreStages, STAGES_MAX, Status, TooManyOrders}
+use Rattle.at_commands.specs.Prelude.{AreCostsWithin, costs_text, ledger_text, AreGroups, groups_of, kinds_text, needs_text, Line, Call, receipts_of, ClosedTerms, AreAnswers, Replies, orders_text, CostTerms, OpeningsCover, HasMoreStages, STAGES_MAX, Status, TooManyOrders}
 use Rattle.at_commands.specs.Commands.{KeepingClosed, KeepingNone, Never}
 use Rattle.at_commands.specs.Forms.{FormTerms}
 use Rattle.at_commands.specs.Loading.{Loaded}
@@ -10,6 +10,10 @@ use Rattle.at_commands.specs.Running.{IsPlayed, IsPlayedNoting}
 pub record ShowsKinds (l : Loaded) (text : List ℕ) : Type 0 where
   pub groups : AreGroups l.book l.files (groups_of l.book l.files)
   pub printed : text ≡ kinds_text l.book l.names l.files
+
+-- `needs`: the text is that of what the payments of each account's owners ask of it
+pub record ShowsNeeds (l : Loaded) (text : List ℕ) : Type 0 where
+  pub printed : text ≡ needs_text l.book l.names l.files
 
 -- `costs`: the text has a record for each call that was made on a closed ledger, the files' calls and no others, whose journal is one legal
 -- run of them. The costs are what these calls made and counted, and none is above the bounds that are printed beside it
@@ -43,6 +47,9 @@ RefusesMany l refusal = ⊥
 
 abbrev pub kinds_terms : FormTerms Call
 kinds_terms = record { refuses = Never; prints = KeepingNone ShowsKinds }
+
+abbrev pub needs_terms : FormTerms Call
+needs_terms = record { refuses = Never; prints = KeepingNone ShowsNeeds }
 
 abbrev pub orders_terms : FormTerms Call
 orders_terms = record { refuses = RefusesMany; prints = KeepingNone ShowsOrders }

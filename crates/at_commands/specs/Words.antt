@@ -8,7 +8,7 @@ use Rattle.at_commands.specs.declared.numbers.Making.{Making}
 use Rattle.at_commands.specs.declared.words.Form as words
 use Rattle.at_commands.specs.declared.words.FurtherForm as further
 use Rattle.at_commands.specs.declared.words.FormCommand.{FormCommand}
-use Rattle.at_commands.specs.declared.words.FormCommand.TheVariants.{Run, Check, Kinds, Orders, Costs, Ledger}
+use Rattle.at_commands.specs.declared.words.FormCommand.TheVariants.{Run, Check, Kinds, Needs, Orders, Costs, Ledger}
 use Rattle.at_commands.specs.declared.words.FurtherCommand.{FurtherCommand}
 use Rattle.at_commands.specs.declared.words.FurtherCommand.TheVariants.{Replay, Trace, Show, Verify, Deliver}
 
@@ -18,7 +18,7 @@ words_of words = map string_bytes words
 
 -- what the words have to be
 abbrev pub usage : List ℕ
-usage = codes "usage: run BOOK PAY... | check BOOK PAY... | kinds BOOK PAY... | orders BOOK PAY... | costs BOOK PAY... | ledger BOOK PAY... | make NUMBER PROCESSES CALLS | replay BOOK SCHEDULE PAY... | trace BOOK SCHEDULE PAY... | show BOOK SCHEDULE PAY... | verify BOOK REPORT PAY... | agree VALUE... | deliver BOOK ORDER MSG..."
+usage = codes "usage: run BOOK PAY... | check BOOK PAY... | kinds BOOK PAY... | needs BOOK PAY... | orders BOOK PAY... | costs BOOK PAY... | ledger BOOK PAY... | make NUMBER PROCESSES CALLS | replay BOOK SCHEDULE PAY... | trace BOOK SCHEDULE PAY... | show BOOK SCHEDULE PAY... | verify BOOK REPORT PAY... | agree VALUE... | deliver BOOK ORDER MSG..."
 
 -- the names of the book, and of the files of the processes in their order
 pub record Form : Type 0 where
@@ -93,6 +93,7 @@ wanted_of (word ∷ words) =
     if bytes_eq word (codes "run") then form_wanted Run words
     else if bytes_eq word (codes "check") then form_wanted Check words
     else if bytes_eq word (codes "kinds") then form_wanted Kinds words
+    else if bytes_eq word (codes "needs") then form_wanted Needs words
     else if bytes_eq word (codes "orders") then form_wanted Orders words
     else if bytes_eq word (codes "costs") then form_wanted Costs words
     else if bytes_eq word (codes "ledger") then form_wanted Ledger words

@@ -21,7 +21,7 @@ use crate::replaying::{InTurns, ReplayReport};
 use crate::running::answer_run;
 use crate::tracing::Trace;
 use crate::verifying::Verifying;
-use crate::views::{Kinds, Orders, answer_costs, answer_ledger};
+use crate::views::{Kinds, Needs, Orders, answer_costs, answer_ledger};
 use crate::words::{Form, FormCommand, FurtherCommand, FurtherForm, USAGE};
 use at_io::{Shelf, Sink, put_all};
 use at_object::Closed;
@@ -64,6 +64,9 @@ fn answer_form<R: Threads + Sync, F: Shelf, O: Sink, G: Gate + Sync>(
         FormCommand::Check => answer_command(rt, alloc, shelf, out, &Check { form }, kept),
         FormCommand::Kinds => {
             answer_command(rt, alloc, shelf, out, &Over { form, own: Kinds }, kept)
+        }
+        FormCommand::Needs => {
+            answer_command(rt, alloc, shelf, out, &Over { form, own: Needs }, kept)
         }
         FormCommand::Orders => {
             answer_command(rt, alloc, shelf, out, &Over { form, own: Orders }, kept)

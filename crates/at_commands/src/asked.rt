@@ -88,6 +88,7 @@ pub fn asked_by(words: &[String]) -> Option<Asked<'_>>
         "run" => form_asked(FormCommand::Run, words),
         "check" => form_asked(FormCommand::Check, words),
         "kinds" => form_asked(FormCommand::Kinds, words),
+        "needs" => form_asked(FormCommand::Needs, words),
         "orders" => form_asked(FormCommand::Orders, words),
         "costs" => form_asked(FormCommand::Costs, words),
         "ledger" => form_asked(FormCommand::Ledger, words),

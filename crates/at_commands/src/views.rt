@@ -1,11 +1,11 @@
-//! What is shown of a book and payments: what needs agreement, and the replies in all orders, where nothing is run; and of a run what each
-//! call cost, and its journal.
+//! What is shown of a book and payments: what needs agreement, what the accounts would have to have, and the replies in all orders, where
+//! nothing is run; and of a run what each call cost, and its journal.
 
 ghost use Rattle.std.specs.Prelude.{◌≡◌, IfOk, IfErr};
 ghost use Rattle.at_commands.specs.Commanding.{Does, IsLoadedForm, MakesForm};
 ghost use Rattle.at_commands.specs.Forms.{payments_promise};
 ghost use Rattle.at_commands.specs.Loading.{PaysBytes, loaded_shown};
-ghost use Rattle.at_commands.specs.Views.{costs_terms, kinds_terms, ledger_terms, orders_terms};
+ghost use Rattle.at_commands.specs.Views.{costs_terms, kinds_terms, ledger_terms, needs_terms, orders_terms};
 ghost use Rattle.at_commands.specs.Words.{form_shown};
 
 use crate::commanding::answer_by;
@@ -19,7 +19,7 @@ use at_ledger::Call;
 use at_object::Closed;
 use at_orders::{OrdersError, orders};
 use at_report::Status;
-use at_tables::{costs_text, kinds, ledger, orders_text};
+use at_tables::{costs_text, kinds, ledger, needs_text, orders_text};
 use at_workers::Gate;
 use std::alloc::Global;
 use std::thread::Threads;
@@ -40,6 +40,26 @@ impl PaymentsText for Kinds {
         loaded: Loaded<Call>,
     ) -> Result<Printed, Status> {
         let text = kinds(alloc, &loaded.book, &loaded.names, loaded.files.as_slice())?;
+        Printed::of(alloc, text, None)
+    }
+}
+
+/// `needs`: what the owners of each account ask of it.
+#[derive(Drop)]
+pub(crate) struct Needs;
+
+impl PaymentsTerms for Needs {
+    ghost terms = { needs_terms };
+}
+
+impl PaymentsText for Needs {
+    fn text<R: Threads + Sync>(
+        &self,
+        _rt: &R,
+        alloc: Global,
+        loaded: Loaded<Call>,
+    ) -> Result<Printed, Status> {
+        let text = needs_text(alloc, &loaded.book, &loaded.names, loaded.files.as_slice())?;
         Printed::of(alloc, text, None)
     }
 }

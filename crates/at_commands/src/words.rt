@@ -2,7 +2,7 @@
 
 /// What the words have to be.
 pub(crate) const USAGE: &str =
-    "usage: run BOOK PAY... | check BOOK PAY... | kinds BOOK PAY... | orders BOOK PAY... | costs BOOK PAY... | ledger BOOK PAY... | make NUMBER PROCESSES CALLS | replay BOOK SCHEDULE PAY... | trace BOOK SCHEDULE PAY... | show BOOK SCHEDULE PAY... | verify BOOK REPORT PAY... | agree VALUE... | deliver BOOK ORDER MSG...";
+    "usage: run BOOK PAY... | check BOOK PAY... | kinds BOOK PAY... | needs BOOK PAY... | orders BOOK PAY... | costs BOOK PAY... | ledger BOOK PAY... | make NUMBER PROCESSES CALLS | replay BOOK SCHEDULE PAY... | trace BOOK SCHEDULE PAY... | show BOOK SCHEDULE PAY... | verify BOOK REPORT PAY... | agree VALUE... | deliver BOOK ORDER MSG...";
 
 /// A command that reads a book and the files of the processes.
 #[derive(Clone, Copy, Debug, PartialEq, Eq)]
@@ -13,6 +13,8 @@ pub enum FormCommand {
     Check,
     /// Print which payments need agreement, and of whom. Nothing is run.
     Kinds,
+    /// Print what the owners of each account ask of it, beside what it opens with. Nothing is run.
+    Needs,
     /// Print the replies that each call has in some order of all calls. Nothing is run.
     Orders,
     /// Make the calls, and print what each of them cost, beside the most that it may cost.

@@ -36,8 +36,8 @@ fn tell_unless_done<E: Sink>(err: &mut E, status: &Status)
 /// processes at once on one ledger, by a thread for each process where threads can be had; the gate is told of each call.
 /// `agree` makes those of a council so, and no gate is told. Under `Done` and a write fault they leave that ledger, closed,
 /// in `kept`. `replay`, `trace` and `show` make the calls a step at a time, by the turns of a schedule, on this thread. The work grows
-/// with the bytes of the files, or with the calls that are made; for `kinds` by a logarithm of the accounts more, for `orders` with the
-/// stages that the orders go through, for `trace` with the turns, and for `show` with the turns times the processes.
+/// with the bytes of the files, or with the calls that are made; for `kinds` by a logarithm of the accounts more, for `needs` with the
+/// accounts for each process, for `orders` with the stages that the orders go through, for `trace` with the turns, and for `show` with the turns times the processes.
 pub fn serve<R: Threads + Sync, F: Shelf, O: Sink, E: Sink, G: Gate + Sync>(
     rt: &R,
     alloc: Global,

@@ -10,3 +10,4 @@ pub mod FieldLaws
 -- how many calls of each process the first turns have answered
 pub mod TurnCountLaws
 pub mod LedgerTextLaws
+pub mod AskingLaws

@@ -1,8 +1,9 @@
 -- What this crate's proofs name of other crates and of its definitions, in one place.
-pub use Rattle.std.proofs.lemmas.Bool.{cases_eq, eq-eqb, le-leb, lt-ltb, ltb-true, ne_eqb}
+pub use Rattle.std.proofs.Math.Seq.{get_or-append_seam}
+pub use Rattle.std.proofs.lemmas.Bool.{cases_eq, cases_lt, eq-eqb, le-leb, lt-ltb, ltb-true, ne_eqb}
 pub use Rattle.std.proofs.lemmas.Bool.Decides.{nat_tests}
 pub use Rattle.std.proofs.lemmas.Grind.{common_steps, flat_map-append}
-pub use Rattle.std.proofs.lemmas.List.{get_or-map, get_or-replicate, get_or-set_other, get_or-set_same, get_or_past, get_or_read, length-map, length-set, map-append, map-id, take_more}
+pub use Rattle.std.proofs.lemmas.List.{get_or-map, get_or-replicate, get_or-set_other, get_or-set_same, get_or_append_left, get_or_past, get_or_read, length-append, length-map, length-set, map-append, map-id, take_more, with_items_is}
 pub use Rattle.std.proofs.lemmas.List.FromFn.{map-range_with_len_more, sum_by-map-range_with_len_more}
 pub use Rattle.std.proofs.lemmas.List.Sums.{count_by-le-length, fold_push, sum_by-append, sum_by-cons, sum_by_push}
 pub use Rattle.std.proofs.lemmas.Map.Lookups.{CmpEqualImpliesEq, exact_bytes, exact_unsigned}
@@ -18,11 +19,12 @@ unfoldable pub use Rattle.std.specs.List.Sorted.{IsStrictlySortedBy}
 pub use Rattle.std.specs.Ordering.{is_eq, match_ordering, nat_cmp, ordering_then}
 pub use Rattle.std.specs.declared.cmp.Ordering.{Ordering}
 pub use Rattle.std.specs.declared.cmp.Ordering.TheVariants.{Equal, Greater, Less}
+pub use Rattle.std.specs.Vec.{with_items}
 pub use Rattle.at_board.specs.Counting.{raised}
 pub use Rattle.at_files.specs.Names.{NameList, account_name}
-pub use Rattle.at_ledger.proofs.FileLists.{get_or-contents_of, length-contents_of}
+pub use Rattle.at_ledger.proofs.FileLists.{contents_of-pushed, get_or-contents_of, length-contents_of}
 pub use Rattle.at_ledger.specs.Account.{AccountTerms, is_owner_in, is_shared, no_account}
-pub use Rattle.at_ledger.specs.Book.{BookTerms, account_of}
+pub use Rattle.at_ledger.specs.Book.{BookTerms, IsAccount, account_of}
 pub use Rattle.at_ledger.specs.Call.{IsCallOn, TargetPair, amount_of, first_account}
 pub use Rattle.at_ledger.specs.Files.{IsPlayable, contents_of}
 pub use Rattle.at_ledger.specs.declared.call.Call.{Call}
@@ -34,6 +36,7 @@ pub use Rattle.at_log.specs.declared.receipt.Receipt.{Receipt}
 pub use Rattle.at_object.specs.Calls.{CallMade, may_exchange}
 pub use Rattle.at_object.specs.Passes.{PassTerms}
 pub use Rattle.at_object.specs.Payments.{IsRefused}
+pub use Rattle.at_orders.specs.Covered.{asked_in_file}
 pub use Rattle.at_orders.specs.declared.replies.Replies.{Replies}
 pub use Rattle.at_report.proofs.LineLaws.{join_with_byte-spaced, line_text-spaced, lines_text-map_more}
 pub use Rattle.at_report.proofs.NodeTexts.{line_text-words, lines_text-append}
@@ -43,6 +46,7 @@ pub use Rattle.at_report.specs.Records.{comma_led, record_text, records_text}
 pub use Rattle.at_stepper.specs.InTurns.{turn_at}
 pub use Rattle.at_stepper.specs.Schedules.{answered_by}
 pub use Rattle.at_stepper.specs.declared.replaying.TurnMade.{TurnMade}
+pub use Rattle.at_tables.specs.Asking.{AreAddedUp, AreSumRows, HaveSums, row_number}
 pub use Rattle.at_tables.specs.Bounds.{IsCostWithin, is_refusal, most_exchanges, most_steps}
 unfoldable pub use Rattle.at_tables.specs.Bounds.{AreCostsWithin}
 pub use Rattle.at_tables.specs.CallFields.{call_fields}
@@ -53,6 +57,7 @@ pub use Rattle.at_tables.specs.Groups.{AreGroups, GroupTerms, group_cmp, group_o
 pub use Rattle.at_tables.specs.Kinds.{count_first, count_in, count_in_file, has_kind, is_agreed_kind, is_alone_kind, is_by_owner_of, is_owner_kind, is_payment_kind, is_refused_kind, kind_of}
 pub use Rattle.at_tables.specs.KindsText.{account_lines, account_words, count_words, group_lines, group_words, head_lines, owner_words, use_word}
 pub use Rattle.at_tables.specs.LedgerText.{credit_text, credits_text, debit_text, entry_text, opening_text, openings_text, title_text}
+pub use Rattle.at_tables.specs.NeedsText.{account_fields, needs_head, needs_of_account, needs_records, owner_asks, owner_fields, owner_records}
 pub use Rattle.at_tables.specs.OrdersText.{call_at, process_replies, replies_at, replies_fields, replies_records, replies_words, word_if}
 pub use Rattle.at_tables.specs.Parted.{parted}
 pub use Rattle.at_tables.specs.Sentence.{agreement_text, counted_text, payments_text}

@@ -11,6 +11,8 @@ pub mod Bounds
 pub mod CostsText
 pub mod OrdersText
 pub mod Parted
+pub mod NeedsText
+pub mod Asking
 pub mod Addresses
 pub mod TraceText
 pub mod LedgerText

@@ -28,6 +28,7 @@ pub use Rattle.at_log.specs.declared.receipt.Receipt.{Receipt}
 pub use Rattle.at_object.specs.Calls.{call_steps, may_exchange}
 pub use Rattle.at_object.specs.Passes.{PassTerms}
 pub use Rattle.at_object.specs.Payments.{payment_steps, shared_steps, single_steps}
+pub use Rattle.at_orders.specs.Covered.{asked_in_file}
 pub use Rattle.at_orders.specs.Orders.{AreAnswers}
 pub use Rattle.at_orders.specs.Replies.{no_replies}
 pub use Rattle.at_orders.specs.declared.replies.Range.{Range}

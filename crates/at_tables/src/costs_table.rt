@@ -24,7 +24,7 @@ fn push_head(out: &mut Vec<u8>) -> Result<(), AllocError>
 }
 
 /// Adds a comma, and a number of any size.
-fn push_large_field(out: &mut Vec<u8>, n: u128) -> Result<(), AllocError>
+pub(crate) fn push_large_field(out: &mut Vec<u8>, n: u128) -> Result<(), AllocError>
     ensures { OnOk result (out.new.items ≡ out.old.items ++ comma_led (decimal n ∷ [])) }
 {
     out.push(b',')?;

@@ -16,7 +16,7 @@ use std::alloc::{AllocError, Global};
 use std::collections::BTreeSet;
 
 /// How the owners of an account use it.
-fn use_word(book: &Book, account: u32) -> &'static [u8]
+pub(crate) fn use_word(book: &Book, account: u32) -> &'static [u8]
     requires { account < length book.now.accounts }
     ensures { result.now ≡ use_word (account_of book.now account) }
 {

@@ -9,6 +9,9 @@ returns-in-Check g c = rw c.in-Check.is c.answer_command.ensures
 pub returns-in-Kinds : goal.returns-in-Kinds
 returns-in-Kinds g c = rw c.in-Kinds.is c.answer_command-in-Kinds.ensures
 
+pub returns-in-Needs : goal.returns-in-Needs
+returns-in-Needs g c = rw c.in-Needs.is c.answer_command-in-Needs.ensures
+
 pub returns-in-Orders : goal.returns-in-Orders
 returns-in-Orders g c = rw c.in-Orders.is c.answer_command-in-Orders.ensures
 

@@ -38,6 +38,9 @@ slice_bounds-words-count c = grind (arith, common_steps)
 pub returns-in-kinds-clause-asked : goal.returns-in-kinds-clause-asked
 returns-in-kinds-clause-asked c = grind (arith, common_steps)
 
+pub returns-in-needs-clause-asked : goal.returns-in-needs-clause-asked
+returns-in-needs-clause-asked c = grind (arith, common_steps)
+
 pub returns-in-orders-clause-asked : goal.returns-in-orders-clause-asked
 returns-in-orders-clause-asked c = grind (arith, common_steps)
 
