@@ -28,6 +28,11 @@ alone() {
 examples=$release/examples
 alone "$release/bin/bezglami" run "$examples/usual/book.csv" "$examples/usual/pay0.csv" | cmp - "$examples/usual/usual.report"
 alone "$release/bin/bezglami" kinds "$examples/usual/book.csv" "$examples/usual/pay0.csv" | cmp - "$examples/usual/usual.kinds"
+ln -s "$release/bin/bezglami" 'a link'
+alone "./a link" kinds "$examples/usual/book.csv" "$examples/usual/pay0.csv" | cmp - "$examples/usual/usual.kinds"
+# The settings are those of the repository's script.
+settings=$(sed -n 's/^export GLIBC_TUNABLES="${GLIBC_TUNABLES-\(.*\)}"$/\1/p' "$release/bin/bezglami")
+[ "$settings" = "$(sed -n 's/^allocator=//p' "$OLDPWD/bezglami")" ] && [ -n "$settings" ]
 tried='the program'
 
 # Whether the release's program says that the file `report` is one of a run of these files.

@@ -58,6 +58,18 @@ copy_licences() {
     } >"$release/licences/README.md"
 }
 
+# The script by which the program runs: the allocator is told what the script `bezglami` of the repository tells it.
+write_script() {
+    cat >"$release/bin/bezglami" <<END
+#!/bin/sh
+# Runs the program, and tells the C library's allocator what serves it, unless something else was told.
+here=\$(CDPATH='' cd -- "\$(dirname -- "\$(readlink -f -- "\$0")")/.." && pwd) || exit 1
+export GLIBC_TUNABLES="\${GLIBC_TUNABLES-$(sed -n 's/^allocator=//p' "$root/bezglami")}"
+exec "\$here/libexec/bezglami" "\$@"
+END
+    chmod 755 "$release/bin/bezglami"
+}
+
 write_readme() {
     cat >"$release/README.md" <<END
 # Bezglami
@@ -66,7 +78,7 @@ The asset transfer object: a payment ledger that no thread waits for. This folde
 
 | here | what it is |
 |---|---|
-| \`bin/bezglami\` | the program; it prints its commands where it is given no word |
+| \`bin/bezglami\` | the program; it prints its commands where it is given no word. It is a script that tells the allocator what serves \`libexec/bezglami\` |
 | \`include/bezglami.h\` | the header of the library for C |
 | \`lib/libbezglami.a\`, \`lib/libbezglami.so\` | the library, static and shared |
 | \`bindings/c\`, \`bindings/rust\`, \`bindings/python\` | examples in C, a crate, and a module |
@@ -95,9 +107,10 @@ END
 }
 
 rm -rf -- "$release" "$release.tar.gz"
-mkdir -p -- "$release/bin" "$release/docs" "$release/include" "$release/licences"
+mkdir -p -- "$release/bin" "$release/libexec" "$release/docs" "$release/include" "$release/licences"
 "$root/bindings/libraries.sh" "$release/lib"
-cp -- "$root/crates/at_program/out/at_program" "$release/bin/bezglami"
+cp -- "$root/crates/at_program/out/at_program" "$release/libexec/bezglami"
+write_script
 cp -- "$root/bindings/c/bezglami.h" "$release/include/"
 for guide in bindings formats rust python; do cp -- "$root/docs/$guide.md" "$release/docs/"; done
 git -C "$root" ls-files bindings/c bindings/rust bindings/python examples | grep -v -e '\.h$' -e '/test\.c$' | (cd -- "$root" && tar -cf - -T -) | tar -xf - -C "$release"
