@@ -148,16 +148,17 @@ def each_can_be_first(folder, voices):
 
 def stops(folder, processes, seed):
     """A process that stops for good in the middle of the longest files holds up no other: all that wait for no other thread end before it
-    goes on. Which one stops, and when, is drawn."""
+    goes on. Which one stops, and when, is drawn, until it came to that three times."""
     words = ["run", "book", *put_long(folder, processes)]
     draw, free = random.Random(seed), 0
-    for _ in range(20):
+    for run in range(1, 301):
         verified(folder, over(folder, *words, STOP=draw.randint(2, processes), AFTER=draw.choice(MICROSECONDS)), words)
         is_true(not (folder.path / "held").exists(), "the others wait for the process that stopped")
         free += (folder.path / "free").exists()
         (folder.path / "free").unlink(missing_ok=True)
-    is_true(free > 2, f"in {free} of 20 runs a process stopped")
-    return f"in {free} of 20 runs a process stopped, drawn from seed {seed}"
+        if run >= 20 and free > 2:
+            return f"in {free} of {run} runs a process stopped, drawn from seed {seed}"
+    raise Failed(f"in {free} of 300 runs a process stopped")
 
 
 def cases():
