@@ -16,6 +16,9 @@ extern void *__libc_malloc(size_t);
 extern void *__libc_calloc(size_t, size_t);
 extern void *__libc_realloc(void *, size_t);
 extern void *__libc_memalign(size_t, size_t);
+extern void __libc_free(void *);
+// In `threads.c`: whether a call for memory begins or ends.
+extern void asks_memory(int);
 
 static atomic_long calls, asked;
 static long failing, refused;
@@ -82,9 +85,33 @@ static int is_refused(void) {
     return 1;
 }
 
-void *malloc(size_t size) { return is_refused() ? NULL : __libc_malloc(size); }
+// What a call for memory found.
+static void *found(void *memory) {
+    asks_memory(0);
+    return memory;
+}
+
+void free(void *memory) {
+    asks_memory(1);
+    __libc_free(memory);
+    asks_memory(0);
+}
+
+void *malloc(size_t size) {
+    if (is_refused())
+        return NULL;
+    asks_memory(1);
+    return found(__libc_malloc(size));
+}
+
 void *calloc(size_t count, size_t size) { return is_refused() ? NULL : __libc_calloc(count, size); }
-void *realloc(void *old, size_t size) { return is_refused() ? NULL : __libc_realloc(old, size); }
+void *realloc(void *old, size_t size) {
+    if (is_refused())
+        return NULL;
+    asks_memory(1);
+    return found(__libc_realloc(old, size));
+}
+
 void *memalign(size_t align, size_t size) { return is_refused() ? NULL : __libc_memalign(align, size); }
 void *aligned_alloc(size_t align, size_t size) { return is_refused() ? NULL : __libc_memalign(align, size); }
 int posix_memalign(void **out, size_t align, size_t size) {

@@ -28,6 +28,8 @@ struct work {
 static atomic_long threads, makers, ended;
 static atomic_long stopped;
 static _Thread_local int is_made, has_made;
+// Of a thread: whether it is the one to be stopped, and how many hold that off.
+static _Thread_local int is_to_stop __attribute__((tls_model("initial-exec"))), holds __attribute__((tls_model("initial-exec")));
 
 static long number_of(const char *name) {
     const char *text = getenv(name);
@@ -46,12 +48,21 @@ static void wait_a_while(long number) {
     usleep((drawn ^ (drawn >> 15)) % 20000);
 }
 
-// A thread isn't stopped while it makes another, begins or ends: it may hold what the C library needs for others then.
+// A thread isn't stopped while it makes another, begins or ends, nor while it asks for memory or gives it back: it may hold what the C
+// library needs for others then.
 static void may_stop(int may) {
+    holds += may ? -1 : 1;
+    if (holds != !may)
+        return;
     sigset_t set;
     sigemptyset(&set);
     sigaddset(&set, SIGUSR1);
     pthread_sigmask(may ? SIG_UNBLOCK : SIG_BLOCK, &set, NULL);
+}
+
+void asks_memory(int asks) {
+    if (is_to_stop)
+        may_stop(!asks);
 }
 
 // The thread that is stopped waits here.
@@ -77,9 +88,12 @@ static void *stop_later(void *unused) {
 static void *begin(void *given) {
     struct work work = *(struct work *)given;
     free(given);
-    is_made = 1;
-    if (work.number == number_of("STOP"))
+    // It begins with the signals blocked that were so where it was made.
+    is_made = holds = 1;
+    if (work.number == number_of("STOP")) {
+        is_to_stop = 1;
         stopped = syscall(SYS_gettid);
+    }
     if (getenv("DELAY"))
         wait_a_while(2 * work.number);
     may_stop(1);
