@@ -81,6 +81,14 @@ def helps(folder, *words):
     is_true(named == commands, f"it names {named}")
 
 
+def helps_with(folder, command, first, lines):
+    """The lines of one command in the head of the script are printed, the first of which has its words."""
+    answer = House(folder).run(command, "--help")
+    printed(answer, answer.out)
+    found = answer.out.decode().split("\n")
+    is_true(found[0].startswith(first) and len(found) == lines + 1, f"it prints {found}")
+
+
 def passes(folder, *words):
     """The built program gets all words as they are, and its output is the script's."""
     printed(House(folder).run(*words), told(words))
@@ -172,6 +180,10 @@ def cases():
     """The cases, by what the words lead to."""
     for words in ((), ("help",), ("--help",)):
         yield Case(f"help by {words}", helps, *words)
+    yield Case("help with one command", helps_with, "kinds", "  bezglami kinds BOOK PAY...    tells ", 1)
+    yield Case("help with a command of two lines", helps_with, "replay", "  bezglami replay BOOK SCHEDULE PAY...", 2)
+    yield Case("help with the last command", helps_with, "test", "  bezglami test ", 1)
+    yield Case("help with no command", passes, "kind", "--help")
     yield Case("words as they are", passes, "run", "a book", "", "--x", "*", "$(x)")
     yield Case("words of no form", passes, "Run", "x")
     yield Case("the program's status", passes_status)
