@@ -43,10 +43,17 @@ verified() {
 short=$examples/short
 owners=$examples/owners
 if PATH=$path command -v cc >/dev/null; then
-    for linked in static shared; do
+    for linked in static shared by-pkg-config; do
         case $linked in
             static) set -- "$release/lib/libbezglami.a" ;;
             shared) set -- "-L$release/lib" -lbezglami "-Wl,-rpath,$release/lib" ;;
+            by-pkg-config)
+                flags=$(alone PKG_CONFIG_PATH="$release/lib/pkgconfig" pkg-config --cflags --libs bezglami 2>said) || {
+                    "$OLDPWD/.ci/left_out.sh" 'the library by pkg-config' 'no pkg-config'
+                    continue
+                }
+                set -- $flags "-Wl,-rpath,$release/lib"
+                ;;
         esac
         for source in short example; do
             alone cc -std=c11 -D_POSIX_C_SOURCE=200809L -pthread -I"$release/include" "$release/bindings/c/$source.c" "$@" -o "$source"
@@ -63,11 +70,39 @@ if rust=$(rustc --print sysroot 2>/dev/null) && [ -x "$rust/bin/cargo" ]; then
     alone PATH="$rust/bin:$path" CARGO_HOME="$work/cargo" CARGO_TARGET_DIR="$work/target" cargo run --quiet --offline \
         --manifest-path "$release/bindings/rust/Cargo.toml" --example short >report 2>said
     verified "$short/book.csv" "$short/ann.csv" "$short/ann.csv"
+    # A member of somebody's workspace uses it, and lies beside it there.
+    mkdir -p own/one/src
+    cp -r "$release/bindings/rust" own/bezglami
+    printf '[workspace]\nresolver = "2"\nmembers = ["one"]\n' >own/Cargo.toml
+    printf '[package]\nname = "one"\nversion = "0.1.0"\nedition = "2021"\n[dependencies]\nbezglami = { path = "../bezglami" }\n' >own/one/Cargo.toml
+    cp "$release/bindings/rust/examples/short.rs" own/one/src/main.rs
+    alone PATH="$rust/bin:$path" CARGO_HOME="$work/cargo" CARGO_TARGET_DIR="$work/target" BEZGLAMI_LIB="$release/lib" cargo run --quiet --offline \
+        --manifest-path own/one/Cargo.toml >report 2>said
+    verified "$short/book.csv" "$short/ann.csv" "$short/ann.csv"
     tried="$tried, Rust"
 fi
 if python=$(python3 -c 'import sys; sys.version_info >= (3, 10) and print(sys.executable)' 2>/dev/null) && [ -n "$python" ]; then
     alone PYTHONDONTWRITEBYTECODE=1 "$python" "$release/bindings/python/example.py" >report 2>said
     verified "$short/book.csv" "$short/ann.csv" "$short/ann.csv"
     tried="$tried, Python"
+fi
+# Debian's pip finds what makes a wheel beside it; nothing is fetched.
+if [ -x /usr/bin/pip3 ] && /usr/bin/python3 -c 'import setuptools, wheel' 2>/dev/null; then
+    cp -rL "$release/bindings/python" package
+    alone /usr/bin/python3 -m pip install --quiet --no-index --no-build-isolation --no-deps --target "$work/site" ./package >said 2>&1 || {
+        cat said >&2
+        exit 1
+    }
+    mv "$release/lib" "$release/lib-elsewhere"
+    alone PYTHONDONTWRITEBYTECODE=1 PYTHONPATH="$work/site" /usr/bin/python3 - "$release/bindings/python/example.py" >report 2>said <<'END'
+import runpy, sys
+sys.path = [folder for folder in sys.path if not folder.endswith("bindings/python")]
+runpy.run_path(sys.argv[1])
+END
+    mv "$release/lib-elsewhere" "$release/lib"
+    verified "$short/book.csv" "$short/ann.csv" "$short/ann.csv"
+    tried="$tried, pip"
+else
+    "$OLDPWD/.ci/left_out.sh" 'the module by pip' 'no pip with setuptools and wheel in /usr/bin'
 fi
 echo "bindings: the release runs alone: $tried"

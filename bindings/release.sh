@@ -80,7 +80,7 @@ The asset transfer object: a payment ledger that no thread waits for. This folde
 |---|---|
 | \`bin/bezglami\` | the program; it prints its commands where it is given no word. It is a script that tells the allocator what serves \`libexec/bezglami\` |
 | \`include/bezglami.h\` | the header of the library for C |
-| \`lib/libbezglami.a\`, \`lib/libbezglami.so\` | the library, static and shared |
+| \`lib/libbezglami.a\`, \`lib/libbezglami.so\` | the library, static and shared; \`lib/pkgconfig\` tells both to pkg-config |
 | \`bindings/c\`, \`bindings/rust\`, \`bindings/python\` | examples in C, a crate, and a module |
 | \`docs\` | guides to the bindings, and the forms of books, payments and reports; what they link to otherwise stands in the repository |
 | \`examples\` | books and payment files, with reports |
@@ -91,11 +91,12 @@ Each of these runs in this folder:
 \`\`\`
 bin/bezglami run examples/household/book.csv examples/household/ann.csv examples/household/bob.csv
 cc -std=c11 -pthread -Iinclude bindings/c/short.c lib/libbezglami.a -o short && ./short
-cc -std=c11 -pthread -Iinclude bindings/c/short.c -Llib -lbezglami -Wl,-rpath,"\$PWD/lib" -o shared && ./shared
+cc -std=c11 -pthread bindings/c/short.c \$(PKG_CONFIG_PATH=lib/pkgconfig pkg-config --cflags --libs bezglami) -Wl,-rpath,"\$PWD/lib" -o shared && ./shared
 cc -std=c11 -pthread -Iinclude bindings/c/example.c lib/libbezglami.a -o example
 ./example examples/owners/book.csv examples/owners/pay0.csv examples/owners/pay1.csv
 (cd bindings/rust && cargo run --offline --example short)
 python3 bindings/python/example.py
+pip install bindings/python && python3 -c 'import bezglami'
 \`\`\`
 
 Each of them prints its report to the output, and all else to the error output. The program tells whether such a report is one of a legal run:
@@ -114,6 +115,7 @@ write_script
 cp -- "$root/bindings/c/bezglami.h" "$release/include/"
 for guide in bindings formats rust python; do cp -- "$root/docs/$guide.md" "$release/docs/"; done
 git -C "$root" ls-files bindings/c bindings/rust bindings/python examples | grep -v -e '\.h$' -e '/test\.c$' | (cd -- "$root" && tar -cf - -T -) | tar -xf - -C "$release"
+ln -s ../../../lib/libbezglami.so "$release/bindings/python/bezglami/libbezglami.so"
 copy_licences
 write_readme
 tar -czf "$release.tar.gz" --owner=0 --group=0 -C "$root/out" "$name"

@@ -19,7 +19,7 @@
  * Costs: `bezglami_read`, `bezglami_transfer` and `bezglami_pay` take no memory, and no more steps than a bound that the book
  * alone sets, and seven for each payment of another process that they count for the first time. Each answer tells its steps. `bezglami_open`, `bezglami_caller` and `bezglami_close` take memory, in proportion to
  * the book, the calls that a caller has room for, and the calls that were made; `bezglami_report` copies. All others are constant,
- * but that `bezglami_free` and `bezglami_return` free the board with the last that shares it. */
+ * but that `bezglami_free` and `bezglami_return` free the board with the last that shares it. 80 KiB of stack are enough for each. */
 #ifndef BEZGLAMI_H
 #define BEZGLAMI_H
 
@@ -162,7 +162,15 @@ typedef struct bezglami_target {
     uint64_t amount;
 } bezglami_target;
 
-#define BEZGLAMI_TARGETS_MOST 4
+/* The limits of a book, of a call and of a caller. */
+#define BEZGLAMI_PROCESSES_MOST 16
+#define BEZGLAMI_ACCOUNTS_MOST 1024
+#define BEZGLAMI_OWNERS_MOST 8          /* of one account */
+#define BEZGLAMI_OWN_ROOM_MOST 4096     /* payments of a process from accounts of its own, for the life of a ledger */
+#define BEZGLAMI_REQUEST_ROOM_MOST 1024 /* payments of a process from one shared account, likewise */
+#define BEZGLAMI_ROUNDS_MOST 8192       /* the shared accounts' owners, all together, times the request room */
+#define BEZGLAMI_TARGETS_MOST 4         /* of a pay-out */
+#define BEZGLAMI_VERIFY_CALLS_MOST 16384 /* of a process in a report that `verify` takes */
 
 /* Fills `ledger`, which holds nothing, with a ledger for the book that the bytes spell, a CSV file as the programs read it; `length`
  * is without a terminating 0. Other outcomes: BEZGLAMI_IN_USE, BEZGLAMI_BAD_BOOK, BEZGLAMI_NO_MEMORY. */

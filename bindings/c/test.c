@@ -229,6 +229,48 @@ static void test_bad_books(void) {
 }
 
 /* The report of calls of one process is in their order, to the byte; nothing is written where there is too little room. */
+/* A book of which each account but the first has one owner. */
+static const char *book_of(unsigned processes, unsigned own_room, unsigned request_room, unsigned accounts, unsigned owners) {
+    static char book[1 << 16];
+    int n = sprintf(book, "book,1\nprocesses,%u\nlimits,%u,%u\naccount,0,5,0", processes, own_room, request_room);
+    for (unsigned owner = 1; owner < owners; owner++)
+        n += sprintf(book + n, " %u", owner);
+    for (unsigned account = 1; account < accounts; account++)
+        n += sprintf(book + n, "\naccount,%u,5,%u", account, account % processes);
+    sprintf(book + n, "\n");
+    return book;
+}
+
+enum { STACK = 80 * 1024 };
+
+/* Opens a book of this text, and reads, closes and frees, on the little stack that the header says is enough. */
+static void *use(void *book) {
+    bezglami_handle ledger = BEZGLAMI_NOTHING, ann = BEZGLAMI_NOTHING;
+    open_new(book, &ledger);
+    EXPECT(bezglami_caller(&ledger, 1, &ann) == BEZGLAMI_DONE);
+    EXPECT(answered(&ann, BEZGLAMI_ACCOUNTS_MOST - 1, 5));
+    EXPECT(bezglami_return(&ann) == BEZGLAMI_DONE && bezglami_close(&ledger) == BEZGLAMI_DONE);
+    bezglami_free(&ledger);
+    return NULL;
+}
+
+/* What the header says are the limits is taken, and one more isn't. */
+static void test_limits(void) {
+    unsigned p = BEZGLAMI_PROCESSES_MOST, own = BEZGLAMI_OWN_ROOM_MOST, request = BEZGLAMI_REQUEST_ROOM_MOST;
+    unsigned a = BEZGLAMI_ACCOUNTS_MOST, k = BEZGLAMI_OWNERS_MOST;
+    EXPECT(k * request == BEZGLAMI_ROUNDS_MOST);
+    EXPECT(is_bad(book_of(p + 1, own, request, a, k), 2, BEZGLAMI_WHY_TOO_MANY_PROCESSES));
+    EXPECT(is_bad(book_of(p, own + 1, request, a, k), 3, BEZGLAMI_WHY_ROOM_OUT_OF_RANGE));
+    EXPECT(is_bad(book_of(p, own, request + 1, a, k), 3, BEZGLAMI_WHY_ROOM_OUT_OF_RANGE));
+    EXPECT(is_bad(book_of(p, own, request, a + 1, k), a + 4, BEZGLAMI_WHY_TOO_MANY_ACCOUNTS));
+    EXPECT(is_bad(book_of(p, own, request, a, k + 1), 4, BEZGLAMI_WHY_TOO_MANY_OWNERS));
+    pthread_attr_t small;
+    pthread_t thread;
+    EXPECT(pthread_attr_init(&small) == 0 && pthread_attr_setstacksize(&small, STACK) == 0);
+    EXPECT(pthread_create(&thread, &small, use, (void *)book_of(p, own, request, a, k)) == 0);
+    EXPECT(pthread_join(thread, NULL) == 0 && pthread_attr_destroy(&small) == 0);
+}
+
 static void test_report(void) {
     static const char wanted[] = "journal 3\n0 1 transfer 0 1 30 done\n0 2 read 0 70\n0 3 read 1 30\nbalances 2\n0 70\n1 30\ntotal 100\n";
     const size_t length = sizeof wanted - 1;
@@ -625,6 +667,7 @@ int main(void) {
     test_pay_outs();
     test_misuse();
     test_bad_books();
+    test_limits();
     test_report();
     test_closed();
     test_order_of_closing();

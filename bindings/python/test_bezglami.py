@@ -1,13 +1,18 @@
 """Each kind of call, each error, notes, closing, and threads: `python3 -m unittest` in this folder."""
 
 import gc
+import os
+import signal
 import unittest
 from concurrent.futures import ThreadPoolExecutor
 from contextlib import suppress
 from unittest import mock
+from unittest.mock import DEFAULT
 
+import bezglami
 from bezglami import (
-    BadBook, Busy, CallersOut, Error, Ledger, NoAccount, NoCaller, NoNote, NoPayOut, NoProcess, NoRoom, OtherVersion, Reply, Why,
+    BadBook, Busy, CallersOut, Error, Forked, InCall, Ledger, NoAccount, NoCaller, NoMemory, NoNote, NoPayOut, NoProcess, NoRoom, OtherVersion,
+    Reply, Why,
 )
 
 BOOK = b"book,1\nprocesses,3\nlimits,100,20\naccount,0,500,0\naccount,1,100,1\naccount,2,300,0 1\naccount,3,0,\n"
@@ -36,7 +41,7 @@ BAD_BOOKS = [
 
 def three():
     ledger = Ledger(BOOK)
-    callers = list(ledger.callers(200))
+    callers = ledger.callers(200)
     return ledger, callers
 
 
@@ -100,7 +105,8 @@ class Calls(unittest.TestCase):
         gc.collect()
         report = "journal 2\n0 1 transfer 0 3 200 done\n0 2 read 0 300\nbalances 4\n0 300\n1 100\n2 300\n3 200\ntotal 900\n"
         self.assertEqual(ledger.close(), report)
-        for use in [ledger.close, ann.steps, ann.exchanges]:
+        self.assertEqual(ledger.close(), report)
+        for use in [ann.steps, ann.exchanges]:
             self.assertRaises(ValueError, use)
         self.assertRaises(ValueError, ledger.caller, 9)
         self.assertRaises(ValueError, ann.read, 0)
@@ -157,11 +163,111 @@ class Calls(unittest.TestCase):
         self.assertRaises(NoPayOut, ann.pay, 0, [(3, 1)] * 5)
         self.assertEqual(ann.read(0).balance, 500)
         self.assertRaises(NoRoom, ann.read, 0)
-        self.assertEqual(len(list(ledger.callers(1))), 2)
+        self.assertEqual(len(ledger.callers(1)), 2)
         self.assertRaises(NoCaller, ledger.caller, 1)
         self.assertTrue(issubclass(NoCaller, Error))
         with mock.patch("bezglami._VERSION", 2):
             self.assertRaises(OtherVersion, Ledger, BOOK)
+
+    def test_words_of_errors(self):
+        ledger = Ledger(BOOK)
+        ann = ledger.caller(0)
+        for call, words in [
+            (lambda: ann.transfer(0, 7, 1), "process 0, with room for 0 calls, transfer from account 0 to account 7: "),
+            (lambda: ann.pay(2, [(3, 1), (9, 2)]), "process 0, with room for 0 calls, pay-out from account 2 to 2 targets: 3, 9: "),
+            (lambda: ann.read(0), "process 0, with room for 0 calls, read of account 0: "),
+            (lambda: ann.note(3), "note of process 0 for process 3: "),
+            (lambda: ann.learn(1), "note of process 1 for process 0: "),
+            (ledger.close, "closing, with 1 callers handed out: "),
+        ]:
+            with self.assertRaises(Error) as raised:
+                call()
+            self.assertEqual(str(raised.exception), words + type(raised.exception).__doc__)
+        for wrong in [lambda: ann.transfer(0, 1, 2**64), lambda: ann.pay(0, [(1, 2**64)])]:
+            self.assertRaisesRegex(ValueError, "^an amount is 0 to 18446744073709551615, and not 18446744073709551616$", wrong)
+
+    def test_a_signal_in_a_call(self):
+        ledger = Ledger(BOOK)
+        ann, bob, _ = ledger.callers(9)
+        told = []
+
+        def handle(number, frame):
+            self.assertRaises(InCall, ann.steps)
+            self.assertRaises(InCall, ann.give_back)
+            told.append(bob.read(0).balance)
+
+        def interrupted(*words):
+            if not told:
+                told.append("a signal")
+                signal.raise_signal(signal.SIGUSR1)
+            return read(*words)
+
+        read = bezglami._library.bezglami_read
+        before = signal.signal(signal.SIGUSR1, handle)
+        try:
+            with mock.patch.object(bezglami._library, "bezglami_read", interrupted):
+                self.assertEqual(ann.read(0).balance, 500)
+        finally:
+            signal.signal(signal.SIGUSR1, before)
+        self.assertEqual(told, ["a signal", 500])
+        self.assertEqual(ann.read(0).balance, 500)
+
+    def test_an_interrupt_after_an_export(self):
+        def interrupted(*words):
+            hand_out(*words)
+            raise KeyboardInterrupt
+
+        hand_out = bezglami._library.bezglami_caller
+        ledger = Ledger(BOOK)
+        with mock.patch.object(bezglami._library, "bezglami_caller", interrupted):
+            self.assertRaises(KeyboardInterrupt, ledger.caller, 9)
+        gc.collect()
+        with ledger.caller(9) as bob:
+            self.assertEqual(bob.process, 1)
+            bob.transfer(1, 3, 1)
+        self.assertTrue(ledger.close().startswith("journal 1\n1 1 transfer 1 3 1 done\n"))
+
+    def test_a_child_of_a_fork(self):
+        ledger = Ledger(BOOK)
+        ann = ledger.caller(9)
+        child = os.fork()
+        if child == 0:
+            told = 0
+            for use in [lambda: ann.transfer(0, 1, 1), ann.steps, ann.give_back, ledger.close, lambda: ledger.caller(1)]:
+                with suppress(Forked):
+                    use()
+                    told = 1
+            os._exit(told)
+        self.assertEqual(os.waitstatus_to_exitcode(os.waitpid(child, 0)[1]), 0)
+        ann.transfer(0, 1, 1)
+        ann.give_back()
+        self.assertTrue(ledger.close().startswith("journal 1\n"))
+
+    def test_a_caller_that_is_looked_for(self):
+        """While a thread that closes the ledger just looks for a caller, letting go of it ends all the same, and it comes back later."""
+        ledger, callers = three()
+        callers[0].read(0)
+        with mock.patch.object(bezglami._library, "bezglami_return", return_value=12) as busy:
+            for caller in callers:
+                caller.give_back()
+            self.assertEqual(len(bezglami._aside), 3)
+            self.assertRaises(CallersOut, ledger.close)
+            self.assertEqual(len(bezglami._aside), 3)
+            self.assertLess(busy.call_count, 12)
+        self.assertRaises(ValueError, callers[0].read, 0)
+        self.assertTrue(ledger.close().startswith("journal 1\n"))
+        self.assertEqual(len(bezglami._aside), 0)
+
+    def test_no_memory_for_a_caller(self):
+        hand_out = bezglami._library.bezglami_caller
+        ledger = Ledger(BOOK)
+        with mock.patch.object(bezglami._library, "bezglami_caller", side_effect=[DEFAULT, 3, 3], wraps=hand_out):
+            self.assertRaises(NoMemory, ledger.callers, 8)
+            self.assertEqual(ledger.caller(9).room, 8)
+            self.assertRaises(NoMemory, ledger.callers, 8)
+        self.assertEqual([(caller.process, caller.room) for caller in ledger.callers(9)], [(1, 9), (2, 9)])
+        self.assertEqual(ledger.callers(9), [])
+        self.assertTrue(ledger.close().startswith("journal 0\n"))
 
     def test_what_is_freed_early(self):
         with Ledger(BOOK) as ledger:

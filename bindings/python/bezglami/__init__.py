@@ -4,7 +4,7 @@ A Ledger is opened with a book and hands out a Caller for each process. Threads 
 lets go of the interpreter's lock meanwhile. Once all callers are given back, the ledger is closed, and its report has all calls in one
 legal order. Accounts are numbers from 0 in the book's order, also where the book names them.
 
-The library is libbezglami.so in the folder that BEZGLAMI_LIB names, beside this file, or in lib of the release that this file lies in.
+The library is libbezglami.so in the folder that BEZGLAMI_LIB names, and else beside this file, where a release has it.
 It is proved; this module is a thin layer around it, and no proof speaks of it.
 """
 
@@ -13,16 +13,17 @@ from __future__ import annotations
 import ctypes
 import os
 import threading
-import time
-from collections.abc import Iterator, Sequence
+from collections import deque
+from collections.abc import Callable, Sequence
+from contextlib import suppress
 from enum import Enum
 from pathlib import Path
 from types import TracebackType
-from typing import ClassVar, NamedTuple, NoReturn
+from typing import ClassVar, NamedTuple, NoReturn, TypeVar
 
 __all__ = [
-    "TARGETS_MOST", "BadBook", "Busy", "Caller", "CallersOut", "Error", "Ledger", "NoAccount", "NoCaller", "NoMemory", "NoNote", "NoPayOut",
-    "NoProcess", "NoRoom", "OtherVersion", "Receipt", "Reply", "Why",
+    "TARGETS_MOST", "BadBook", "Busy", "Caller", "CallersOut", "Error", "Forked", "InCall", "Ledger", "NoAccount", "NoCaller", "NoMemory",
+    "NoNote", "NoPayOut", "NoProcess", "NoRoom", "OtherVersion", "Receipt", "Reply", "Why",
 ]
 
 TARGETS_MOST = 4
@@ -106,6 +107,14 @@ class Busy(Error):
     """Another thread is just reaching for the same note. To ask again is all that it takes."""
 
 
+class InCall(Error):
+    """This thread is in a call of it already: a signal handler asks for it that came meanwhile."""
+
+
+class Forked(Error):
+    """It was made before this process was forked from its parent, so what stands here is a copy, and the parent's ledger would see nothing of it."""
+
+
 class OtherVersion(Error):
     """The library is of another version than this module."""
 
@@ -142,13 +151,11 @@ class _Target(ctypes.Structure):
 
 
 def _library_file() -> Path:
-    here = Path(__file__).resolve().parent
     named = os.environ.get("BEZGLAMI_LIB")
-    folders = [Path(named)] if named else [here, here.parent.parent / "lib"]
-    for folder in folders:
-        if (folder / "libbezglami.so").is_file():
-            return folder / "libbezglami.so"
-    raise ImportError(f"libbezglami.so isn't in {' or '.join(map(str, folders))}: BEZGLAMI_LIB names its folder")
+    file = (Path(named) if named else Path(__file__).resolve().parent) / "libbezglami.so"
+    if not file.is_file():
+        raise ImportError(f"{file} isn't there: BEZGLAMI_LIB names the folder that has it")
+    return file
 
 
 def _load() -> ctypes.CDLL:
@@ -186,25 +193,37 @@ _errors: dict[int, type[Error]] = {
 }
 
 
-def _refuse(outcome: int) -> NoReturn:
+def _refuse(outcome: int, asked: str) -> NoReturn:
     refusal = _errors.get(outcome)
     if refusal is None:
         raise RuntimeError(f"the library answered {outcome}, which no use of this module leads to")
-    raise refusal(refusal.__doc__)
+    raise refusal(f"{asked}: {refusal.__doc__}")
 
 
-def _export(name: str, *words: object) -> None:
-    """Calls an export, and raises what its outcome is, if it isn't done."""
-    outcome = getattr(_library, "bezglami_" + name)(*words)
-    if outcome != 0:
-        _refuse(outcome)
-
-
-def _fitting(value: int, bits: int) -> int:
+def _fitting(what: str, value: int, bits: int) -> int:
     """The value, which has to fit so many bits: ctypes would cut it."""
     if not 0 <= value < 1 << bits:
-        raise ValueError(f"{value} has no {bits} bits")
+        raise ValueError(f"{what} is 0 to {(1 << bits) - 1}, and not {value}")
     return value
+
+
+_aside: deque[_Handle] = deque()
+"""Callers that were let go of while a thread that closes their ledger just looked for them. The next that is let go of takes them along."""
+
+os.register_at_fork(after_in_child=_aside.clear)
+
+
+def _give_back_aside() -> None:
+    for _ in range(len(_aside)):
+        try:
+            handle = _aside.popleft()
+        except IndexError:
+            return
+        if _library.bezglami_return(handle) == _busy:
+            _aside.append(handle)
+
+
+_Answered = TypeVar("_Answered")
 
 
 class _Holder:
@@ -215,25 +234,49 @@ class _Holder:
 
     def __init__(self) -> None:
         self._handle = _Handle()
-        self._lock = threading.Lock()
+        self._lock = threading.RLock()
+        self._in_call = False
+        self._made_in = os.getpid()
 
-    def _let_go(self) -> None:
-        # A caller is busy while a thread that closes its ledger just looks whether it is back.
-        while getattr(_library, self._end)(self._handle) == _busy:
-            time.sleep(0)
-
-    def __del__(self) -> None:
-        if "_handle" in self.__dict__ and _library is not None:
-            self._let_go()
+    def _alone(self, work: Callable[[], _Answered]) -> _Answered:
+        """Does this while no other thread uses what is held, and nothing else of this thread."""
+        if os.getpid() != self._made_in:
+            raise Forked(Forked.__doc__)
+        # The lock lets its own thread in again. What an interrupt may come between is undone by no call that can be interrupted itself.
+        with self._lock:
+            if self._in_call:
+                raise InCall(InCall.__doc__)
+            try:
+                self._in_call = True
+                return work()
+            finally:
+                self._in_call = False
 
     def _held(self) -> _Handle:
         if not self._handle.at:
             raise ValueError("it was let go of")
         return self._handle
 
-    def __exit__(self, kind: type[BaseException] | None, error: BaseException | None, trace: TracebackType | None) -> None:
-        with self._lock:
+    def _ask(self, asked: str, name: str, *words: object) -> None:
+        """Calls an export with what is held, and raises what its outcome is, if it isn't done."""
+        export = getattr(_library, "bezglami_" + name)
+        outcome = self._alone(lambda: export(self._held(), *words))
+        if outcome != 0:
+            _refuse(outcome, asked)
+
+    def _let_go(self) -> None:
+        _give_back_aside()
+        if getattr(_library, self._end)(self._handle) == _busy:
+            handle, self._handle = self._handle, _Handle()
+            _aside.append(handle)
+
+    def __del__(self) -> None:
+        # What a child of a fork has is a copy, and its board may be half written.
+        if "_made_in" in self.__dict__ and _library is not None and os.getpid() == self._made_in:
             self._let_go()
+
+    def __exit__(self, kind: type[BaseException] | None, error: BaseException | None, trace: TracebackType | None) -> None:
+        self._alone(self._let_go)
 
 
 class Caller(_Holder):
@@ -244,49 +287,50 @@ class Caller(_Holder):
 
     _end = "bezglami_return"
 
-    def __init__(self, process: int) -> None:
+    def __init__(self, process: int, room: int) -> None:
         super().__init__()
         self.process = process
         """The number of its process, from 0 in the book's order."""
+        self.room = room
+        """How many calls it has room for."""
 
     def __enter__(self) -> Caller:
         return self
 
     def give_back(self) -> None:
         """Gives it back to its ledger now, with the receipts of its calls. Nothing is done where it was given back before."""
-        with self._lock:
-            self._let_go()
+        self._alone(self._let_go)
 
-    def _call(self, name: str, *words: object) -> Receipt:
+    def _call(self, asked: str, name: str, *words: object) -> Receipt:
         answer = _Answer()
-        with self._lock:
-            _export(name, self._held(), *words, answer)
+        self._ask(f"process {self.process}, with room for {self.room} calls, {asked}", name, *words, answer)
         reply = Reply(answer.reply)
         return Receipt(reply, answer.balance if reply is Reply.BALANCE else None, answer.steps, answer.exchanges)
 
     def transfer(self, source: int, target: int, amount: int) -> Receipt:
         """Moves the amount from one account to another. Raises NoAccount and NoRoom."""
-        return self._call("transfer", _number(source), _number(target), _fitting(amount, 64))
+        asked = f"transfer from account {source} to account {target}"
+        return self._call(asked, "transfer", _number(source), _number(target), _fitting("an amount", amount, 64))
 
     def pay(self, source: int, targets: Sequence[tuple[int, int]]) -> Receipt:
         """Moves each amount to its account, or none of them: `targets` has pairs of an account and an amount.
 
         Raises NoAccount, NoRoom and NoPayOut.
         """
-        pairs = (_Target * len(targets))(*(_Target(_number(account), _fitting(amount, 64)) for account, amount in targets))
-        return self._call("pay", _number(source), pairs, len(targets))
+        pairs = (_Target * len(targets))(*(_Target(_number(account), _fitting("an amount", amount, 64)) for account, amount in targets))
+        accounts = ", ".join(str(account) for account, _ in targets[: TARGETS_MOST + 1])
+        return self._call(f"pay-out from account {source} to {len(targets)} targets: {accounts}", "pay", _number(source), pairs, len(targets))
 
     def read(self, account: int) -> Receipt:
         """Tells the balance of an account. Raises NoAccount and NoRoom."""
-        return self._call("read", _number(account))
+        return self._call(f"read of account {account}", "read", _number(account))
 
     def note(self, process: int) -> None:
         """Leaves a note of all that the caller has seen, for the caller of another process, in place of one that it left there before.
 
         It counts as one step and one exchange. Raises NoProcess and Busy.
         """
-        with self._lock:
-            _export("note", self._held(), _number(process))
+        self._ask(f"note of process {self.process} for process {process}", "note", _number(process))
 
     def learn(self, process: int) -> None:
         """Takes in the note that the caller of another process has left for this one.
@@ -294,18 +338,15 @@ class Caller(_Holder):
         The caller's later calls come after all that the note has seen. A note is taken in once. It counts as one step and one exchange.
         Raises NoProcess, NoNote and Busy.
         """
-        with self._lock:
-            _export("learn", self._held(), _number(process))
+        self._ask(f"note of process {process} for process {self.process}", "learn", _number(process))
 
     def steps(self) -> int:
         """How many steps all its calls and notes have made."""
-        with self._lock:
-            return _library.bezglami_steps(self._held())
+        return self._alone(lambda: _library.bezglami_steps(self._held()))
 
     def exchanges(self) -> int:
         """How many of them were exchanges."""
-        with self._lock:
-            return _library.bezglami_exchanges(self._held())
+        return self._alone(lambda: _library.bezglami_exchanges(self._held()))
 
 
 def _number(number: int) -> int:
@@ -325,14 +366,17 @@ class Ledger(_Holder):
         super().__init__()
         version = _library.bezglami_version()
         if version != _VERSION:
-            raise OtherVersion(f"the library is of version {version}")
+            raise OtherVersion(f"the library is of version {version}, and this module of version {_VERSION}")
         line, why = ctypes.c_uint32(), ctypes.c_uint32()
         outcome = _library.bezglami_open(bytes(book), len(book), self._handle, line, why)
         if outcome == _bad_book:
             raise BadBook(line.value, Why(why.value))
         if outcome != 0:
-            _refuse(outcome)
+            _refuse(outcome, "a ledger")
         self._handed_out = 0
+        # Made when there was no memory for the next one. They are handed out first.
+        self._ready: list[Caller] = []
+        self._report: str | None = None
 
     def __enter__(self) -> Ledger:
         return self
@@ -342,37 +386,56 @@ class Ledger(_Holder):
 
         Raises NoCaller, also once memory was wanting to close the ledger, and NoMemory.
         """
-        with self._lock:
-            caller = Caller(self._handed_out)
-            outcome = _library.bezglami_caller(self._held(), _fitting(calls, 32), caller._handle)
-            if outcome != 0:
-                # A ledger that was being closed hands out no caller: it is none any more.
-                _refuse(_no_caller if outcome == _wrong_handle else outcome)
-            self._handed_out += 1
-            return caller
+        return self._alone(lambda: self._ready.pop(0) if self._ready else self._next_caller(calls))
 
-    def callers(self, calls: int) -> Iterator[Caller]:
-        """The callers of the processes that have none yet, in order."""
-        while True:
-            try:
-                yield self.caller(calls)
-            except NoCaller:
-                return
+    def _next_caller(self, calls: int) -> Caller:
+        caller = Caller(self._handed_out, _fitting("the room of a caller", calls, 32))
+        try:
+            outcome = _library.bezglami_caller(self._held(), calls, caller._handle)
+        finally:
+            # Also where an interrupt came just now: that caller is then given back, and its process has had it.
+            if caller._handle.at:
+                self._handed_out += 1
+        if outcome != 0:
+            # A ledger that was being closed hands out no caller: it is none any more.
+            _refuse(_no_caller if outcome == _wrong_handle else outcome, f"a caller with room for {calls} calls")
+        return caller
+
+    def callers(self, calls: int) -> list[Caller]:
+        """The callers of the processes that have none yet, in order.
+
+        Raises NoMemory. The callers that were made until then are handed out first by the next call, with the room that they have.
+        """
+        return self._alone(lambda: self._all_callers(calls))
+
+    def _all_callers(self, calls: int) -> list[Caller]:
+        with suppress(NoCaller):
+            while True:
+                self._ready.append(self._next_caller(calls))
+        ready, self._ready = self._ready, []
+        return ready
 
     def close(self) -> str:
         """Closes the ledger, all callers of which were given back, and answers its report, as the program's `run` prints it.
 
-        Raises CallersOut and NoMemory, and nothing is lost then: it may be closed again. A ledger that was closed is freed.
+        Raises CallersOut and NoMemory, and nothing is lost then: it may be closed again. A ledger that was closed answers its report again.
         """
-        with self._lock:
+        return self._alone(self._close)
+
+    def _close(self) -> str:
+        if self._report is None:
+            self._ready.clear()
+            _give_back_aside()
             # Where there was no memory to copy the report, it is still there.
             if self._report_length() == 0:
-                _export("close", self._held())
+                outcome = _library.bezglami_close(self._held())
+                if outcome != 0:
+                    _refuse(outcome, f"closing, with {self._handed_out} callers handed out")
             report = ctypes.create_string_buffer(self._report_length())
             _library.bezglami_report(self._held(), report, len(report))
-            text = report.raw.decode("ascii")
+            self._report = report.raw.decode("ascii")
             _library.bezglami_free(self._handle)
-            return text
+        return self._report
 
     def _report_length(self) -> int:
         """How long the report is that is held, and 0 where none is."""
@@ -380,5 +443,4 @@ class Ledger(_Holder):
 
     def free(self) -> None:
         """Frees it now, without a report. Nothing is done where nothing is held. Its callers are used on."""
-        with self._lock:
-            self._let_go()
+        self._alone(self._let_go)

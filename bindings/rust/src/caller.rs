@@ -1,4 +1,4 @@
-use crate::sys::Handle;
+use crate::sys::{Handle, Returning};
 use crate::{Error, Receipt};
 use std::cell::Cell;
 use std::fmt;
@@ -21,9 +21,10 @@ pub struct Target {
 ///
 /// It may be sent to another thread, and is used by one thread at a time. A call takes no memory and waits for no thread.
 ///
-/// Where it is dropped, it is given back to its ledger with the receipts of its calls, and to no other; that takes no memory either, and
-/// waits at most until a thread that closes the ledger has looked whether it is back. A ledger is closed once all its callers are back. So
-/// one that is [forgotten](std::mem::forget) keeps its ledger open for good.
+/// Where it is dropped, it is given back to its ledger with the receipts of its calls, and to no other; that takes no memory and waits for
+/// no thread either. Where a thread that closes the ledger just looks for it, it is put aside, and given back when a ledger is closed or
+/// a caller dropped next. A ledger is closed once all its callers are back. So one that is [forgotten](std::mem::forget) keeps its ledger
+/// open for good.
 ///
 /// It isn't used by two threads at once, not shared at all, not copied, and not used once it was given back. None of these is compiled:
 ///
@@ -53,18 +54,28 @@ pub struct Target {
 /// }
 /// ```
 pub struct Caller {
-    handle: Handle,
+    /// It is there until the caller is dropped.
+    place: Option<Box<Returning>>,
     process: u32,
+    room: u32,
     /// A caller isn't shared, not even to look at it.
     alone: PhantomData<Cell<()>>,
 }
 
 impl Caller {
-    pub(crate) fn new(handle: Handle, process: u32) -> Caller {
+    pub(crate) fn new(place: Box<Returning>, process: u32, room: u32) -> Caller {
         Caller {
-            handle,
+            place: Some(place),
             process,
+            room,
             alone: PhantomData,
+        }
+    }
+
+    fn handle(&mut self) -> &mut Handle {
+        match &mut self.place {
+            Some(place) => &mut place.handle,
+            None => unreachable!("a caller is dropped once"),
         }
     }
 
@@ -74,6 +85,12 @@ impl Caller {
         self.process
     }
 
+    /// How many calls it has memory for, those that were made among them.
+    #[must_use]
+    pub fn room(&self) -> u32 {
+        self.room
+    }
+
     /// Moves the amount from one account to another.
     ///
     /// # Errors
@@ -81,7 +98,7 @@ impl Caller {
     /// [`Error::NoAccount`] and [`Error::NoRoom`]. What isn't moved since the process doesn't own the source, or the balance doesn't
     /// cover it, is no error but a [`Reply`](crate::Reply).
     pub fn transfer(&mut self, from: u32, to: u32, amount: u64) -> Result<Receipt, Error> {
-        self.handle.transfer(from, to, amount)
+        self.handle().transfer(from, to, amount)
     }
 
     /// Moves each amount from one account to its target, or none of them. An account may stand among the targets twice.
@@ -90,7 +107,7 @@ impl Caller {
     ///
     /// As of [`transfer`](Caller::transfer), and [`Error::NoPayOut`].
     pub fn pay(&mut self, from: u32, targets: &[Target]) -> Result<Receipt, Error> {
-        self.handle.pay(from, targets)
+        self.handle().pay(from, targets)
     }
 
     /// Tells the balance of an account, by [`Reply::Balance`](crate::Reply::Balance).
@@ -99,7 +116,7 @@ impl Caller {
     ///
     /// [`Error::NoAccount`] and [`Error::NoRoom`].
     pub fn read(&mut self, account: u32) -> Result<Receipt, Error> {
-        self.handle.read(account)
+        self.handle().read(account)
     }
 
     /// Leaves a note of all that the caller has seen, for the caller of another process, in place of one that it left there before. It counts
@@ -109,7 +126,7 @@ impl Caller {
     ///
     /// [`Error::NoProcess`] and [`Error::Busy`].
     pub fn note(&mut self, process: u32) -> Result<(), Error> {
-        self.handle.note(process)
+        self.handle().note(process)
     }
 
     /// Takes in the note that the caller of another process has left for this one: its later calls come after all that the note has seen.
@@ -119,26 +136,28 @@ impl Caller {
     ///
     /// [`Error::NoProcess`], [`Error::NoNote`] and [`Error::Busy`].
     pub fn learn(&mut self, process: u32) -> Result<(), Error> {
-        self.handle.learn(process)
+        self.handle().learn(process)
     }
 
     /// How many steps all its calls and notes have made.
     #[must_use]
     pub fn steps(&mut self) -> u64 {
-        self.handle.steps()
+        self.handle().steps()
     }
 
     /// How many of them were exchanges.
     #[must_use]
     pub fn exchanges(&mut self) -> u64 {
-        self.handle.exchanges()
+        self.handle().exchanges()
     }
 }
 
 /// Gives the caller back to its ledger.
 impl Drop for Caller {
     fn drop(&mut self) {
-        self.handle.give_back();
+        if let Some(place) = self.place.take() {
+            place.give_back();
+        }
     }
 }
 

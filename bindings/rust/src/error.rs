@@ -1,4 +1,3 @@
-use crate::Ledger;
 use std::fmt;
 
 /// Why something wasn't done. Nothing has changed then.
@@ -58,49 +57,6 @@ impl fmt::Display for Error {
 }
 
 impl std::error::Error for Error {}
-
-/// Why a ledger wasn't closed, with the ledger, which keeps all receipts that it has.
-#[derive(Debug)]
-pub struct CloseError {
-    ledger: Ledger,
-    error: Error,
-}
-
-impl CloseError {
-    pub(crate) fn new(ledger: Ledger, error: Error) -> CloseError {
-        CloseError { ledger, error }
-    }
-
-    /// The reason: [`Error::CallersOut`] or [`Error::NoMemory`].
-    #[must_use]
-    pub fn error(&self) -> Error {
-        self.error
-    }
-
-    /// The ledger, which may be closed again.
-    #[must_use]
-    pub fn into_ledger(self) -> Ledger {
-        self.ledger
-    }
-}
-
-impl fmt::Display for CloseError {
-    fn fmt(&self, f: &mut fmt::Formatter<'_>) -> fmt::Result {
-        write!(f, "the ledger isn't closed: {}", self.error)
-    }
-}
-
-impl std::error::Error for CloseError {
-    fn source(&self) -> Option<&(dyn std::error::Error + 'static)> {
-        Some(&self.error)
-    }
-}
-
-impl From<CloseError> for Error {
-    fn from(error: CloseError) -> Error {
-        error.error
-    }
-}
 
 /// Why bytes spell no book: the cause of their first fault. It is displayed by the words that Bezglami's `docs/formats.md` explains.
 #[derive(Clone, Copy, Debug, PartialEq, Eq, Hash)]

@@ -18,7 +18,7 @@
 //! | one call at a time by a caller | a call takes `&mut self`, and a [`Caller`] is [`Send`], not [`Sync`] |
 //! | a handle isn't copied, and is freed once | neither a [`Ledger`] nor a [`Caller`] is [`Clone`], and each lets go of what it holds when it is dropped |
 //! | a caller goes back to its ledger, once | dropping it gives it back, so there is no call for it, and none that could name another ledger |
-//! | nothing is asked of a ledger that was closed | [`Ledger::close`] takes it, and gives it back where it couldn't be closed |
+//! | nothing is asked of a ledger that was closed | it hands out no caller, and [`Ledger::close`] answers the same report again |
 //! | a caller's ledger is there as long as the caller | the board goes with the last of the ledger and its callers, so no lifetime binds them |
 //! | what a call names is there | [`Error::NoAccount`], and nothing has changed |
 //!
@@ -35,7 +35,7 @@ mod report;
 mod sys;
 
 pub use caller::{Caller, Target, TARGETS_MOST};
-pub use error::{CloseError, Error, Why};
-pub use ledger::{Callers, Ledger};
+pub use error::{Error, Why};
+pub use ledger::Ledger;
 pub use receipt::{Receipt, Reply};
 pub use report::Report;

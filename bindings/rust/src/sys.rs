@@ -1,8 +1,10 @@
 //! The library for C, behind functions that are safe to call. All unsafe code of the crate stands here.
 
 use crate::{Error, Receipt, Reply, Target, Why};
+use std::alloc::{alloc, Layout};
 use std::os::raw::c_void;
-use std::thread;
+use std::ptr;
+use std::sync::atomic::{AtomicPtr, Ordering};
 
 /// The version of the header that this module was written by.
 const VERSION: u32 = 3;
@@ -151,7 +153,7 @@ impl Answer {
 impl Handle {
     const fn nothing() -> Handle {
         Handle {
-            at: std::ptr::null_mut(),
+            at: ptr::null_mut(),
         }
     }
 
@@ -177,11 +179,11 @@ impl Handle {
         }
     }
 
-    /// The next caller of a ledger. One that was being closed hands out none.
-    pub(crate) fn next_caller(&mut self, calls: u32) -> Result<Handle, Error> {
-        let mut caller = Handle::nothing();
+    /// The next caller of a ledger. One that was being closed, or was closed, hands out none.
+    pub(crate) fn next_caller(&mut self, calls: u32) -> Result<Box<Returning>, Error> {
+        let mut caller = Returning::room()?;
         // SAFETY: the handles are two places, and each is lent to this call alone.
-        match unsafe { bezglami_caller(self, calls, &mut caller) } {
+        match unsafe { bezglami_caller(self, calls, &mut caller.handle) } {
             WRONG_HANDLE => Err(Error::NoCaller),
             outcome => done(outcome).map(|()| caller),
         }
@@ -189,6 +191,7 @@ impl Handle {
 
     /// Closes a ledger, and copies its report. Where there is no memory for the copy, the report stays, and the next call copies it.
     pub(crate) fn close(&mut self) -> Result<Vec<u8>, Error> {
+        return_aside();
         if self.report(&mut []) == 0 {
             // SAFETY: the handle is lent to this call alone.
             done(unsafe { bezglami_close(self) })?;
@@ -246,15 +249,6 @@ impl Handle {
         done(unsafe { bezglami_learn(self, process) })
     }
 
-    /// Gives a caller back. The handle is left with nothing.
-    pub(crate) fn give_back(&mut self) {
-        // It is busy while a thread that closes the ledger just looks whether this caller is back.
-        // SAFETY: the handle is lent to this call alone.
-        while unsafe { bezglami_return(self) } == BUSY {
-            thread::yield_now();
-        }
-    }
-
     /// The steps of all calls of a caller.
     pub(crate) fn steps(&mut self) -> u64 {
         // SAFETY: the handle is lent to this call alone.
@@ -265,5 +259,105 @@ impl Handle {
     pub(crate) fn exchanges(&mut self) -> u64 {
         // SAFETY: the handle is lent to this call alone.
         unsafe { bezglami_exchanges(self) }
+    }
+}
+
+/// A caller's handle, with the memory to put it aside.
+pub(crate) struct Returning {
+    pub(crate) handle: Handle,
+    next: *mut Returning,
+}
+
+// SAFETY: the pointer is null but in the list of what was put aside, from which one thread takes all at once.
+unsafe impl Send for Returning {}
+
+// SAFETY: each method takes it by value, and its handle by `&mut`.
+unsafe impl Sync for Returning {}
+
+/// Callers that were dropped while a thread that closes their ledger just looked for them. Each is in one list alone, and whoever drops a
+/// caller or closes a ledger next takes them along.
+static ASIDE: AtomicPtr<Returning> = AtomicPtr::new(ptr::null_mut());
+
+impl Returning {
+    /// A handle that holds nothing.
+    fn room() -> Result<Box<Returning>, Error> {
+        // SAFETY: the layout's size isn't 0.
+        let room = unsafe { alloc(Layout::new::<Returning>()) }.cast::<Returning>();
+        if room.is_null() {
+            return Err(Error::NoMemory);
+        }
+        let nothing = Returning {
+            handle: Handle::nothing(),
+            next: ptr::null_mut(),
+        };
+        // SAFETY: it was allocated just now by the layout that a box has, and is written before it is one.
+        unsafe {
+            room.write(nothing);
+            Ok(Box::from_raw(room))
+        }
+    }
+
+    /// Gives the caller back, or puts it aside. Neither takes memory, nor waits.
+    pub(crate) fn give_back(self: Box<Self>) {
+        return_aside();
+        self.give_back_now();
+    }
+
+    fn give_back_now(mut self: Box<Self>) {
+        // SAFETY: the handle is lent to this call alone.
+        if unsafe { bezglami_return(&mut self.handle) } == BUSY {
+            self.put_aside();
+        }
+    }
+
+    fn put_aside(self: Box<Self>) {
+        let place = Box::into_raw(self);
+        let mut first = ASIDE.load(Ordering::SeqCst);
+        loop {
+            // SAFETY: until the exchange is made nobody else has the pointer.
+            unsafe { (*place).next = first };
+            match ASIDE.compare_exchange(first, place, Ordering::SeqCst, Ordering::SeqCst) {
+                Ok(_) => return,
+                Err(other) => first = other,
+            }
+        }
+    }
+}
+
+/// Gives back all that was put aside, or puts it aside again.
+fn return_aside() {
+    let mut first = ASIDE.swap(ptr::null_mut(), Ordering::SeqCst);
+    while !first.is_null() {
+        // SAFETY: the list was taken whole, so each of its boxes is this thread's alone.
+        let place = unsafe { Box::from_raw(first) };
+        first = place.next;
+        place.give_back_now();
+    }
+}
+
+#[cfg(test)]
+mod tests {
+    use super::*;
+
+    /// A caller that was put aside goes back with the next one, or with the closing of its ledger. Where its own is gone it is lost.
+    #[test]
+    fn what_is_put_aside() {
+        let open = || Handle::open(b"book,1\nprocesses,3\nlimits,9,9\naccount,0,5,0\n").unwrap();
+        let (mut ledger, mut other) = (open(), open());
+        for _ in 0..2 {
+            let mut caller = ledger.next_caller(9).unwrap();
+            caller.handle.read(0).unwrap();
+            caller.put_aside();
+        }
+        let last = ledger.next_caller(9).unwrap();
+        last.give_back();
+        other.next_caller(9).unwrap().put_aside();
+        assert!(ledger.close().unwrap().starts_with(b"journal 2\n"));
+        assert!(other.close().unwrap().starts_with(b"journal 0\n"));
+        let mut gone = open();
+        gone.next_caller(9).unwrap().put_aside();
+        drop(gone);
+        return_aside();
+        assert!(ASIDE.load(Ordering::SeqCst).is_null());
     }
 }

@@ -20,7 +20,7 @@ fn types_cross_threads() {
 
 fn three() -> (Ledger, Vec<Caller>) {
     let mut ledger = Ledger::open(BOOK).unwrap();
-    let callers = ledger.callers(200).collect::<Result<Vec<_>, _>>().unwrap();
+    let callers = ledger.callers(200).unwrap();
     assert_eq!(
         callers.iter().map(Caller::process).collect::<Vec<_>>(),
         [0, 1, 2]
@@ -134,7 +134,7 @@ fn too_many_accounts() {
 
 #[test]
 fn notes() {
-    let (ledger, mut callers) = three();
+    let (mut ledger, mut callers) = three();
     for process in [3, u32::MAX] {
         assert_eq!(callers[0].note(process), Err(Error::NoProcess));
         assert_eq!(callers[0].learn(process), Err(Error::NoProcess));
@@ -158,31 +158,23 @@ fn closing() {
     let mut ledger = Ledger::open(BOOK).unwrap();
     let mut ann = ledger.caller(9).unwrap();
     assert!(ann.transfer(0, 3, 200).unwrap().reply.is_done());
-    let early = ledger.close().unwrap_err();
-    assert_eq!(early.error(), Error::CallersOut);
-    assert_eq!(
-        early.to_string(),
-        "the ledger isn't closed: a caller of the ledger wasn't given back"
-    );
-    assert_eq!(Error::from(early), Error::CallersOut);
+    assert_eq!(ledger.close().unwrap_err(), Error::CallersOut);
     assert_eq!(ann.read(0).unwrap().reply, Reply::Balance(300));
-
-    let mut ledger = Ledger::open(BOOK).unwrap();
-    let mut ann = ledger.caller(9).unwrap();
-    assert!(ann.transfer(0, 3, 200).unwrap().reply.is_done());
-    let mut ledger = ledger.close().unwrap_err().into_ledger();
     let mut bob = ledger.caller(9).unwrap();
     drop(ann);
     assert_eq!(bob.read(3).unwrap().reply, Reply::Balance(200));
     drop(bob);
     let report = ledger.close().unwrap();
     let balances = "balances 4\n0 300\n1 100\n2 300\n3 200\ntotal 900\n";
-    let wanted = format!("journal 2\n0 1 transfer 0 3 200 done\n1 1 read 3 200\n{balances}");
+    let calls = "0 1 transfer 0 3 200 done\n0 2 read 0 300\n1 1 read 3 200\n";
+    let wanted = format!("journal 3\n{calls}{balances}");
     assert_eq!(report.to_string(), wanted);
     assert_eq!(AsRef::<[u8]>::as_ref(&report), wanted.as_bytes());
     assert_eq!(AsRef::<str>::as_ref(&report), report.as_str());
-    assert_eq!(format!("{report:?}"), "Report(\"journal 2\")");
+    assert_eq!(format!("{report:?}"), "Report(\"journal 3\")");
     assert_eq!(String::from(report), wanted);
+    assert_eq!(ledger.close().unwrap().as_str(), wanted);
+    assert_eq!(ledger.caller(9).unwrap_err(), Error::NoCaller);
 }
 
 /// A caller that is forgotten is lost, and its ledger with it.
@@ -191,9 +183,7 @@ fn a_forgotten_caller() {
     let mut ledger = Ledger::open(BOOK).unwrap();
     mem::forget(ledger.caller(9).unwrap());
     for _ in 0..2 {
-        let open = ledger.close().unwrap_err();
-        assert_eq!(open.error(), Error::CallersOut);
-        ledger = open.into_ledger();
+        assert_eq!(ledger.close().unwrap_err(), Error::CallersOut);
     }
     assert_eq!(ledger.caller(9).unwrap().process(), 1);
 }
@@ -201,10 +191,10 @@ fn a_forgotten_caller() {
 /// Each caller goes back to its own ledger, also where that is gone.
 #[test]
 fn two_ledgers() {
-    let (one, ones) = three();
+    let (mut one, ones) = three();
     let (mut other, mut others) = three();
     drop(ones);
-    other = other.close().unwrap_err().into_ledger();
+    assert_eq!(other.close().unwrap_err(), Error::CallersOut);
     assert!(one.close().unwrap().as_str().starts_with("journal 0\n"));
     others[0].read(0).unwrap();
     drop(others);
@@ -226,9 +216,8 @@ fn closing_meanwhile() {
             let report = loop {
                 match ledger.close() {
                     Ok(report) => break report,
-                    Err(open) => {
-                        assert_eq!(open.error(), Error::CallersOut);
-                        ledger = open.into_ledger();
+                    Err(error) => {
+                        assert_eq!(error, Error::CallersOut);
                         thread::yield_now();
                     }
                 }
@@ -277,7 +266,7 @@ fn errors() {
     assert_eq!(first.pay(0, &five).unwrap_err(), Error::NoPayOut);
     assert_eq!(first.read(0).unwrap().reply, Reply::Balance(500));
     assert_eq!(first.read(0).unwrap_err(), Error::NoRoom);
-    assert_eq!(ledger.callers(1).count(), 2);
+    assert_eq!(ledger.callers(1).unwrap().len(), 2);
     assert_eq!(ledger.caller(1).unwrap_err(), Error::NoCaller);
 }
 
@@ -291,10 +280,7 @@ fn threads() {
         book += &format!("account,{},10000,{process}\n", process + 1);
     }
     let mut ledger = Ledger::open(book.as_bytes()).unwrap();
-    let callers = ledger
-        .callers(4_000)
-        .map(Result::unwrap)
-        .collect::<Vec<_>>();
+    let callers = ledger.callers(4_000).unwrap();
     thread::scope(|threads| {
         for caller in callers {
             threads.spawn(move || work(caller));
