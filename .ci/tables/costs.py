@@ -34,6 +34,23 @@ def is_good(record, book, process, number, call):
     )
 
 
+def made(text):
+    """How many steps and exchanges each call makes by a text of `costs`, by process and line."""
+    records = [record.split(",") for record in text.split("\n")[1:-1]]
+    return {(process, line): [int(steps), int(exchanges)] for process, line, *_, steps, exchanges, _, _, _ in records}
+
+
+def made_by_turns(text):
+    """The same by a text of `trace`."""
+    calls = {}
+    for record in text.split("\n")[1:-1]:
+        _, process, line, step, _, _ = record.split(",")
+        call = calls.setdefault((process, line), [0, 0])
+        call[0] += step != "none"
+        call[1] += step == "exchange"
+    return calls
+
+
 def fault(book, files, text):
     """The first fault of the text, or None."""
     head, *records = text.removesuffix("\n").split("\n")

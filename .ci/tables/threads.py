@@ -3,9 +3,10 @@
 A script sees what threads print, and can hold them up where they begin and stop them anywhere. That processes meet in the middle of one
 call it can't see: the tests of at_program hold them at a gate before it and after."""
 
+import itertools
 import random
 
-from tables import reading
+from tables import costs, model, orders, reading
 from tables.shim import over
 from tables.trying import EXAMPLES, Case, Failed, is_true, lines, printed, ran, verified
 
@@ -77,6 +78,24 @@ def costs_in_turn(folder, contents, *either_way):
     answer = over(folder, "costs", "book", "0", "1", THREADS="none")
     ways = [lines(COSTS, *way) for way in either_way]
     printed(answer, answer.out if answer.out.decode() in ways else ways[0])
+
+
+def costs_are_turns(folder, first):
+    """Where the processes of drawn files make their calls one after another, `costs` tells the steps and exchanges of each call that
+    `trace` does, by the schedule that has the processes so."""
+    for seed in range(first, first + 25):
+        book, files = orders.draw_case(seed)
+        pays = [folder.write(str(p), model.csv(model.file_records(book, file))) for p, file in enumerate(files)]
+        folder.write("book", model.csv(model.book_records(book)))
+        answer = over(folder, "costs", "book", *pays, THREADS="none")
+        is_true(answer.status == 0, f"seed {seed}: status {answer.status}")
+        told = costs.made(answer.out.decode())
+        for order in itertools.permutations(range(len(files))):
+            folder.write("schedule", "".join(f"{p}\n" * 1500 for p in order))
+            if costs.made_by_turns(folder.run("trace", "book", "schedule", *pays).out.decode()) == told:
+                break
+        else:
+            raise Failed(f"the files of seed {seed}: `trace` has other steps, whichever process is first")
 
 
 def voices_in_turn(folder):
@@ -182,6 +201,8 @@ def cases():
     one = [f"0,1,transfer,0,{first}", "0,2,read,1,read,130,4,0,0,8,0", f"1,1,transfer,1,{second}", "1,2,read,0,read,90,4,0,0,8,0"]
     other = [f"0,1,transfer,0,{second}", "0,2,read,1,read,110,4,0,0,8,0", f"1,1,transfer,1,{first}", "1,2,read,0,read,120,4,0,0,8,0"]
     yield Case("payments from accounts of one owner, one process after the other", costs_in_turn, own, one, other)
+    for seed in range(1, 101, 25):
+        yield Case(f"costs and turns of random files, seeds {seed} to {seed + 24}", costs_are_turns, seed)
     yield Case("three voices in turn answer what the first of them proposed", voices_in_turn)
     # Of more threads on few processors the first may have ended before the last begin: these meet at the gates of at_program's tests.
     yield Case("the longest files of two processes meet", meet, 2)

@@ -1,6 +1,6 @@
 -- A call from one turn to the next, and what its answer leaves.
 use Rattle.std.proofs.Common.{◌≡◌, ℕ, ◌+◌, ◌-◌, ◌*◌, ◌<◌, ◌≤◌, ◌↔◌, List, [], ◌∷◌, ◌++◌, IfSome, IsSome, Option, length, None, Some, refl, sym, ap, subst, ◌∙◌, arith, false, true}
-use Rattle.at_calling.proofs.Prelude.{sum, is_shared, slots_of, BookTerms, account_of, IsCallOn, TargetPair, first_account, Call, Reply, IsPrefix-refl, AreRuns, IsPrefix, Publication, raised, BoardTerms, IsKept, IsOf, SeatTerms, record_width, Asking, Knowledge, RECORD_WORDS, IsBetweenCalls, HasCounted, StaysCounted, TotalSums, first_account-payout, IsPlaced, Previous, Receipt, between-IsPass, PaymentMade-refused, PaysAlone, PaysInRound, IsOfOnePass, pass_of, PassTerms, Stands, one_more_call, IsRefused, sent_after, single_steps, Rest, decides_made, decides_on, published-HasLoaded, HasLoaded, snapshot_steps, placed-CallMade, stands-CallMade, call_steps-payout, may_exchange-payout, with_one_call, CallingTerms, IsCallWithin, IsWay, MakesCallStep, call_turns_left, exchanges_made, exchanges_of, pass_before, refusal_in, steps_made, steps_of, CallMade, StaysWithin, call_steps, IsCallStageSo, IsCallingSo, IsMakingStill, TakesCallTurn, IsWithin, IsWithinOneMore, look_turns_left, HasSameAsking, IsPayWithin, PayingAloneTerms, append_steps, pay_turns_left, DecidesFew, PayingSharedTerms, settling_steps, share_exchanges_made, share_steps, share_turns_left, share_turns_most, IsReadOf, LeavesTotals, ReadingTerms, counted_so_far, newly_seen, CallStage, PayAlone, PayShared, Refuse}
+use Rattle.at_calling.proofs.Prelude.{sum, is_shared, slots_of, BookTerms, account_of, IsCallOn, TargetPair, first_account, Call, Reply, IsPrefix-refl, AreRuns, IsPrefix, Publication, raised, BoardTerms, IsKept, IsOf, SeatTerms, record_width, Asking, Knowledge, RECORD_WORDS, IsBetweenCalls, HasCounted, StaysCounted, TotalSums, first_account-payout, IsPlaced, Previous, Receipt, between-IsPass, PaymentMade-refused, PaysAlone, PaysInRound, IsOfOnePass, pass_of, PassTerms, Stands, one_more_call, IsRefused, sent_after, single_steps, Rest, decides_made, decides_on, published-HasLoaded, HasLoaded, snapshot_steps, placed-CallMade, stands-CallMade, call_steps-payout, may_exchange-payout, with_one_call, CallingTerms, FollowsCall, IsCallWithin, IsWay, MakesCallStep, call_turns_left, exchanges_made, exchanges_of, pass_before, refusal_in, steps_made, steps_of, CallMade, StaysWithin, call_steps, IsCallStageSo, IsCallingSo, IsMakingStill, TakesCallTurn, IsWithin, IsWithinOneMore, look_turns_left, HasSameAsking, IsPayWithin, PayingAloneTerms, append_steps, pay_turns_left, DecidesFew, PayingSharedTerms, settling_steps, share_exchanges_made, share_steps, share_turns_left, share_turns_most, IsReadOf, LeavesTotals, ReadingTerms, counted_so_far, newly_seen, CallStage, PayAlone, PayShared, Refuse}
 use Rattle.at_calling.proofs.PayingAloneLaws.{HasSameAsking-HasLoaded}
 use Rattle.at_calling.proofs.CallingLaws.{CallMade-PaysAlone, CallMade-PaysInRound, IsOfOnePass-IsReadOf, IsOfOnePass-PaysAlone, IsOfOnePass-PaysInRound, MakesWithin, ReadMade-IsReadOf, StaysWithin-MakesWithin, MakesWithin-IsReadOf, MakesWithin-PaysAlone, MakesWithin-PaysInRound, payment_steps-shared, payment_steps-single, refusal_in-payout, small-refusal_of, payout-IsCallOn}
 use Rattle.at_calling.specs.declared.call_stage.CallStage.TheVariants.{Read}
@@ -299,14 +299,14 @@ if_some P Q all (Some r) holds = all r holds
 -- what a turn leaves, from one stage to the next
 pub TakesCallTurn-stages : (b : BookTerms) (seen : List Publication) (t : CallingTerms) (before after mark : SeatTerms) → mark ≡ after → (now rest : Rest) → rest ≡ now
     → (old next : CallStage) → t.stage ≡ old → (answer : Option Receipt) → steps_made next ≡ steps_made old + steps_of old
-    → MakesCallStep b seen old before after now.totals → call_turns_left b next < call_turns_left b old
+    → MakesCallStep b seen old before after now.totals → FollowsCall b old next → call_turns_left b next < call_turns_left b old
     → IsCallWithin b (pass_before t) t.call after.knows now.totals.upto (steps_made next) (exchanges_made next)
     → (IsSome answer ↔ (call_turns_left b next ≡ 0)) → IsPrefix t.start.knows.seen after.knows.seen → AreRuns b after.knows.seen
     → exchanges_made next ≡ exchanges_made old + exchanges_of old
     → IfSome answer (Leaves b t after now (steps_made next) (exchanges_made next)) → IfSome answer (λ r. now.calls ≡ with_one_call t.was.calls)
     → after.steps ≡ raised t.start.steps (steps_made next) → after.exchanges ≡ raised t.start.exchanges (exchanges_made next)
     → TakesCallTurn b seen t (calling_next t next mark rest) before after now answer
-TakesCallTurn-stages b seen t before after mark mark_is now rest rest_is old next is answer turns step left so_far ends begins runs exchanges leaves calls made exchanged =
+TakesCallTurn-stages b seen t before after mark mark_is now rest rest_is old next is answer turns step follows left so_far ends begins runs exchanges leaves calls made exchanged =
     let all : PassTerms = pass_of after now in
     record {
       call_is = refl;
@@ -316,6 +316,7 @@ TakesCallTurn-stages b seen t before after mark mark_is now rest rest_is old nex
       rest_is = rest_is;
       turns = turns ∙ sym (ap (λ (k : CallStage). steps_made k + steps_of k) is);
       step = subst (λ (k : CallStage). MakesCallStep b seen k before after now.totals) (sym is) step;
+      follows = subst (λ (k : CallStage). FollowsCall b k next) (sym is) follows;
       left = subst (λ (k : CallStage). call_turns_left b next < call_turns_left b k) (sym is) left;
       so_far = so_far;
       ends = ends;

@@ -1,6 +1,6 @@
 -- What a turn of a payment from a single account leaves of it.
 use Rattle.std.proofs.Common.{◌≡◌, ℕ, ◌+◌, ◌-◌, ◌<◌, ◌≤◌, ◌↔◌, List, IfSome, IsSome, Option, length, refl, sym, ap, subst, ◌∙◌, arith}
-use Rattle.at_calling.proofs.Prelude.{sum, BookTerms, IsPrefix-length, IsPrefix-trans, IsPrefix, Publication, own_part, SeatTerms, record_width, Knowledge, StaysCounted, TotalSums, Reply, At, single_steps, published-HasLoaded, HasLoaded, snapshot_steps, IsAppendingThen, IsLookingFirst, IsPayStageSo, IsPayingAloneSo, TakesPayTurn, AnswersAlone, HasSameAsking, IsPayWithin, MakesPayStep, PayingAloneTerms, append_steps, pay_turns_left, turns_in, LeavesTotals, SeesOthersStill, counted_so_far, newly_seen, PayStage, Append, Look, AppendingTerms, appending_after, IsWithin, IsWithinOneMore, LookingTerms, MakesLookLoad}
+use Rattle.at_calling.proofs.Prelude.{sum, BookTerms, IsPrefix-length, IsPrefix-trans, IsPrefix, Publication, own_part, SeatTerms, record_width, Knowledge, StaysCounted, TotalSums, Reply, At, single_steps, published-HasLoaded, HasLoaded, snapshot_steps, IsAppendingThen, IsLookingFirst, IsPayStageSo, IsPayingAloneSo, TakesPayTurn, AnswersAlone, FollowsPay, HasSameAsking, IsPayWithin, MakesPayStep, PayingAloneTerms, append_steps, pay_turns_left, turns_in, LeavesTotals, SeesOthersStill, counted_so_far, newly_seen, PayStage, Append, Look, AppendingTerms, appending_after, IsWithin, IsWithinOneMore, LookingTerms, MakesLookLoad}
 use Rattle.at_calling.proofs.PayingAloneLaws.{HasSameAsking-HasLoaded, paying_next}
 
 module _ (b : BookTerms) (seen : List Publication) (t : PayingAloneTerms) (so : IsPayingAloneSo t) (book : t.start.book ≡ b) (before after : SeatTerms) (now : TotalSums)
@@ -36,8 +36,8 @@ module _ (b : BookTerms) (seen : List Publication) (t : PayingAloneTerms) (so : 
         → (IsSome answer ↔ (pay_turns_left (record_width b) stage ≡ 0)) → IfSome answer (AnswersAlone b t.start after.knows t.from t.targets)
         → IfSome answer (λ r. StaysCounted now b after.knows.seen)
         → IfSome answer (λ r. LeavesTotals b t.start after.knows t.was now (append_steps (record_width b) r.0) turns)
-        → TakesPayTurn b seen t (paying_next t stage turns mark totals) before after now answer
-    TakesPayTurn-look stage answer same left ends pays counted leaves = record {
+        → FollowsPay b.processes (Look l) stage → TakesPayTurn b seen t (paying_next t stage turns mark totals) before after now answer
+    TakesPayTurn-look stage answer same left ends pays counted leaves follows = record {
       from_is = refl;
       targets_are = refl;
       start_is = refl;
@@ -46,6 +46,7 @@ module _ (b : BookTerms) (seen : List Publication) (t : PayingAloneTerms) (so : 
       totals_are = totals_are;
       turns = same ∙ (made ∙ ap (λ n. n + 1) (sym (ap (turns_in t.looked) is)));
       step = subst (λ (k : PayStage). MakesPayStep b seen k before after now) (sym is) load;
+      follows = subst (λ (k : PayStage). FollowsPay b.processes k stage) (sym is) follows;
       left = subst (λ (k : PayStage). pay_turns_left (record_width b) stage < pay_turns_left (record_width b) k) (sym is) left;
       ends = ends;
       so_far = subst (IsPayWithin b.processes (newly_seen t.start after.knows t.was.upto)) (sym same) within;
@@ -104,6 +105,7 @@ module _ (b : BookTerms) (seen : List Publication) (t : PayingAloneTerms) (so : 
       totals_are = totals_are;
       turns = omega (arith, stored, ap (turns_in t.looked) is);
       step = subst (λ (k : PayStage). MakesPayStep b seen k before after now) (sym is) step;
+      follows = subst (λ (k : PayStage). FollowsPay b.processes k (Append next)) (sym is) (next, refl, stored);
       left = omega (arith, stored, few, ap (pay_turns_left (record_width b)) is);
       ends = (
         λ some. let all = ends.0 some in omega (arith, all, stored),

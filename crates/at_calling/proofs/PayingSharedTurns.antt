@@ -1,6 +1,6 @@
 -- What a turn of a payment from a shared account leaves of it.
 use Rattle.std.proofs.Common.{◌≡◌, ℕ, ◌+◌, ◌-◌, ◌<◌, ◌≤◌, None, Some, false, true, List, refl, ap, arith}
-use Rattle.at_calling.proofs.Prelude.{slots_of, BookTerms, account_of, places_max, IsPrefix, Publication, SeatTerms, Knowledge, HasCounted, TotalSums, Reply, At, decides_made, SettlesInTurns, IsWithinOneMore, TakesShareTurn, AnswersInRound, DecidesFew, MakesShareStep, PayingSharedTerms, settling_steps, share_exchanges_at, share_exchanges_made, share_steps, share_turns_left, share_turns_most, unless_settled, unless_starting, LeavesTotals, counted_so_far, newly_seen, ShareStage, Ended, Help, Start}
+use Rattle.at_calling.proofs.Prelude.{slots_of, BookTerms, account_of, places_max, IsPrefix, Publication, SeatTerms, Knowledge, HasCounted, TotalSums, Reply, At, decides_made, SettlesInTurns, IsWithinOneMore, TakesShareTurn, AnswersInRound, DecidesFew, FollowsShare, MakesShareStep, PayingSharedTerms, settling_steps, share_exchanges_at, share_exchanges_made, share_steps, share_turns_left, share_turns_most, unless_settled, unless_starting, LeavesTotals, counted_so_far, newly_seen, ShareStage, Ended, Help, Start}
 
 -- a payment in this stage after one more turn, with this known and counted
 abbrev pub share_next : PayingSharedTerms → ShareStage → Knowledge → TotalSums → PayingSharedTerms
@@ -43,9 +43,9 @@ module _ (b : BookTerms) (seen : List Publication) (t : PayingSharedTerms) (befo
   pub TakesShareTurn-on : (stage : ShareStage) → ((n : ℕ) → unless_settled n stage ≡ n) → t.turns + 1 ≤ most
       → unless_starting (decides_made t.account t.start mark) stage ≡ share_exchanges_made t + share_exchanges_at t.stage
       → unless_starting (decides_made t.account t.start mark) stage ≡ decides_made t.account t.start after.knows
-      → unless_starting (decides_made t.account t.start mark) stage ≤ slots_of (account_of b t.account)
+      → unless_starting (decides_made t.account t.start mark) stage ≤ slots_of (account_of b t.account) → FollowsShare b t.stage stage
       → TakesShareTurn b seen t (share_next t stage mark totals) before after now None
-  TakesShareTurn-on stage goes few decides decided exchanges_few = record {
+  TakesShareTurn-on stage goes few decides decided exchanges_few follows = record {
     account_is = refl;
     targets_are = refl;
     start_is = refl;
@@ -54,6 +54,7 @@ module _ (b : BookTerms) (seen : List Publication) (t : PayingSharedTerms) (befo
     totals_are = totals_are;
     turns = refl;
     step = step;
+    follows = follows;
     left = less stage;
     so_far = within;
     counting = counting;
@@ -77,9 +78,9 @@ module _ (b : BookTerms) (seen : List Publication) (t : PayingSharedTerms) (befo
       → SettlesInTurns b t.start after.knows t.account t.targets
       → DecidesFew b t.start after.knows t.account → HasCounted now b after.knows.seen
       → LeavesTotals b t.start after.knows t.was now (settling_steps b t.account) (t.turns + 1)
-      → decides_made t.account t.start mark ≡ share_exchanges_made t + share_exchanges_at t.stage
+      → decides_made t.account t.start mark ≡ share_exchanges_made t + share_exchanges_at t.stage → FollowsShare b t.stage Ended
       → TakesShareTurn b seen t (share_next t Ended mark totals) before after now (Some r)
-  TakesShareTurn-settled r pays settles few counted leaves decides = record {
+  TakesShareTurn-settled r pays settles few counted leaves decides follows = record {
     account_is = refl;
     targets_are = refl;
     start_is = refl;
@@ -88,6 +89,7 @@ module _ (b : BookTerms) (seen : List Publication) (t : PayingSharedTerms) (befo
     totals_are = totals_are;
     turns = refl;
     step = step;
+    follows = follows;
     left = less Ended;
     so_far = within;
     counting = counting;

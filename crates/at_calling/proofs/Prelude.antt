@@ -27,17 +27,17 @@ pub use Rattle.at_board.specs.declared.knowledge.LoadedWord.{LoadedWord}
 pub use Rattle.at_board.specs.declared.knowledge.Part.{Part}
 pub use Rattle.at_board.specs.declared.knowledge.SeenRequest.{SeenRequest}
 pub use Rattle.at_board.specs.declared.words.TheConstants.{RECORD_WORDS, REQUEST_WORDS}
-pub use Rattle.at_calling.specs.Calling.{CallingTerms, IsCallWithin, IsWay, MakesCallStep, call_turns_left, exchanges_made, exchanges_of, first_step, next_step, pass_before, publishes_of, refusal_in, steps_made, steps_of}
+pub use Rattle.at_calling.specs.Calling.{CallingTerms, FollowsCall, IsCallWithin, IsWay, MakesCallStep, call_turns_left, exchanges_made, exchanges_of, first_step, next_step, pass_before, publishes_of, refusal_in, steps_made, steps_of}
 pub use Rattle.at_calling.specs.KeptCalling.{IsCallStageSo, IsCallingSo, IsMakingStill, TakesCallTurn, calling_of}
 pub use Rattle.at_calling.specs.KeptPayingAlone.{IsAppendingThen, IsLookingFirst, IsPayStageSo, IsPayingAloneSo, TakesPayTurn}
 pub use Rattle.at_calling.specs.KeptPayingShared.{HasCountedSo, HasHelped, IsHelpingThen, IsPayingSharedSo, IsShareStageSo, IsStartingFirst, TakesShareTurn}
 pub use Rattle.at_calling.specs.KeptStarting.{HasLookedToAsk, IsAskingThen, IsCollectingThen, IsLookingToAsk, IsStartStageSo, IsStartingSo, TakesStartTurn}
 pub use Rattle.at_calling.specs.KeptTurning.{IsDecidingThen, IsLookingStill, IsTurnStageSo, IsTurningSo, TakesHelpStep}
-pub use Rattle.at_calling.specs.PayingAlone.{AnswersAlone, HasSameAsking, IsPayWithin, MakesPayStep, PayingAloneTerms, append_steps, pay_publishes_at, pay_step_at, pay_turns_left, turns_in, turns_made}
-pub use Rattle.at_calling.specs.PayingShared.{AnswersInRound, DecidesFew, MakesShareStep, PayingSharedTerms, settling_steps, share_exchanges_at, share_exchanges_made, share_publishes_at, share_step_at, share_steps, share_turns_left, share_turns_most, unless_settled, unless_starting}
+pub use Rattle.at_calling.specs.PayingAlone.{AnswersAlone, FollowsPay, HasSameAsking, IsPayWithin, MakesPayStep, PayingAloneTerms, append_steps, pay_publishes_at, pay_step_at, pay_turns_left, turns_in, turns_made}
+pub use Rattle.at_calling.specs.PayingShared.{AnswersInRound, DecidesFew, FollowsShare, MakesShareStep, PayingSharedTerms, settling_steps, share_exchanges_at, share_exchanges_made, share_publishes_at, share_step_at, share_steps, share_turns_left, share_turns_most, unless_settled, unless_starting}
 pub use Rattle.at_calling.specs.Reading.{CountsOthersStill, IsReadOf, LeavesTotals, ReadingTerms, SeesOthersStill, counted_so_far, newly_seen}
-pub use Rattle.at_calling.specs.Starting.{HasSameCounts, IsStartOf, IsStartWithin, MakesStartStep, StartingTerms, asking_steps_of, start_step_at, start_steps, start_turns_after, start_turns_in, start_turns_left, start_turns_made, unless_ended}
-pub use Rattle.at_calling.specs.Turning.{IsHelpOf, IsHelpWithin, LeavesSeat, MakesTurnStep, TurningTerms, WaitsOn, exchanges_at, help_step_at, help_steps, help_turns_in, help_turns_left, help_turns_made, publishes_at}
+pub use Rattle.at_calling.specs.Starting.{FollowsStart, HasSameCounts, IsStartOf, IsStartWithin, MakesStartStep, StartingTerms, asking_steps_of, start_step_at, start_steps, start_turns_after, start_turns_in, start_turns_left, start_turns_made, unless_ended}
+pub use Rattle.at_calling.specs.Turning.{FollowsTurn, IsHelpOf, IsHelpWithin, LeavesSeat, MakesTurnStep, TurningTerms, WaitsOn, exchanges_at, help_step_at, help_steps, help_turns_in, help_turns_left, help_turns_made, publishes_at}
 pub use Rattle.at_calling.specs.contracts.starting.Starting.{the_view}
 pub use Rattle.at_calling.specs.declared.call_stage.CallStage.{CallStage}
 pub use Rattle.at_calling.specs.declared.call_stage.CallStage.TheVariants.{PayAlone, PayShared, Refuse, Refused}
@@ -97,7 +97,7 @@ pub use Rattle.at_machines.specs.Deciding.{DecidingTerms, MakesRoundStep, MakesS
 pub use Rattle.at_machines.specs.Deciding.NextOfRound.{exchange, record_word}
 pub use Rattle.at_machines.specs.LoadingRow.{MakesLoadOf, NextRowLoad, row_step}
 pub use Rattle.at_machines.specs.LoadingRow.NextRowLoad.{announced_word, nothing, request_word}
-pub use Rattle.at_machines.specs.Looking.{IsWithin, IsWithinOneMore, LookingTerms, MakesLookLoad, look_turns_left}
+pub use Rattle.at_machines.specs.Looking.{IsWithin, IsWithinOneMore, LookingTerms, MakesLookLoad, first_load, look_turns_left}
 pub use Rattle.at_machines.specs.Snapping.{MakesLoad, NextLoad}
 pub use Rattle.at_machines.specs.declared.look_stage.LookStage.{LookStage}
 pub use Rattle.at_object.proofs.Laws.Alone.{IsPass-alone, asking-alone, decided-alone}

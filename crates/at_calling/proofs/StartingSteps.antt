@@ -1,6 +1,6 @@
 -- What a turn of a start leaves of it.
 use Rattle.std.proofs.Common.{◌≡◌, ◌≢◌, ℕ, ◌+◌, ◌-◌, ◌<◌, ◌≤◌, ◌↔◌, List, IfSome, IsSome, Option, None, length, false, true, refl, sym, ap, subst, ◌∙◌, arith}
-use Rattle.at_calling.proofs.Prelude.{sum, BookTerms, IsPrefix-trans, IsPrefix, Publication, SeatTerms, Asking, Knowledge, REQUEST_WORDS, StaysCounted, TotalSums, HelpingTerms, decides_on, AskingTerms, CollectingRowsTerms, NextRowLoad, announced_word, request_word, nothing, IsWithin, IsWithinOneMore, LookingTerms, MakesLookLoad, IsAskingThen, IsCollectingThen, IsLookingToAsk, IsStartStageSo, IsStartingSo, TakesStartTurn, published-HasLoaded, HasLoaded, snapshot_steps, LeavesTotals, counted_so_far, newly_seen, HasSameCounts, IsStartOf, IsStartWithin, MakesStartStep, StartingTerms, asking_steps_of, start_steps, start_turns_after, start_turns_in, unless_ended, StartStage, Ask, Collect}
+use Rattle.at_calling.proofs.Prelude.{sum, BookTerms, IsPrefix-trans, IsPrefix, Publication, SeatTerms, Asking, Knowledge, REQUEST_WORDS, StaysCounted, TotalSums, HelpingTerms, decides_on, AskingTerms, CollectingRowsTerms, MakesNextLoad, NextRowLoad, announced_word, request_word, nothing, IsWithin, IsWithinOneMore, LookingTerms, MakesLookLoad, IsAskingThen, IsCollectingThen, IsLookingToAsk, IsStartStageSo, IsStartingSo, TakesStartTurn, published-HasLoaded, HasLoaded, snapshot_steps, LeavesTotals, counted_so_far, newly_seen, FollowsStart, HasSameCounts, IsStartOf, IsStartWithin, MakesStartStep, StartingTerms, asking_steps_of, start_steps, start_turns_after, start_turns_in, unless_ended, StartStage, Ask, Collect}
 use Rattle.at_calling.proofs.PayingAloneLaws.{HasSameAsking-HasLoaded}
 use Rattle.at_calling.proofs.StartingLaws.{HasSameCounts-rows, HasSlot-IsStartingSo, IsStartWithin-HasLookedToAsk, IsStartWithin-IsCollectingThen, StaysCounted-HasLookedToAsk, StaysCounted-IsCollectingThen, counting-HasLookedToAsk, counting-IsCollectingThen, more-rows, start_after, start_after_look}
 use Rattle.at_calling.specs.declared.start_stage.StartStage.TheVariants.{Look}
@@ -55,9 +55,9 @@ module _ (b : BookTerms) (seen : List Publication) (t : StartingTerms) (so : IsS
         )
 
     pub TakesStartTurn-look : (stage : StartStage) → start_turns_in turns stage ≡ turns → 0 < start_turns_after most stage
-        → start_turns_after most stage < start_turns_after most (Look l)
+        → start_turns_after most stage < start_turns_after most (Look l) → FollowsStart b (Look l) stage
         → TakesStartTurn b seen t (start_after_look t stage mark totals turns) before after now None
-    TakesStartTurn-look stage same some left = record {
+    TakesStartTurn-look stage same some left follows = record {
       account_is = refl;
       targets_are = refl;
       start_is = refl;
@@ -66,6 +66,7 @@ module _ (b : BookTerms) (seen : List Publication) (t : StartingTerms) (so : IsS
       totals_are = totals_are;
       turns = same ∙ (made ∙ ap (λ n. n + 1) (sym (ap (start_turns_in t.looked) is)));
       step = subst (λ (k : StartStage). MakesStartStep b seen k before after now) (sym is) load;
+      follows = subst (λ (k : StartStage). FollowsStart b k stage) (sym is) follows;
       counted = counted;
       left = subst (λ (k : StartStage). start_turns_after most stage < start_turns_after most k) (sym is) left;
       so_far = within stage same;
@@ -85,9 +86,9 @@ module _ (b : BookTerms) (seen : List Publication) (t : StartingTerms) (so : IsS
 
     pub TakesStartTurn-ask : (stage : StartStage) → start_turns_in t.looked stage ≡ t.looked + a.stored + 1
         → MakesStartStep b seen (Ask a) before after t.totals → 0 < start_turns_after most stage
-        → start_turns_after most stage < start_turns_after most (Ask a)
+        → start_turns_after most stage < start_turns_after most (Ask a) → FollowsStart b (Ask a) stage
         → TakesStartTurn b seen t (start_after t stage mark) before after t.totals None
-    TakesStartTurn-ask stage same step some left = record {
+    TakesStartTurn-ask stage same step some left follows = record {
       account_is = refl;
       targets_are = refl;
       start_is = refl;
@@ -96,6 +97,7 @@ module _ (b : BookTerms) (seen : List Publication) (t : StartingTerms) (so : IsS
       totals_are = refl;
       turns = same ∙ ap (λ n. n + 1) (sym (ap (start_turns_in t.looked) is));
       step = subst (λ (k : StartStage). MakesStartStep b seen k before after t.totals) (sym is) step;
+      follows = subst (λ (k : StartStage). FollowsStart b k stage) (sym is) follows;
       counted = subst (λ (k : BookTerms). StaysCounted t.totals k after.knows.seen) book
           (StaysCounted-HasLookedToAsk t so a.start a.account a.targets a.since asks.to_ask after.knows same_counts more);
       left = subst (λ (k : StartStage). start_turns_after most stage < start_turns_after most k) (sym is) left;
@@ -138,8 +140,9 @@ module _ (b : BookTerms) (seen : List Publication) (t : StartingTerms) (so : IsS
     pub TakesStartTurn-collect : (answer : Option HelpingTerms) → MakesStartStep b seen (Collect c) before after t.totals
         → (IsSome answer ↔ (next.next ≡ nothing)) → IfSome answer (IsStartOf b t.start after.knows t.account t.targets)
         → IfSome answer (λ h. LeavesTotals b t.start after.knows t.was t.totals most (start_turns_in t.looked (Collect next)))
+        → MakesNextLoad b c next
         → TakesStartTurn b seen t (start_after t (Collect next) mark) before after t.totals answer
-    TakesStartTurn-collect answer step ends starts leaves = record {
+    TakesStartTurn-collect answer step ends starts leaves follows = record {
       account_is = refl;
       targets_are = refl;
       start_is = refl;
@@ -148,6 +151,7 @@ module _ (b : BookTerms) (seen : List Publication) (t : StartingTerms) (so : IsS
       totals_are = refl;
       turns = omega (arith, made, ap (start_turns_in t.looked) is);
       step = subst (λ (k : StartStage). MakesStartStep b seen k before after t.totals) (sym is) step;
+      follows = subst (λ (k : StartStage). FollowsStart b k (Collect next)) (sym is) (next, refl, follows);
       counted = subst (λ (k : BookTerms). StaysCounted t.totals k after.knows.seen) book (StaysCounted-IsCollectingThen t so c collects after.knows same_counts more);
       left = subst (λ (k : StartStage). start_turns_after most (Collect next) < start_turns_after most k) (sym is) less;
       so_far = subst (λ (k : BookTerms). IsStartWithin k (start_after t (Collect next) after.knows) (newly_seen t.start after.knows t.was.upto)) book

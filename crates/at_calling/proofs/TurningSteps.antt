@@ -1,6 +1,6 @@
 -- What a step of a turn of helping leaves of it.
 use Rattle.std.proofs.Common.{◌≡◌, ℕ, ◌+◌, ◌-◌, ◌*◌, ◌<◌, ◌≤◌, ◌↔◌, List, IfSome, IsSome, Option, None, length, refl, sym, ap, subst, ◌∙◌, arith}
-use Rattle.at_calling.proofs.Prelude.{sum, BookTerms, IsPrefix-length, Publication, own_part, SeatTerms, Asking, Knowledge, Part, HasCounted, TotalSums, own_part-HasLoaded, HasAccount, decides_made, decides_on, round_steps, HelpTurn, More, first-HasLoaded, published-HasLoaded, HasLoaded, snapshot_steps, IsDecidingThen, IsLookingStill, IsTurnStageSo, IsTurningSo, TakesHelpStep, HasSameAsking, CountsOthersStill, LeavesTotals, counted_so_far, newly_seen, IsHelpOf, IsHelpWithin, LeavesSeat, MakesTurnStep, TurningTerms, WaitsOn, exchanges_at, help_steps, help_turns_in, help_turns_left, TurnStage, Decide, DecidingTerms, MakesRoundStep, NextOfRound, deciding_after, exchanges_in, exchange, record_word, IsWithin, IsWithinOneMore, LookingTerms, MakesLookLoad}
+use Rattle.at_calling.proofs.Prelude.{sum, BookTerms, IsPrefix-length, Publication, own_part, SeatTerms, Asking, Knowledge, Part, HasCounted, TotalSums, own_part-HasLoaded, HasAccount, decides_made, decides_on, round_steps, HelpTurn, More, first-HasLoaded, published-HasLoaded, HasLoaded, snapshot_steps, IsDecidingThen, IsLookingStill, IsTurnStageSo, IsTurningSo, TakesHelpStep, HasSameAsking, CountsOthersStill, LeavesTotals, counted_so_far, newly_seen, FollowsTurn, IsHelpOf, IsHelpWithin, LeavesSeat, MakesTurnStep, TurningTerms, WaitsOn, exchanges_at, help_steps, help_turns_in, help_turns_left, TurnStage, Decide, DecidingTerms, MakesRoundStep, NextOfRound, deciding_after, exchanges_in, exchange, record_word, IsWithin, IsWithinOneMore, LookingTerms, MakesLookLoad}
 use Rattle.at_calling.proofs.PayingAloneLaws.{HasSameAsking-HasLoaded}
 use Rattle.at_calling.proofs.TurningLaws.{IsHelpWithin-step, begins-step, decides_made-step, left_of_round-le, others-step, seen-step}
 use Rattle.at_calling.specs.declared.turn_stage.TurnStage.TheVariants.{Look}
@@ -69,8 +69,9 @@ module _ (b : BookTerms) (seen : List Publication) (t : TurningTerms) (so : IsTu
         → IfSome answer (λ h. h ≡ More → WaitsOn b t.start w t.helping) → IfSome answer (λ h. LeavesSeat t.start w a)
         → IfSome answer (λ h. HasCounted now b w.seen)
         → IfSome answer (λ h. LeavesTotals b t.start w t.was now (round_steps b.processes * decides_made a t.start w) turns)
+        → FollowsTurn b (Look l) stage
         → TakesHelpStep b seen t (record t { stage = stage; looked = turns; mark = mark; totals = totals }) before after now answer
-    TakesHelpStep-look stage answer same left ends help waits seat counted leaves = record {
+    TakesHelpStep-look stage answer same left ends help waits seat counted leaves follows = record {
       helping_is = refl;
       start_is = refl;
       mark_is = mark_is;
@@ -78,6 +79,7 @@ module _ (b : BookTerms) (seen : List Publication) (t : TurningTerms) (so : IsTu
       totals_are = totals_are;
       turns = same ∙ (made ∙ ap (λ n. n + 1) (sym (ap (help_turns_in t.looked) is)));
       step = subst (λ (k : TurnStage). MakesTurnStep b seen k stage before after now) (sym is) load;
+      follows = subst (λ (k : TurnStage). FollowsTurn b k stage) (sym is) follows;
       left = subst (λ (k : TurnStage). help_turns_left b.processes stage < help_turns_left b.processes k) (sym is) left;
       ends = ends;
       so_far = subst (IsHelpWithin b.processes (decides_made a t.start w) (newly_seen t.start w t.was.upto)) (sym same) within;
@@ -131,6 +133,7 @@ module _ (b : BookTerms) (seen : List Publication) (t : TurningTerms) (so : IsTu
         ap (help_turns_in t.looked) is,
       );
       step = subst (λ (k : TurnStage). MakesTurnStep b seen k (Decide e) before after now) (sym is) (decides-decide.mark_is ∙ sym known, step);
+      follows = subst (λ (k : TurnStage). FollowsTurn b k (Decide e)) (sym is) (e, w, refl, step);
       left = omega (arith, less, ap (help_turns_left b.processes) is);
       ends = ends;
       so_far = IsHelpWithin-step b t d e w book decides-decide has some after_is less step;

@@ -1,9 +1,9 @@
 -- Calls of the object that are made one step a turn, by a pass that was taken apart.
 use Rattle.std.specs.Prelude.{◌≡◌, ◌≢◌, ℕ, ◌+◌, ◌*◌, ◌≤◌, false, true, List, Option, Some, None}
-use Rattle.at_calling.specs.Prelude.{is_shared, is_single, slots_of, BookTerms, account_of, Call, Reply, SeatTerms, record_width, Knowledge, BoardStep, RECORD_WORDS, TotalSums, first_account, payout_of, Publication, call_steps, may_exchange, pass_of, PassTerms, refusal_of, Rest, decides_made, IsWithinOneMore, MakesLookLoad, first_load, length_at, look_turns_left, step_at}
-use Rattle.at_calling.specs.PayingAlone.{MakesPayStep, pay_length_at, pay_publishes_at, pay_step_at, pay_turns_left, turns_made}
-use Rattle.at_calling.specs.PayingShared.{MakesShareStep, share_exchanges_at, share_exchanges_made, share_length_at, share_publishes_at, share_step_at, share_turns_left}
-use Rattle.at_calling.specs.Reading.{counted_so_far, newly_seen}
+use Rattle.at_calling.specs.Prelude.{is_shared, is_single, slots_of, BookTerms, account_of, Call, Reply, SeatTerms, record_width, Knowledge, BoardStep, RECORD_WORDS, TotalSums, first_account, payout_of, Publication, call_steps, may_exchange, pass_of, PassTerms, refusal_of, Rest, decides_made, IsWithinOneMore, FollowsLook, MakesLookLoad, first_load, length_at, look_turns_left, step_at}
+use Rattle.at_calling.specs.PayingAlone.{FollowsPay, MakesPayStep, PayingAloneTerms, pay_length_at, pay_publishes_at, pay_step_at, pay_turns_left, turns_made}
+use Rattle.at_calling.specs.PayingShared.{FollowsShare, MakesShareStep, PayingSharedTerms, share_exchanges_at, share_exchanges_made, share_length_at, share_publishes_at, share_step_at, share_turns_left}
+use Rattle.at_calling.specs.Reading.{ReadingTerms, counted_so_far, newly_seen}
 use Rattle.at_calling.specs.declared.call_stage.CallStage.{CallStage}
 use Rattle.at_calling.specs.declared.call_stage.CallStage.TheVariants.{PayAlone, PayShared, Read, Refuse, Refused}
 
@@ -127,6 +127,18 @@ MakesCallStep b seen Refused before after now = ⊥
 MakesCallStep b seen (Read r) before after now = MakesLookLoad b seen r.looking.stage before after now
 MakesCallStep b seen (PayAlone p) before after now = MakesPayStep b seen p.stage before after now
 MakesCallStep b seen (PayShared p) before after now = MakesShareStep b seen p.stage before after now
+
+-- what comes after that: a refusal ends at once, and each other call goes on
+abbrev pub FollowsCall : BookTerms → CallStage → CallStage → Type 0
+FollowsCall b (Refuse reply) next = next ≡ Refused
+FollowsCall b Refused next = ⊥
+FollowsCall b (Read r) next = (s : ReadingTerms) × (next ≡ Read s) × FollowsLook b.processes r.looking.stage s.looking.stage
+FollowsCall b (PayAlone p) next = (q : PayingAloneTerms) × (next ≡ PayAlone q) × FollowsPay b.processes p.stage q.stage
+FollowsCall b (PayShared p) next = (q : PayingSharedTerms) × (next ≡ PayShared q) × FollowsShare b p.stage q.stage
+
+-- that was its last turn
+abbrev pub EndsCall : BookTerms → CallStage → Type 0
+EndsCall b stage = (last : CallStage) × FollowsCall b stage last × (call_turns_left b last ≡ 0)
 
 -- so many steps and exchanges are within the bounds of a call of this pass so far, with this known and counted. The records that were seen
 -- or counted anew are those of others: what the call itself has published took no load. The steps are fewer, too, than with those that were

@@ -1,7 +1,7 @@
 -- What the type of a call in the making keeps of its fields, which no caller sees.
 use Rattle.std.specs.Prelude.{◌≡◌, ◌+◌, ◌++◌, ◌<◌, ◌↔◌, List, [], ◌∷◌, IfSome, IsSome, Option, length}
 use Rattle.at_calling.specs.Prelude.{BookTerms, IsCallOn, AreRuns, IsPrefix, Publication, raised, IsKept, SeatTerms, record_width, Knowledge, TotalSums, IsPlaced, Receipt, IsOfOnePass, pass_of, Stands, IsRefused, Rest, with_one_call, CallMade, StaysWithin, look_turns_left}
-use Rattle.at_calling.specs.Calling.{CallingTerms, IsCallWithin, IsWay, MakesCallStep, call_turns_left, exchanges_made, exchanges_of, pass_before, steps_made, steps_of}
+use Rattle.at_calling.specs.Calling.{CallingTerms, FollowsCall, IsCallWithin, IsWay, MakesCallStep, call_turns_left, exchanges_made, exchanges_of, pass_before, steps_made, steps_of}
 use Rattle.at_calling.specs.PayingAlone.{pay_turns_left}
 use Rattle.at_calling.specs.PayingShared.{share_turns_left}
 use Rattle.at_calling.specs.declared.call_stage.CallStage.{CallStage}
@@ -57,6 +57,7 @@ pub record TakesCallTurn (b : BookTerms) (seen : List Publication) (t u : Callin
   pub rest_is : u.rest ≡ now
   pub turns : steps_made u.stage ≡ steps_made t.stage + steps_of t.stage
   pub step : MakesCallStep b seen t.stage before after now.totals
+  pub follows : FollowsCall b t.stage u.stage
   pub left : call_turns_left b u.stage < call_turns_left b t.stage
   pub so_far : IsCallWithin b (pass_before t) t.call after.knows now.totals.upto (steps_made u.stage) (exchanges_made u.stage)
   pub ends : IsSome answer ↔ (call_turns_left b u.stage ≡ 0)

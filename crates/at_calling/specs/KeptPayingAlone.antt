@@ -1,7 +1,7 @@
 -- What the type of a payment in the making keeps of its fields, which no caller sees.
 use Rattle.std.specs.Prelude.{◌≡◌, ◌+◌, ◌<◌, ◌≤◌, ◌↔◌, List, IfSome, IsSome, Option, length, sum}
 use Rattle.at_calling.specs.Prelude.{BookTerms, amount_of, balance_after, prefix_of, IsPrefix, owns_of, AreTargets, Publication, Entry, own_part, IsKept, SeatTerms, record_width, StaysCounted, TotalSums, Reply, At, single_steps, HasLooked, IsOnlyOwner, AppendingTerms, IsWithin, IsWithinOneMore, LookingTerms, look_turns_left}
-use Rattle.at_calling.specs.PayingAlone.{AnswersAlone, HasSameAsking, IsPayWithin, MakesPayStep, PayingAloneTerms, append_steps, pay_turns_left, turns_made}
+use Rattle.at_calling.specs.PayingAlone.{AnswersAlone, FollowsPay, HasSameAsking, IsPayWithin, MakesPayStep, PayingAloneTerms, append_steps, pay_turns_left, turns_made}
 use Rattle.at_calling.specs.Reading.{LeavesTotals, counted_so_far, newly_seen}
 use Rattle.at_calling.specs.declared.pay_stage.PayStage.{PayStage}
 use Rattle.at_calling.specs.declared.pay_stage.PayStage.TheVariants.{Append, Look, Short}
@@ -66,6 +66,7 @@ pub record TakesPayTurn (b : BookTerms) (seen : List Publication) (t u : PayingA
   pub totals_are : u.totals ≡ now
   pub turns : turns_made u ≡ turns_made t + 1
   pub step : MakesPayStep b seen t.stage before after now
+  pub follows : FollowsPay b.processes t.stage u.stage
   pub left : pay_turns_left (record_width b) u.stage < pay_turns_left (record_width b) t.stage
   pub ends : IsSome answer ↔ (pay_turns_left (record_width b) u.stage ≡ 0)
   pub so_far : IsPayWithin b.processes (newly_seen t.start after.knows t.was.upto) (turns_made u)

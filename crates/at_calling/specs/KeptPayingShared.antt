@@ -1,7 +1,7 @@
 -- What the type of a payment in the making keeps of its fields, which no caller sees.
 use Rattle.std.specs.Prelude.{◌≡◌, ◌≢◌, ℕ, ◌+◌, ◌*◌, ◌<◌, ◌≤◌, ◌↔◌, IfSome, IsSome, List, Option, length, sum}
 use Rattle.at_calling.specs.Prelude.{slots_of, BookTerms, HasSlot, account_of, TargetPair, Reply, IsPrefix, rounds, Publication, own_part, IsKept, SeatTerms, Knowledge, RECORD_WORDS, HasCounted, TotalSums, At, HelpingTerms, HasAllSettled, decides_made, decides_on, heard_on, HasTurned, SettlesInTurns, asking_steps, round_steps, newly_counted, SeesOwnRecords, snapshot_steps, IsWithinOneMore}
-use Rattle.at_calling.specs.PayingShared.{AnswersInRound, DecidesFew, IsShareWithin, MakesShareStep, PayingSharedTerms, settling_steps, share_exchanges_at, share_exchanges_made, share_steps, share_turns_left}
+use Rattle.at_calling.specs.PayingShared.{AnswersInRound, DecidesFew, FollowsShare, IsShareWithin, MakesShareStep, PayingSharedTerms, settling_steps, share_exchanges_at, share_exchanges_made, share_steps, share_turns_left}
 use Rattle.at_calling.specs.Reading.{LeavesTotals, counted_so_far, newly_seen}
 use Rattle.at_calling.specs.Starting.{IsStartOf, StartingTerms, start_turns_left, start_turns_made}
 use Rattle.at_calling.specs.Turning.{TurningTerms, help_turns_left, help_turns_made}
@@ -92,6 +92,7 @@ pub record TakesShareTurn (b : BookTerms) (seen : List Publication) (t u : Payin
   pub totals_are : u.totals ≡ now
   pub turns : u.turns ≡ t.turns + 1
   pub step : MakesShareStep b seen t.stage before after now
+  pub follows : FollowsShare b t.stage u.stage
   pub left : share_turns_left b u < share_turns_left b t
   pub so_far : IsShareWithin b u (newly_seen t.start after.knows t.was.upto)
   pub counting : IsWithinOneMore (share_steps b t.account) (counted_so_far t.start after.knows t.was.upto now.upto) u.turns

@@ -2,7 +2,7 @@
 use Rattle.std.specs.Prelude.{◌≡◌, ℕ, ◌+◌, ◌<◌, ◌≤◌, ◌↔◌, List, IfSome, IsSome, Option, None, length, sum}
 use Rattle.at_calling.specs.Prelude.{BookTerms, TargetPair, place, IsPrefix, AreTargets, Publication, asking_on, own_part, IsKept, SeatTerms, Announces, MayStoreRequest, Knowledge, REQUEST_WORDS, StaysCounted, TotalSums, HasLoadedNothing, request_of, HelpingTerms, HasAllSettled, decides_on, HasLooked, AskingTerms, CollectingRowsTerms, IsWithin, IsWithinOneMore, LookingTerms, look_turns_left}
 use Rattle.at_calling.specs.Reading.{LeavesTotals, counted_so_far, newly_seen}
-use Rattle.at_calling.specs.Starting.{HasSameCounts, IsStartOf, IsStartWithin, MakesStartStep, StartingTerms, asking_steps_of, start_steps, start_turns_left, start_turns_made}
+use Rattle.at_calling.specs.Starting.{FollowsStart, HasSameCounts, IsStartOf, IsStartWithin, MakesStartStep, StartingTerms, asking_steps_of, start_steps, start_turns_left, start_turns_made}
 use Rattle.at_calling.specs.declared.start_stage.StartStage.{StartStage}
 use Rattle.at_calling.specs.declared.start_stage.StartStage.TheVariants.{Ask, Collect, Look}
 use Rattle.at_calling.specs.declared.starting.Starting.TheInside.{Inside}
@@ -82,6 +82,7 @@ pub record TakesStartTurn (b : BookTerms) (seen : List Publication) (t u : Start
   pub totals_are : u.totals ≡ now
   pub turns : start_turns_made u ≡ start_turns_made t + 1
   pub step : MakesStartStep b seen t.stage before after now
+  pub follows : FollowsStart b t.stage u.stage
   pub counted : StaysCounted now b after.knows.seen
   pub left : start_turns_left b u < start_turns_left b t
   pub so_far : IsStartWithin b u (newly_seen t.start after.knows t.was.upto)

@@ -2,7 +2,7 @@
 use Rattle.std.specs.Prelude.{◌≡◌, ◌+◌, ◌*◌, ◌<◌, ◌≤◌, ◌↔◌, List, IfSome, IsSome, Option, length, sum}
 use Rattle.at_calling.specs.Prelude.{BookTerms, IsPrefix, Publication, own_part, IsKept, SeatTerms, HasCounted, TotalSums, IsHelping, decides_made, decides_on, round_steps, HelpTurn, More, HasLooked, DecidingTerms, exchanges_in, left_of_round, IsWithin, IsWithinOneMore, LookingTerms, look_turns_left}
 use Rattle.at_calling.specs.Reading.{CountsOthersStill, LeavesTotals, SeesOthersStill, counted_so_far, newly_seen}
-use Rattle.at_calling.specs.Turning.{IsHelpOf, IsHelpWithin, LeavesSeat, MakesTurnStep, TurningTerms, WaitsOn, exchanges_at, help_steps, help_turns_left, help_turns_made}
+use Rattle.at_calling.specs.Turning.{FollowsTurn, IsHelpOf, IsHelpWithin, LeavesSeat, MakesTurnStep, TurningTerms, WaitsOn, exchanges_at, help_steps, help_turns_left, help_turns_made}
 use Rattle.at_calling.specs.declared.turn_stage.TurnStage.{TurnStage}
 use Rattle.at_calling.specs.declared.turn_stage.TurnStage.TheVariants.{Decide, Found, Look}
 use Rattle.at_calling.specs.declared.turning.Turning.TheInside.{Inside}
@@ -64,6 +64,7 @@ pub record TakesHelpStep (b : BookTerms) (all_seen : List Publication) (t u : Tu
   pub totals_are : u.totals ≡ now
   pub turns : help_turns_made u ≡ help_turns_made t + 1
   pub step : MakesTurnStep b all_seen t.stage u.stage before after now
+  pub follows : FollowsTurn b t.stage u.stage
   pub left : help_turns_left b.processes u.stage < help_turns_left b.processes t.stage
   pub ends : IsSome answer ↔ (help_turns_left b.processes u.stage ≡ 0)
   pub so_far : IsHelpWithin b.processes (decides_made t.helping.account t.start after.knows) (newly_seen t.start after.knows t.was.upto) (help_turns_made u)

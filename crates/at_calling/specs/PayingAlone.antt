@@ -1,6 +1,6 @@
 -- Payments from single accounts that are made one step a turn.
 use Rattle.std.specs.Prelude.{◌≡◌, ℕ, ◌+◌, ◌-◌, ◌*◌, ◌<◌, ◌≤◌, List, Option, None}
-use Rattle.at_calling.specs.Prelude.{BookTerms, TargetPair, Reply, Balance, Done, Full, NotOwner, Publication, asking_on, own_part, SeatTerms, Publishes, record_width, Knowledge, BoardStep, RECORD_WORDS, TotalSums, At, PaysAlone, single_steps, OnReceipts, StoresNextWord, append_step, publication_of, published_after, MakesLookLoad, length_at, look_turns_left, step_at}
+use Rattle.at_calling.specs.Prelude.{BookTerms, TargetPair, Reply, Balance, Done, Full, NotOwner, Publication, asking_on, own_part, SeatTerms, Publishes, record_width, Knowledge, BoardStep, RECORD_WORDS, TotalSums, At, PaysAlone, single_steps, OnReceipts, AppendingTerms, StoresNextWord, append_step, publication_of, published_after, EndsLook, FollowsLook, MakesLookLoad, length_at, look_turns_left, step_at}
 use Rattle.at_calling.specs.declared.pay_stage.PayStage.{PayStage}
 use Rattle.at_calling.specs.declared.pay_stage.PayStage.TheVariants.{Append, Look, Short}
 
@@ -39,6 +39,15 @@ MakesPayStep b seen (Append a) before after now =
     × (a.stored < record_width b → StoresNextWord a after.knows)
     × (a.stored ≡ record_width b → Publishes b a.mark after.knows (publication_of a))
 MakesPayStep b seen Short before after now = ⊥
+
+-- what comes after that, of n processes: the look goes on, or it has ended, and the first store of the record comes next, or nothing; the stores
+-- go on
+abbrev pub FollowsPay : ℕ → PayStage → PayStage → Type 0
+FollowsPay n (Look l) (Look m) = FollowsLook n l.stage m.stage
+FollowsPay n (Look l) (Append a) = EndsLook n l.stage × (a.stored ≡ 0)
+FollowsPay n (Look l) Short = EndsLook n l.stage
+FollowsPay n (Append a) next = (c : AppendingTerms) × (next ≡ Append c) × (c.stored ≡ a.stored + 1)
+FollowsPay n Short next = ⊥
 
 -- how many records the next turn publishes: one where the record's words are stored, and else none
 abbrev pub pay_publishes_at : BookTerms → PayStage → ℕ

@@ -1,8 +1,8 @@
 -- Payments from shared accounts that are made one step a turn.
-use Rattle.std.specs.Prelude.{◌≡◌, ◌≢◌, ℕ, ◌+◌, ◌-◌, ◌*◌, ◌≤◌, List, Option, None}
-use Rattle.at_calling.specs.Prelude.{slots_of, BookTerms, account_of, TargetPair, Reply, places_max, Publication, SeatTerms, Knowledge, BoardStep, RECORD_WORDS, TotalSums, At, PaysInRound, shared_steps, decides_made, decides_on, OnReceipts, asking_steps, round_steps, snapshot_steps}
-use Rattle.at_calling.specs.Starting.{MakesStartStep, start_length_at, start_step_at}
-use Rattle.at_calling.specs.Turning.{MakesTurnStep, exchanges_at, help_length_at, help_step_at, publishes_at}
+use Rattle.std.specs.Prelude.{◌≡◌, ◌≢◌, ℕ, ◌+◌, ◌-◌, ◌*◌, ◌≤◌, ◌⊎◌, List, Option, None}
+use Rattle.at_calling.specs.Prelude.{slots_of, BookTerms, account_of, TargetPair, Reply, places_max, Publication, SeatTerms, Knowledge, BoardStep, RECORD_WORDS, TotalSums, At, PaysInRound, shared_steps, decides_made, decides_on, OnReceipts, asking_steps, round_steps, snapshot_steps, first_load}
+use Rattle.at_calling.specs.Starting.{EndsStart, FollowsStart, MakesStartStep, start_length_at, start_step_at}
+use Rattle.at_calling.specs.Turning.{EndsTurn, FollowsTurn, MakesTurnStep, exchanges_at, help_length_at, help_step_at, publishes_at}
 use Rattle.at_calling.specs.declared.share_stage.ShareStage.{ShareStage}
 use Rattle.at_calling.specs.declared.share_stage.ShareStage.TheVariants.{Ended, Help, Start}
 use Rattle.at_calling.specs.declared.turn_stage.TurnStage.{TurnStage}
@@ -50,6 +50,17 @@ abbrev pub MakesShareStep : BookTerms → List Publication → ShareStage → Se
 MakesShareStep b seen (Start s) before after now = MakesStartStep b seen s.stage before after now
 MakesShareStep b seen (Help h u) before after now = (next : TurnStage) × MakesTurnStep b seen u.stage next before after now
 MakesShareStep b seen Ended before after now = ⊥
+
+-- what comes after that: the start goes on, or it has ended, and a turn of helping comes next; this goes on, or it has ended, and the next one
+-- comes, or nothing. Each begins with its look
+abbrev pub FollowsShare : BookTerms → ShareStage → ShareStage → Type 0
+FollowsShare b (Start s) (Start t) = FollowsStart b s.stage t.stage
+FollowsShare b (Start s) (Help h u) = EndsStart b s × (help_step_at b u.stage ≡ first_load)
+FollowsShare b (Start s) Ended = ⊥
+FollowsShare b (Help h u) (Start t) = ⊥
+FollowsShare b (Help h u) (Help i v) = FollowsTurn b u.stage v.stage ⊎ (EndsTurn b u.stage × (help_step_at b v.stage ≡ first_load))
+FollowsShare b (Help h u) Ended = EndsTurn b u.stage
+FollowsShare b Ended next = ⊥
 
 -- one exchange is made in the first step of each round, and in no other
 abbrev pub share_exchanges_at : ShareStage → ℕ

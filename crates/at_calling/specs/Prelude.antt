@@ -35,9 +35,10 @@ pub use Rattle.at_machines.specs.Appending.{AppendingTerms, StoresNextWord, appe
 pub use Rattle.at_machines.specs.Asking.{AnnouncesAsked, AskingTerms, StoresNextRequestWord, ask_step, starting_to_ask}
 pub use Rattle.at_machines.specs.CollectingRows.{CollectingRowsTerms, MakesNextLoad, rows_after}
 pub use Rattle.at_machines.specs.Deciding.{DecidingTerms, MakesRoundStep, exchanges_in, left_of_round, publishes_in, step_in_round}
+pub use Rattle.at_machines.specs.Deciding.NextOfRound.{exchange}
 pub use Rattle.at_machines.specs.LoadingRow.{NextRowLoad, row_step}
 pub use Rattle.at_machines.specs.LoadingRow.NextRowLoad.{announced_word, nothing, request_word}
-pub use Rattle.at_machines.specs.Looking.{IsWithin, IsWithinOneMore, LookingTerms, MakesLookLoad, first_load, length_at, look_turns_left, step_at}
+pub use Rattle.at_machines.specs.Looking.{EndsLook, FollowsLook, IsWithin, IsWithinOneMore, LookingTerms, MakesLookLoad, first_load, length_at, look_turns_left, step_at}
 pub use Rattle.at_object.specs.BoundNumbers.{three_processes}
 pub use Rattle.at_object.specs.CallCounts.{with_one_call}
 pub use Rattle.at_object.specs.Calls.{CallMade, StaysWithin, call_steps, may_exchange}

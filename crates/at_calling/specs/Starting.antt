@@ -1,6 +1,6 @@
 -- Payments from shared accounts that are started one step a turn.
 use Rattle.std.specs.Prelude.{◌≡◌, ℕ, ◌+◌, ◌-◌, ◌*◌, ◌<◌, ◌≤◌, List, length, Option, None}
-use Rattle.at_calling.specs.Prelude.{slots_of, BookTerms, account_of, TargetPair, IsPrefix, Publication, asking_on, own_part, SeatTerms, Knowledge, BoardStep, RECORD_WORDS, REQUEST_WORDS, TotalSums, HelpingTerms, HasStarted, IsHelping, decides_on, asking_steps, snapshot_steps, AnnouncesAsked, StoresNextRequestWord, ask_step, CollectingRowsTerms, MakesNextLoad, rows_after, NextRowLoad, row_step, announced_word, request_word, nothing, MakesLookLoad, length_at, look_turns_left, step_at}
+use Rattle.at_calling.specs.Prelude.{slots_of, BookTerms, account_of, TargetPair, IsPrefix, Publication, asking_on, own_part, SeatTerms, Knowledge, BoardStep, RECORD_WORDS, REQUEST_WORDS, TotalSums, HelpingTerms, HasStarted, IsHelping, decides_on, asking_steps, snapshot_steps, AnnouncesAsked, StoresNextRequestWord, ask_step, CollectingRowsTerms, MakesNextLoad, rows_after, NextRowLoad, row_step, announced_word, request_word, nothing, EndsLook, FollowsLook, MakesLookLoad, length_at, look_turns_left, step_at}
 use Rattle.at_calling.specs.declared.start_stage.StartStage.{StartStage}
 use Rattle.at_calling.specs.declared.start_stage.StartStage.TheVariants.{Ask, Collect, Look}
 
@@ -69,6 +69,21 @@ MakesStartStep b seen (Ask a) before after now =
     × (a.stored < REQUEST_WORDS → StoresNextRequestWord b a after.knows)
     × (a.stored ≡ REQUEST_WORDS → AnnouncesAsked b a after.knows)
 MakesStartStep b seen (Collect c) before after now = (c.mark ≡ before.knows) × MakesRowsLoad b c after.knows
+
+-- what comes after that: the look goes on, or it has ended, and the first store of the request comes next; the stores go on, or with the
+-- announcement the first load of the rows comes next; these go on
+abbrev pub FollowsStart : BookTerms → StartStage → StartStage → Type 0
+FollowsStart b (Look l) (Look m) = FollowsLook b.processes l.stage m.stage
+FollowsStart b (Look l) (Ask a) = EndsLook b.processes l.stage × (a.stored ≡ 0)
+FollowsStart b (Look l) (Collect c) = ⊥
+FollowsStart b (Ask a) (Look m) = ⊥
+FollowsStart b (Ask a) (Ask c) = c.stored ≡ a.stored + 1
+FollowsStart b (Ask a) (Collect c) = (a.stored ≡ REQUEST_WORDS) × (c.slot ≡ 0) × (c.next ≡ announced_word)
+FollowsStart b (Collect c) next = (d : CollectingRowsTerms) × (next ≡ Collect d) × MakesNextLoad b c d
+
+-- that was its last step
+abbrev pub EndsStart : BookTerms → StartingTerms → Type 0
+EndsStart b t = (last : StartingTerms) × (last.account ≡ t.account) × FollowsStart b t.stage last.stage × (start_turns_left b last ≡ 0)
 
 -- the process whose length the next turn loads, if it loads one
 abbrev pub start_length_at : StartStage → Option ℕ

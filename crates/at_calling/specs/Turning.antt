@@ -1,6 +1,6 @@
 -- Turns of helping that are made one step a turn.
 use Rattle.std.specs.Prelude.{◌≡◌, ◌≢◌, ℕ, ◌+◌, ◌-◌, ◌*◌, ◌≤◌, List, Option, None}
-use Rattle.at_calling.specs.Prelude.{slots_of, BookTerms, account_of, IsPrefix, rounds, Publication, own_part, SeatTerms, Knowledge, BoardStep, RECORD_WORDS, TotalSums, IsPlaced, asks_in, Receipt, HelpAnswers, OnSettled, OnSettledCalls, HelpingTerms, IsHelping, decides_on, heard_on, StandsAfter, StandsInRound, round_steps, HelpTurn, snapshot_steps, MakesRoundStep, exchanges_in, publishes_in, step_in_round, MakesLookLoad, length_at, look_turns_left, step_at}
+use Rattle.at_calling.specs.Prelude.{slots_of, BookTerms, account_of, IsPrefix, rounds, Publication, own_part, SeatTerms, Knowledge, BoardStep, RECORD_WORDS, TotalSums, IsPlaced, asks_in, Receipt, HelpAnswers, OnSettled, OnSettledCalls, HelpingTerms, IsHelping, decides_on, heard_on, StandsAfter, StandsInRound, round_steps, HelpTurn, snapshot_steps, DecidingTerms, MakesRoundStep, exchange, exchanges_in, publishes_in, step_in_round, EndsLook, FollowsLook, MakesLookLoad, length_at, look_turns_left, step_at}
 use Rattle.at_calling.specs.declared.turn_stage.TurnStage.{TurnStage}
 use Rattle.at_calling.specs.declared.turn_stage.TurnStage.TheVariants.{Decide, Found, Look}
 
@@ -37,6 +37,19 @@ MakesTurnStep b seen (Decide d) (Decide e) before after now = (d.mark ≡ before
 MakesTurnStep b seen (Decide d) (Look l) before after now = ⊥
 MakesTurnStep b seen (Decide d) Found before after now = ⊥
 MakesTurnStep b seen Found next before after now = ⊥
+
+-- what comes after that: the look goes on, or it has ended, and the request is found settled, or the exchange of a round comes next; the round
+-- goes on
+abbrev pub FollowsTurn : BookTerms → TurnStage → TurnStage → Type 0
+FollowsTurn b (Look l) (Look m) = FollowsLook b.processes l.stage m.stage
+FollowsTurn b (Look l) (Decide d) = EndsLook b.processes l.stage × (d.next ≡ exchange)
+FollowsTurn b (Look l) Found = EndsLook b.processes l.stage
+FollowsTurn b (Decide d) next = (e : DecidingTerms) × (v : Knowledge) × (next ≡ Decide e) × MakesRoundStep b d v e.next
+FollowsTurn b Found next = ⊥
+
+-- that was its last step
+abbrev pub EndsTurn : BookTerms → TurnStage → Type 0
+EndsTurn b stage = (last : TurnStage) × FollowsTurn b stage last × (help_turns_left b.processes last ≡ 0)
 
 -- one exchange is made in the round's first step, and in no other
 abbrev pub exchanges_at : TurnStage → ℕ

@@ -6,7 +6,7 @@ ghost use Rattle.at_calling.specs.KeptCalling.{TakesCallTurn};
 ghost use Rattle.at_calling.specs.PayingAlone.{PayingAloneTerms};
 ghost use Rattle.at_calling.specs.PayingShared.{PayingSharedTerms};
 ghost use Rattle.at_calling.specs.Reading.{ReadingTerms};
-ghost use Rattle.at_calling.specs.Calling.{IsCallWithin, IsWay, MakesCallStep, StartsFrom, call_turns_left, exchanges_made, exchanges_of, first_step, next_step, pass_before, refusal_in, steps_made, steps_of};
+ghost use Rattle.at_calling.specs.Calling.{FollowsCall, IsCallWithin, IsWay, MakesCallStep, StartsFrom, call_turns_left, exchanges_made, exchanges_of, first_step, next_step, pass_before, refusal_in, steps_made, steps_of};
 
 use crate::call_stage::CallStage;
 use at_board::{Board, BoardSeat, BoardStep, Overview};
@@ -113,6 +113,7 @@ impl Calling {
             ≡ steps_made self.old.stage + steps_of self.old.stage }
         ensures step { MakesCallStep board.now.book overview.old.seen self.old.stage seat.old
             seat.new rest.new.totals }
+        ensures follows { FollowsCall board.now.book self.old.stage self.new.stage }
         ensures left { call_turns_left board.now.book self.new.stage
             < call_turns_left board.now.book self.old.stage }
         ensures so_far { IsCallWithin board.now.book (pass_before self.old) self.old.call

@@ -3,7 +3,7 @@
 ghost use Rattle.std.specs.Prelude.{◌≡◌, ◌+◌, ◌<◌, ◌↔◌, List, IfSome, IsSome, length};
 ghost use Rattle.at_calling.specs.Prelude.{raised, IsOverviewOf, IsOf, record_width, HasCounted, StaysCounted, IsPrefix, owns_of, Publication, AreTargetsOn, AppendingTerms, IsWithinOneMore, LookingTerms, first_load, single_steps, IsOnlyOwner};
 ghost use Rattle.at_calling.specs.KeptPayingAlone.{TakesPayTurn};
-ghost use Rattle.at_calling.specs.PayingAlone.{AnswersAlone, HasSameAsking, IsPayWithin, MakesPayStep, append_steps, pay_step_at, pay_turns_left, turns_made};
+ghost use Rattle.at_calling.specs.PayingAlone.{AnswersAlone, FollowsPay, HasSameAsking, IsPayWithin, MakesPayStep, append_steps, pay_step_at, pay_turns_left, turns_made};
 ghost use Rattle.at_calling.specs.Reading.{LeavesTotals, counted_so_far, newly_seen};
 
 use crate::pay_stage::PayStage;
@@ -124,6 +124,7 @@ impl PayingAlone {
         ensures turns { turns_made self.new ≡ turns_made self.old + 1 }
         ensures step { MakesPayStep board.now.book overview.old.seen self.old.stage seat.old
             seat.new totals.new }
+        ensures follows { FollowsPay board.now.book.processes self.old.stage self.new.stage }
         ensures left { pay_turns_left (record_width board.now.book) self.new.stage
             < pay_turns_left (record_width board.now.book) self.old.stage }
         ensures ends { IsSome result ↔ (pay_turns_left (record_width board.now.book) self.new.stage

@@ -3,7 +3,7 @@
 ghost use Rattle.std.specs.Prelude.{◌≡◌, ℕ, ◌+◌, ◌<◌, ◌≤◌, ◌↔◌, IfSome, IsSome, None, length};
 ghost use Rattle.at_calling.specs.Prelude.{raised, own_part, IsOverviewOf, IsOf, MayStoreRequest, HasCounted, IsPrefix, slots_of, account_of, AreTargetsOn, HelpingTerms, HasAllSettled, decides_made, SettlesInTurns, IsWithinOneMore, first_load};
 ghost use Rattle.at_calling.specs.KeptPayingShared.{TakesShareTurn};
-ghost use Rattle.at_calling.specs.PayingShared.{AnswersInRound, DecidesFew, IsShareWithin, MakesShareStep, settling_steps, share_exchanges_at, share_exchanges_made, share_step_at, share_steps, share_turns_left};
+ghost use Rattle.at_calling.specs.PayingShared.{AnswersInRound, DecidesFew, FollowsShare, IsShareWithin, MakesShareStep, settling_steps, share_exchanges_at, share_exchanges_made, share_step_at, share_steps, share_turns_left};
 ghost use Rattle.at_calling.specs.Reading.{LeavesTotals, counted_so_far, newly_seen};
 ghost use Rattle.at_calling.specs.Starting.{StartingTerms};
 ghost use Rattle.at_calling.specs.Turning.{TurningTerms};
@@ -128,6 +128,7 @@ impl PayingShared {
         ensures turns { self.new.turns ≡ self.old.turns + 1 }
         ensures step { MakesShareStep board.now.book overview.old.seen self.old.stage seat.old
             seat.new totals.new }
+        ensures follows { FollowsShare board.now.book self.old.stage self.new.stage }
         ensures left { share_turns_left board.now.book self.new
             < share_turns_left board.now.book self.old }
         ensures so_far { IsShareWithin board.now.book self.new

@@ -1,7 +1,7 @@
 //! A read, a load a turn.
 
 ghost use Rattle.std.specs.Prelude.{◌≡◌, ◌+◌, ◌-◌, ◌<◌, ◌↔◌, IfSome, IsSome, length, sum};
-ghost use Rattle.at_calling.specs.Prelude.{raised, IsOverviewOf, IsOf, HasCounted, StaysCounted, HasLoaded, snapshot_steps, IsWithin, IsWithinOneMore, MakesLookLoad, first_load, look_turns_left, step_at};
+ghost use Rattle.at_calling.specs.Prelude.{raised, IsOverviewOf, IsOf, HasCounted, StaysCounted, HasLoaded, snapshot_steps, IsWithin, IsWithinOneMore, FollowsLook, MakesLookLoad, first_load, look_turns_left, step_at};
 ghost use Rattle.at_calling.specs.Reading.{IsReadOf, LeavesTotals};
 
 use at_board::{Board, BoardSeat, BoardStep, Overview};
@@ -78,6 +78,8 @@ impl Reading {
         ensures turns { self.new.looking.turns ≡ self.old.looking.turns + 1 }
         ensures load { MakesLookLoad board.now.book overview.old.seen self.old.looking.stage
             seat.old seat.new totals.new }
+        ensures follows { FollowsLook board.now.book.processes self.old.looking.stage
+            self.new.looking.stage }
         ensures loads { HasLoaded board.now.book self.old.looking.start seat.new.knows }
         ensures counted { StaysCounted totals.new board.now.book seat.new.knows.seen }
         ensures left { look_turns_left self.new.looking.stage

@@ -4,7 +4,7 @@ ghost use Rattle.std.specs.Prelude.{◌≡◌, ℕ, ◌+◌, ◌^◌, ◌<◌, �
 ghost use Rattle.at_calling.specs.Prelude.{raised, own_part, IsOverviewOf, IsOf, MayStoreRequest, HasCounted, StaysCounted, place, IsPrefix, Publication, AreTargetsOn, AskingTerms, starting_to_ask, CollectingRowsTerms, IsWithinOneMore, LookingTerms, first_load, MayAskFor, asked_for, HasAllSettled, decides_on};
 ghost use Rattle.at_calling.specs.KeptStarting.{TakesStartTurn};
 ghost use Rattle.at_calling.specs.Reading.{LeavesTotals, counted_so_far, newly_seen};
-ghost use Rattle.at_calling.specs.Starting.{IsStartOf, IsStartWithin, MakesStartStep, asking_steps_of, start_step_at, start_steps, start_turns_left, start_turns_made};
+ghost use Rattle.at_calling.specs.Starting.{FollowsStart, IsStartOf, IsStartWithin, MakesStartStep, asking_steps_of, start_step_at, start_steps, start_turns_left, start_turns_made};
 
 use crate::start_stage::StartStage;
 use at_base::Counts;
@@ -121,6 +121,7 @@ impl Starting {
         ensures turns { start_turns_made self.new ≡ start_turns_made self.old + 1 }
         ensures step { MakesStartStep board.now.book overview.old.seen self.old.stage seat.old
             seat.new totals.new }
+        ensures follows { FollowsStart board.now.book self.old.stage self.new.stage }
         ensures counted { StaysCounted totals.new board.now.book seat.new.knows.seen }
         ensures left { start_turns_left board.now.book self.new
             < start_turns_left board.now.book self.old }

@@ -1,10 +1,10 @@
 //! One turn of helping, a step a turn.
 
 ghost use Rattle.std.specs.Prelude.{◌≡◌, ◌+◌, ◌*◌, ◌<◌, ◌≤◌, ◌↔◌, List, IfSome, IsSome, length};
-ghost use Rattle.at_calling.specs.Prelude.{raised, own_part, IsOverviewOf, IsOf, DecidingTerms, IsWithinOneMore, LookingTerms, HasCounted, IsPrefix, Publication, IsHelping, decides_made, decides_on, round_steps, HelpTurn};
+ghost use Rattle.at_calling.specs.Prelude.{raised, own_part, IsOverviewOf, IsOf, DecidingTerms, IsWithinOneMore, LookingTerms, first_load, HasCounted, IsPrefix, Publication, IsHelping, decides_made, decides_on, round_steps, HelpTurn};
 ghost use Rattle.at_calling.specs.KeptTurning.{TakesHelpStep};
 ghost use Rattle.at_calling.specs.Reading.{CountsOthersStill, LeavesTotals, SeesOthersStill, counted_so_far, newly_seen};
-ghost use Rattle.at_calling.specs.Turning.{IsHelpOf, IsHelpWithin, LeavesSeat, MakesTurnStep, WaitsOn, exchanges_at, help_step_at, help_steps, help_turns_left, help_turns_made};
+ghost use Rattle.at_calling.specs.Turning.{FollowsTurn, IsHelpOf, IsHelpWithin, LeavesSeat, MakesTurnStep, WaitsOn, exchanges_at, help_step_at, help_steps, help_turns_left, help_turns_made};
 
 use crate::turn_stage::TurnStage;
 use at_base::Decision;
@@ -58,6 +58,7 @@ impl Turning {
         ensures totals { result.totals ≡ totals.now }
         ensures turns { help_turns_made result ≡ 0 }
         ensures left { 0 < help_turns_left board.now.book.processes result.stage }
+        ensures first { help_step_at board.now.book result.stage ≡ first_load }
     {
         seat.known();
         Turning {
@@ -109,6 +110,7 @@ impl Turning {
         ensures turns { help_turns_made self.new ≡ help_turns_made self.old + 1 }
         ensures step { MakesTurnStep board.now.book overview.old.seen self.old.stage
             self.new.stage seat.old seat.new totals.new }
+        ensures follows { FollowsTurn board.now.book self.old.stage self.new.stage }
         ensures left { help_turns_left board.now.book.processes self.new.stage
             < help_turns_left board.now.book.processes self.old.stage }
         ensures ends { IsSome result

@@ -1,6 +1,6 @@
 -- Totals that catch up, from one turn to the next.
-use Rattle.std.proofs.Common.{◌≡◌, ◌↔◌, ℕ, ◌+◌, ◌-◌, ◌*◌, ◌^◌, ◌<◌, ◌≤◌, Bool, true, false, not, IsTrue, List, length, get_or, set, refl, sym, ap, subst, arith, inl, inr, Option, Some, None, get_or-set_other, get_or-set_same, length-set, if◌then◌else◌, ◌∙◌}
-use Rattle.at_machines.proofs.Prelude.{cases_eq, cases_lt, eq-eqb, ne_eqb, sum, is_some, Covers, BookTerms, get_or-counts, length-counts, sum-Covers-le, log_room_of-le, count_of, Entry, Publication, IsKept, Knowledge, BoardStep, BoardWord, RECORD_WORDS, MayCount-IsCatchingUp, count_of-IsCatchingUp, IsCatchingUp-more, upto-IsCatchingUp, sum-caught, IsCatchingUp, HasCounted, MayCount, TotalSums, IsEntryOf, CountsNext, catch_step, loaded_of, IsCatchingUpSo, IsLoadingNext, LoadingTerms, entry_step, starting_loading}
+use Rattle.std.proofs.Common.{◌≡◌, ◌≢◌, ◌↔◌, ℕ, ◌+◌, ◌-◌, ◌*◌, ◌^◌, ◌<◌, ◌≤◌, Bool, true, false, not, IsTrue, List, [], length, get_or, set, refl, sym, ap, subst, arith, inl, inr, Option, Some, None, get_or-set_other, get_or-set_same, length-set, if◌then◌else◌, ◌∙◌}
+use Rattle.at_machines.proofs.Prelude.{cases_eq, cases_lt, eq-eqb, ne_eqb, sum, is_some, Covers, BookTerms, get_or-counts, length-counts, sum-Covers-le, log_room_of-le, count_of, Entry, Publication, IsKept, Knowledge, BoardStep, BoardWord, RECORD_WORDS, MayCount-IsCatchingUp, count_of-IsCatchingUp, IsCatchingUp-more, upto-IsCatchingUp, sum-caught, IsCatchingUp, HasCounted, MayCount, TotalSums, IsEntryOf, CatchingUpTerms, CountsNext, FollowsLoad, catch_step, loaded_of, IsCatchingUpSo, IsLoadingNext, AddsWord, LoadingTerms, entry_step, loading_after, starting_loading}
 
 -- of the processes up to this one nothing is left to count
 past : (b : BookTerms) (seen : List Publication) (counts start : List ℕ) (t : TotalSums) (p p' : ℕ) → IsCatchingUp b seen counts start t p → p' ≤ length counts
@@ -77,7 +77,7 @@ left-IsCatchingUpSo v counts t p l so =
 
 -- the next load, where a record is loaded and where none is
 pub catch_step-Some : (v : Knowledge) (counts : List ℕ) (t : TotalSums) (p : ℕ) (l : LoadingTerms) → IsCatchingUpSo v counts t p (Some l)
-    → entry_step l ≡ catch_step (record { counts = counts; knows = v; totals = t; process = p; loaded = l.loaded })
+    → entry_step l ≡ catch_step (record { counts = counts; knows = v; totals = t; process = p; loaded = l.loaded; words = l.words })
 catch_step-Some v counts t p l so =
     let few : l.loaded < RECORD_WORDS = so.loading_so.2 in
     let left = left-IsCatchingUpSo v counts t p l so in
@@ -88,11 +88,42 @@ catch_step-Some v counts t p l so =
     (ne_eqb (RECORD_WORDS * (sum counts - sum t.upto) - l.loaded) 0 (λ none. absurd (omega (arith, none, left))))))
 
 pub catch_step-None : (v : Knowledge) (counts : List ℕ) (t : TotalSums) (p : ℕ) → IsCatchingUpSo v counts t p None
-    → catch_step (record { counts = counts; knows = v; totals = t; process = p; loaded = 0 }) ≡ None
+    → catch_step (record { counts = counts; knows = v; totals = t; process = p; loaded = 0; words = [] }) ≡ None
 catch_step-None v counts t p so =
     let step : BoardStep = BoardStep.Load (BoardWord.Record p (get_or t.upto p 0) 0) in
     ap (λ k. if k then None else Some step)
     (eq-eqb (RECORD_WORDS * (sum counts - sum t.upto) - 0) 0 (omega (arith, ap (λ (l : List ℕ). sum l) (upto-IsCatchingUpSo v counts t p so))))
+
+-- one more word of a record is loaded, which isn't its last
+pub FollowsLoad-word : (v : Knowledge) (counts : List ℕ) (t : TotalSums) (p : ℕ) (l m : LoadingTerms) → IsCatchingUpSo v counts t p (Some l)
+    → m ≡ loading_after l m.words → AddsWord l.knows l.process l.number l.loaded l.words m.words → l.loaded + 1 ≢ RECORD_WORDS
+    → FollowsLoad (record { counts = counts; knows = v; totals = t; process = p; loaded = l.loaded; words = l.words })
+    (record { counts = counts; knows = v; totals = t; process = p; loaded = m.loaded; words = m.words })
+FollowsLoad-word v counts t p l m so after word more =
+    let next : ℕ → CatchingUpTerms = λ n. record { counts = counts; knows = v; totals = t; process = p; loaded = n; words = m.words } in (
+      λ few. (
+        ap next (ap (λ (k : LoadingTerms). k.loaded) after),
+        subst (λ (k : LoadingTerms). AddsWord k.knows k.process k.number l.loaded l.words m.words) so.loading_so.3 word,
+      ),
+      λ last. absurd (more last),
+    )
+
+pub IsCatchingUpSo-word : (v : Knowledge) (counts : List ℕ) (t : TotalSums) (p : ℕ) (l m : LoadingTerms) → IsCatchingUpSo v counts t p (Some l)
+    → m ≡ loading_after l m.words → l.loaded + 1 ≢ RECORD_WORDS → IsCatchingUpSo v counts t p (Some m)
+IsCatchingUpSo-word v counts t p l m so after more =
+    let loaded : m.loaded ≡ l.loaded + 1 = ap (λ (k : LoadingTerms). k.loaded) after in
+    let next : LoadingTerms → ℕ → LoadingTerms = λ k n. record { knows = k.knows; process = k.process; number = k.number; loaded = n; words = m.words } in
+    record {
+      kept = so.kept;
+      catching = so.catching;
+      within = so.within;
+      loading_so = (
+        so.loading_so.0,
+        so.loading_so.1,
+        omega (arith, loaded, more, so.loading_so.2),
+        after ∙ (ap (λ k. next k (l.loaded + 1)) so.loading_so.3 ∙ ap (next (record l { knows = v; process = p; number = get_or t.upto p 0 })) (sym loaded)),
+      );
+    }
 
 -- whether no record is loaded
 pub upto-ended : (v : Knowledge) (counts : List ℕ) (t : TotalSums) (p : ℕ) (loading : Option LoadingTerms) (ended : Bool)

@@ -2,7 +2,7 @@
 pub use Rattle.std.proofs.Math.Nat.{suc-mul}
 pub use Rattle.std.proofs.lemmas.Bool.{cases_eq, cases_lt, eq-eqb, ne_eqb}
 pub use Rattle.std.proofs.lemmas.Grind.{common_steps, same_number_lists}
-pub use Rattle.std.proofs.lemmas.List.{append_assoc, get_or-set_other, get_or-set_same, get_or_append_left, length-set, set-get_or}
+pub use Rattle.std.proofs.lemmas.List.{append_assoc, get_or-set_other, get_or-set_same, get_or_append_left, length-set, set-get_or, take_more_set}
 pub use Rattle.std.proofs.lemmas.Nat.{mul-le}
 pub use Rattle.std.specs.List.{Contains, sum}
 pub use Rattle.std.specs.Option.{is_some, option_to_list}
@@ -67,7 +67,7 @@ pub use Rattle.at_log.specs.Loading.{IsEntryOf, IsViewOf}
 pub use Rattle.at_log.specs.declared.record.Record.{Record}
 pub use Rattle.at_machines.specs.Appending.{AppendingTerms, StoresNextWord, append_step, appending_after, publication_of, starting_appending, store_step}
 pub use Rattle.at_machines.specs.Asking.{AnnouncesAsked, AskingTerms, StoresNextRequestWord, ask_step, ask_step_in, ask_step_of, asking_after, request_asked, starting_to_ask}
-pub use Rattle.at_machines.specs.CatchingUp.{CatchingUpTerms, CountsNext, MayLoadLeft, catch_step, loaded_of, loads_left, number_left}
+pub use Rattle.at_machines.specs.CatchingUp.{CatchingUpTerms, CountsNext, FollowsLoad, MayLoadLeft, catch_step, loaded_of, loads_left, number_left, words_held}
 pub use Rattle.at_machines.specs.Collecting.{CollectingTerms, LoadsLengthOf, collecting_after, starting_collecting}
 pub use Rattle.at_machines.specs.CollectingRows.{CollectingRowsTerms, GoesOn, MakesNextLoad, rows_after}
 pub use Rattle.at_machines.specs.Deciding.{DecidingTerms, MakesRoundStep, MakesStep, NextOfRound, next_of_round, record_word, round_in, step_in_round}
@@ -79,12 +79,12 @@ pub use Rattle.at_machines.specs.KeptLooking.{IsLookingSo}
 pub use Rattle.at_machines.specs.KeptRequests.{IsLoadingRequestSo}
 pub use Rattle.at_machines.specs.KeptRows.{IsCollectingRowsSo, IsLoadingRowSo}
 pub use Rattle.at_machines.specs.KeptSnapshots.{HasLoadedSoFar, IsSnapped, IsSnappingSo, LeadsTo, TurnsStage, scan_of}
-pub use Rattle.at_machines.specs.Loading.{LoadingTerms, entry_step, loading_after, starting_loading}
+pub use Rattle.at_machines.specs.Loading.{AddsWord, LoadingTerms, entry_step, loading_after, starting_loading}
 pub use Rattle.at_machines.specs.LoadingRequest.{LoadingRequestTerms, request_after, starting_request}
 pub use Rattle.at_machines.specs.LoadingRow.{LoadingRowTerms, MakesLoadOf, NextRowLoad, row_after, row_step, row_turns, starting_row}
 pub use Rattle.at_machines.specs.LoadingRow.NextRowLoad.{announced_word, nothing, request_word}
-pub use Rattle.at_machines.specs.Looking.{LookingTerms, MakesLookLoad, look_turns_left, step_at}
-pub use Rattle.at_machines.specs.Snapping.{MakesLoad, NextLoad, SnappingTerms, left_of, step_in}
+pub use Rattle.at_machines.specs.Looking.{FollowsLook, LookingTerms, MakesLookLoad, look_turns_left, step_at}
+pub use Rattle.at_machines.specs.Snapping.{MakesLoad, MayFollow, NextLoad, SnappingTerms, left_of, step_in}
 pub use Rattle.at_machines.specs.contracts.collecting_rows.CollectingRows.{the_view}
 pub use Rattle.at_machines.specs.declared.look_stage.LookStage.{LookStage}
 pub use Rattle.at_machines.specs.declared.look_stage.LookStage.TheVariants.{CatchUp, Snap}

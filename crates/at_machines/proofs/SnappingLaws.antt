@@ -181,7 +181,7 @@ TurnsStage-judge seen start before after collects more collected c (Lent p) next
       so = record { kept = lent.kept; book = lent.book; stage_so = lent.stage_so };
       load = (load, after_seen);
       loads = HasLoaded-IsSnappingSo start.book start before.knows after.knows collects collected c so refl load;
-      follows = (λ less. absurd (omega (arith, less, last)), λ whole. refl);
+      follows = (λ less. absurd (omega (arith, less, last)), λ whole. (refl, refl));
       left = omega (arith, last);
       ends = (λ some. absurd (cc some), λ none. absurd (omega (arith, none, last)));
       snapped = tt;

@@ -1,16 +1,17 @@
 -- Totals that catch up with counts, one load a turn.
-use Rattle.std.specs.Prelude.{◌≡◌, ℕ, ◌+◌, ◌-◌, ◌*◌, ◌<◌, ◌==◌, List, slice_index, slice_set, sum, Option, Some, None, if◌then◌else◌}
+use Rattle.std.specs.Prelude.{◌≡◌, ℕ, ◌+◌, ◌-◌, ◌*◌, ◌<◌, ◌==◌, List, [], slice_index, slice_set, sum, Option, Some, None, if◌then◌else◌}
 use Rattle.at_machines.specs.Prelude.{BookTerms, MayLoadWord, Knowledge, BoardStep, BoardWord, RECORD_WORDS, TotalSums}
-use Rattle.at_machines.specs.Loading.{LoadingTerms}
+use Rattle.at_machines.specs.Loading.{AddsWord, LoadingTerms}
 
 -- totals that catch up, by the counts that they are to reach, by what their seat knows, by what they have counted after the last turn,
--- by the process of the next record, and by how many of its words are loaded
+-- by the process of the next record, and by how many of its words are loaded, and which
 pub record CatchingUpTerms : Type 0 where
   pub counts : List ℕ
   pub knows : Knowledge
   pub totals : TotalSums
   pub process : ℕ
   pub loaded : ℕ
+  pub words : List ℕ
 
 -- the loads that are left: of each word of the records that the counts count and the totals don't
 abbrev pub loads_left : CatchingUpTerms → ℕ
@@ -43,7 +44,18 @@ pub record CountsNext (counts : List ℕ) (was now : TotalSums) : Type 0 where
 abbrev pub LoadsNextWord : CatchingUpTerms → TotalSums → Type 0
 LoadsNextWord c now = (c.loaded + 1 < RECORD_WORDS → now ≡ c.totals) × (c.loaded + 1 ≡ RECORD_WORDS → CountsNext c.counts c.totals now)
 
--- how many words of a record are loaded, if one is
+-- after that comes the record's next word, beside those that are loaded, and after its last one the first word of another
+abbrev pub FollowsLoad : CatchingUpTerms → CatchingUpTerms → Type 0
+FollowsLoad c d =
+    (c.loaded + 1 < RECORD_WORDS → (d ≡ record c { loaded = c.loaded + 1; words = d.words })
+    × AddsWord c.knows c.process (number_left c) c.loaded c.words d.words)
+    × (c.loaded + 1 ≡ RECORD_WORDS → (d.loaded ≡ 0) × (d.words ≡ []))
+
+-- how many words of a record are loaded, if one is, and which
 abbrev pub loaded_of : Option LoadingTerms → ℕ
 loaded_of None = 0
 loaded_of (Some l) = l.loaded
+
+abbrev pub words_held : Option LoadingTerms → List ℕ
+words_held None = []
+words_held (Some l) = l.words

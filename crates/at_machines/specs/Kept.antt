@@ -1,5 +1,5 @@
 -- What the types of state machines keep of their fields, which no caller sees.
-use Rattle.std.specs.Prelude.{◌≡◌, ℕ, ◌+◌, ◌<◌, ◌≤◌, List, length, slice_index}
+use Rattle.std.specs.Prelude.{◌≡◌, ℕ, ◌+◌, ◌<◌, ◌≤◌, List, length, slice_index, take}
 use Rattle.at_machines.specs.Prelude.{IsRecordWord, SeesRecord, IsKept, FitsNext, record_width, record_words, IsStoring, MayAppend, IsCollecting}
 use Rattle.at_machines.specs.Appending.{AppendingTerms, publication_of}
 use Rattle.at_machines.specs.Collecting.{CollectingTerms}
@@ -16,6 +16,7 @@ loading_entry_of l = record {
   process = l.process;
   number = l.number;
   loaded = l.loaded;
+  words = take l.loaded l.words;
 }
 
 abbrev pub loading_view_of : view.Inside → LoadingTerms
@@ -24,6 +25,7 @@ loading_view_of l = record {
   process = l.process;
   number = l.number;
   loaded = l.loaded;
+  words = take l.loaded l.view;
 }
 
 abbrev pub collecting_of : collecting.Inside → CollectingTerms

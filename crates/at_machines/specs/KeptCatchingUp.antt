@@ -8,7 +8,7 @@ abbrev pub IsLoadingNext : Knowledge → List ℕ → TotalSums → ℕ → Opti
 IsLoadingNext v counts t p None = v.book.processes ≤ p
 IsLoadingNext v counts t p (Some l) =
     (p < v.book.processes) × (slice_index t.upto p < slice_index counts p) × (l.loaded < RECORD_WORDS)
-    × (l ≡ record { knows = v; process = p; number = slice_index t.upto p; loaded = l.loaded })
+    × (l ≡ record { knows = v; process = p; number = slice_index t.upto p; loaded = l.loaded; words = l.words })
 
 -- the totals are on the way to the counts, at process p
 pub record IsCatchingUpSo (v : Knowledge) (counts : List ℕ) (t : TotalSums) (p : ℕ) (loading : Option LoadingTerms) : Type 0 where

@@ -1,8 +1,8 @@
 -- Looks that are made one load a turn: a snapshot, and then the records that it counts and the totals don't.
-use Rattle.std.specs.Prelude.{◌≡◌, ℕ, ◌+◌, ◌-◌, ◌*◌, ◌<◌, ◌≤◌, List, sum, Option, None, Some}
+use Rattle.std.specs.Prelude.{◌≡◌, ℕ, ◌+◌, ◌-◌, ◌*◌, ◌<◌, ◌≤◌, List, [], sum, Option, None, Some}
 use Rattle.at_machines.specs.Prelude.{BookTerms, places_max, Publication, stepped, SeatTerms, Knowledge, BoardStep, BoardWord, RECORD_WORDS, TotalSums, snapshot_steps}
-use Rattle.at_machines.specs.CatchingUp.{LoadsNextWord, MayLoadLeft, catch_step, loads_left}
-use Rattle.at_machines.specs.Snapping.{MakesLoad, length_in, step_in}
+use Rattle.at_machines.specs.CatchingUp.{FollowsLoad, LoadsNextWord, MayLoadLeft, catch_step, loads_left}
+use Rattle.at_machines.specs.Snapping.{MakesLoad, MayFollow, length_in, nothing, step_in}
 use Rattle.at_machines.specs.declared.look_stage.LookStage.{LookStage}
 use Rattle.at_machines.specs.declared.look_stage.LookStage.TheVariants.{CatchUp, Snap}
 
@@ -27,6 +27,17 @@ look_turns_left (CatchUp c) = loads_left c
 abbrev pub MakesLookLoad : BookTerms → List Publication → LookStage → SeatTerms → SeatTerms → TotalSums → Type 0
 MakesLookLoad b seen (Snap s) before after now = MakesLoad b seen s.next before after
 MakesLookLoad b seen (CatchUp c) before after now = (after ≡ stepped before 1) × LoadsNextWord c now × MayLoadLeft b before.knows c
+
+-- what comes after that, of n processes: the snapshot goes on, or has ended and the first word of a record comes next, or the loads go on
+abbrev pub FollowsLook : ℕ → LookStage → LookStage → Type 0
+FollowsLook n (Snap s) (Snap t) = MayFollow n s.next t.next
+FollowsLook n (Snap s) (CatchUp d) = MayFollow n s.next nothing × (d.loaded ≡ 0) × (d.words ≡ [])
+FollowsLook n (CatchUp c) (Snap t) = ⊥
+FollowsLook n (CatchUp c) (CatchUp d) = FollowsLoad c d
+
+-- that was its last load
+abbrev pub EndsLook : ℕ → LookStage → Type 0
+EndsLook n stage = (last : LookStage) × FollowsLook n stage last × (look_turns_left last ≡ 0)
 
 -- the process whose length the next turn loads, if it loads one
 abbrev pub length_at : LookStage → Option ℕ

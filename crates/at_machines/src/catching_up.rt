@@ -1,8 +1,8 @@
 //! Counting what was published since, a load a turn.
 
-ghost use Rattle.std.specs.Prelude.{◌≡◌, ℕ, ◌+◌, ◌-◌, ◌*◌, ◌<◌, ◌≤◌, ◌↔◌, IfSome, IsSome, IsTrue, None, Some, length, slice_index, sum};
+ghost use Rattle.std.specs.Prelude.{◌≡◌, ℕ, ◌+◌, ◌-◌, ◌*◌, ◌<◌, ◌≤◌, ◌↔◌, IfSome, IsSome, IsTrue, None, Some, [], length, slice_index, sum};
 ghost use Rattle.at_machines.specs.Prelude.{Covers, stepped, IsOf, RECORD_WORDS, IsCatchingUp, HasCounted, HasRecords, StaysCounted, count_of};
-ghost use Rattle.at_machines.specs.CatchingUp.{LoadsNextWord, MayLoadLeft, catch_step, loads_left};
+ghost use Rattle.at_machines.specs.CatchingUp.{FollowsLoad, LoadsNextWord, MayLoadLeft, catch_step, loads_left};
 ghost use Rattle.at_machines.specs.Loading.{starting_loading};
 
 use crate::loading_entry::LoadingEntry;
@@ -27,7 +27,7 @@ pub struct CatchingUp {
 }
 
 impl Model for CatchingUp {
-    ghost use Rattle.at_machines.specs.CatchingUp.{CatchingUpTerms, loaded_of};
+    ghost use Rattle.at_machines.specs.CatchingUp.{CatchingUpTerms, loaded_of, words_held};
     ghost use Rattle.at_machines.specs.KeptCatchingUp.{IsCatchingUpSo};
 
     ghost Value = { CatchingUpTerms };
@@ -38,6 +38,7 @@ impl Model for CatchingUp {
       totals = c.totals.value;
       process = c.process;
       loaded = loaded_of c.loading;
+      words = words_held c.loading;
     } };
 
     ghost invariant = { λ c. IsCatchingUpSo c.seat.value.knows c.counts c.totals.value c.process
@@ -55,6 +56,8 @@ impl CatchingUp {
         ensures knows { result.knows ≡ seat.now.knows }
         ensures totals { result.totals ≡ totals.now }
         ensures left { loads_left result ≡ RECORD_WORDS * (sum counts - sum totals.now.upto) }
+        ensures loaded { result.loaded ≡ 0 }
+        ensures words { result.words ≡ [] }
     {
         seat.known();
         CatchingUp::at(seat, totals, counts, 0)
@@ -69,6 +72,7 @@ impl CatchingUp {
         ensures knows { result.knows ≡ seat.now.knows }
         ensures totals { result.totals ≡ totals.now }
         ensures loaded { result.loaded ≡ 0 }
+        ensures words { result.words ≡ [] }
     {
         seat.known();
         let process = first_left(&counts, totals, process);
@@ -116,6 +120,7 @@ impl CatchingUp {
         ensures knows { self.new.knows ≡ self.old.knows }
         ensures totals { self.new.totals ≡ totals.new }
         ensures word { LoadsNextWord self.old totals.new }
+        ensures follows { FollowsLoad self.old self.new }
         ensures record { MayLoadLeft board.now.book seat.old.knows self.old }
         ensures left { loads_left self.new + 1 ≡ loads_left self.old }
         ensures part { self.new.loaded < RECORD_WORDS }

@@ -2,7 +2,7 @@
 
 ghost use Rattle.std.specs.Prelude.{◌≡◌, ◌+◌, ◌<◌, ◌↔◌, IfSome, IsSome};
 ghost use Rattle.at_machines.specs.Prelude.{stepped, SeesRecord, IsOf, MayLoadWord, RECORD_WORDS, IsEntryOf};
-ghost use Rattle.at_machines.specs.Loading.{entry_step, loading_after, starting_loading};
+ghost use Rattle.at_machines.specs.Loading.{AddsWord, entry_step, loading_after, starting_loading};
 
 use at_board::{Board, BoardSeat, BoardStep, BoardWord, Entry, RECORD_WORDS, entry_of};
 use std::marker::Model;
@@ -68,7 +68,9 @@ impl LoadingEntry {
         requires board { IsOf seat.old board.now }
         requires mark { seat.old.knows ≡ self.old.knows }
         requires left { self.old.loaded < RECORD_WORDS }
-        ensures after { self.new ≡ loading_after self.old }
+        ensures after { self.new ≡ loading_after self.old self.new.words }
+        ensures word { AddsWord self.old.knows self.old.process self.old.number self.old.loaded
+            self.old.words self.new.words }
         ensures ends { IsSome result ↔ (self.new.loaded ≡ RECORD_WORDS) }
         ensures entry { IfSome result (λ entry. IsEntryOf self.old.knows self.old.process
             self.old.number entry) }

@@ -2,7 +2,7 @@
 
 ghost use Rattle.std.specs.Prelude.{◌≡◌, ◌+◌, ◌<◌, ◌↔◌, IfSome, IsSome};
 ghost use Rattle.at_machines.specs.Prelude.{stepped, SeesRecord, IsOf, MayLoadWord, RECORD_WORDS, IsViewOf};
-ghost use Rattle.at_machines.specs.Loading.{loading_after, starting_loading, view_step};
+ghost use Rattle.at_machines.specs.Loading.{AddsWord, loading_after, starting_loading, view_step};
 
 use at_base::Counts;
 use at_board::{Board, BoardSeat, BoardStep, BoardWord, RECORD_WORDS};
@@ -71,7 +71,9 @@ impl LoadingView {
         requires board { IsOf seat.old board.now }
         requires mark { seat.old.knows ≡ self.old.knows }
         requires left { self.old.loaded < board.now.book.processes }
-        ensures after { self.new ≡ loading_after self.old }
+        ensures after { self.new ≡ loading_after self.old self.new.words }
+        ensures word { AddsWord self.old.knows self.old.process self.old.number
+            (RECORD_WORDS + self.old.loaded) self.old.words self.new.words }
         ensures ends { IsSome result ↔ (self.new.loaded ≡ board.now.book.processes) }
         ensures view { IfSome result (λ view. IsViewOf self.old.knows self.old.process
             self.old.number view) }

@@ -2,7 +2,7 @@
 
 ghost use Rattle.std.specs.Prelude.{◌≡◌, ◌+◌, ◌-◌, ◌<◌, ◌≤◌, ◌↔◌, IfSome, IsSome, length, sum};
 ghost use Rattle.at_machines.specs.Prelude.{raised, IsOverviewOf, IsOf, HasCounted, StaysCounted, HasLooked, HasLoaded, snapshot_steps};
-ghost use Rattle.at_machines.specs.Looking.{IsWithin, IsWithinOneMore, MakesLookLoad, first_load, look_turns_left, step_at};
+ghost use Rattle.at_machines.specs.Looking.{FollowsLook, IsWithin, IsWithinOneMore, MakesLookLoad, first_load, look_turns_left, step_at};
 
 use crate::catching_up::CatchingUp;
 use crate::look_stage::LookStage;
@@ -111,6 +111,7 @@ impl Looking {
         ensures turns { self.new.turns ≡ self.old.turns + 1 }
         ensures load { MakesLookLoad board.now.book overview.old.seen self.old.stage seat.old
             seat.new totals.new }
+        ensures follows { FollowsLook board.now.book.processes self.old.stage self.new.stage }
         ensures loads { HasLoaded board.now.book self.old.start seat.new.knows }
         ensures counted { StaysCounted totals.new board.now.book seat.new.knows.seen }
         ensures left { look_turns_left self.new.stage < look_turns_left self.old.stage }

@@ -2,7 +2,7 @@
 
 ghost use Rattle.std.specs.Prelude.{◌≡◌, ◌+◌, ◌<◌, ◌↔◌, IfSome, IsSome};
 ghost use Rattle.at_machines.specs.Prelude.{raised, IsOverviewOf, IsOf, HasLoaded, HasCollected, IsSnapshot, snapshot_steps};
-ghost use Rattle.at_machines.specs.Snapping.{MakesLoad, MayFollow, length_of, step_in};
+ghost use Rattle.at_machines.specs.Snapping.{MakesLoad, MayFollow, length_of, nothing, step_in};
 
 use crate::collecting::Collecting;
 use crate::stage::Stage;
@@ -92,6 +92,7 @@ impl Snapping {
         ensures next { MayFollow board.now.book.processes self.old.next self.new.next }
         ensures left { self.new.left < self.old.left }
         ensures ends { IsSome result ↔ (self.new.left ≡ 0) }
+        ensures ended { IfSome result (λ counts. self.new.next ≡ nothing) }
         ensures snapshot { IfSome result (IsSnapshot board.now.book self.old.start seat.new.knows) }
         ensures collects { IfSome result (λ counts. HasCollected board.now.book self.old.start
             seat.new.knows (board.now.book.processes + 1)) }

@@ -55,6 +55,7 @@ IsTurned-going_on b published was after turned stage is takes = record {
   stage = stage;
   is_ready = record { stage_is = is; from = subst (IsReadyFrom b published was was stage) (sym is) refl };
   leaves = takes.leaves;
+  ends = takes.ends;
   step = takes.step;
   made = made-TakesTurn b published was after turned stage takes;
   kind = takes.kind;
@@ -108,6 +109,7 @@ module _ (b : BookTerms) (published : List Publication) (was ready after : Calle
     stage = stage;
     is_ready = record { stage_is = is; from = subst (IsReadyFrom b published was ready stage) (sym none) begins };
     leaves = takes.leaves;
+    ends = takes.ends;
     step = takes.step;
     made = made-TakesTurn b published ready after turned stage takes;
     kind = takes.kind;

@@ -1,7 +1,7 @@
 -- A caller whose call goes on, or is answered.
 use Rattle.std.specs.Prelude.{IfSome, IsSome, is_some, ◌↔◌}
 use Rattle.std.proofs.Common.{◌≡◌, ℕ, zero, suc, ◌+◌, ◌<◌, ◌⊎◌, Bool, true, false, cond, List, [], ◌∷◌, ◌++◌, drop, length, get_or, take, None, Option, Some, refl, sym, ap, subst, ◌∙◌, arith, inl, inr, length-append}
-use Rattle.at_stepper.proofs.Prelude.{cases_Bool, map-append, take_more, sum_by-drop_more, BookTerms, is_owner, Call, Pay, Read, Transfer, Reply, Balance, Done, Full, NotOwner, Short, own_part, LearnsOverview, IsKept, SeatTerms, Knowledge, calls_of, Receipt, IsOfOnePass, pass_of, CallCountTerms, with_one_call, PassTerms, Stands, sent_by, IsRefused, has_used_up, Rest, process-CallMade, CallerTerms, HasLearned, IsAnswered, IsFile, IsStillCalling, caller_turns_left, calls_left_of, is_refused, most_turns, next_call, own_seen, steps_in, CallingTerms, IsCallWithin, IsWay, MakesCallStep, StartsFrom, call_turns_left, exchanges_made, exchanges_of, first_step, next_step, pass_before, publishes_of, refusal_in, steps_made, steps_of, CallMade, StaysWithin, IsPrefix, Publication, IsPrefix-refl, IsCallerOf, IsNextInMaking, StartsNext, TakesTurn, caller_of, stage_in, raised, CallStage, PayAlone, PayShared, Refuse, Refused, Turned, Answer, Step}
+use Rattle.at_stepper.proofs.Prelude.{cases_Bool, map-append, take_more, sum_by-drop_more, BookTerms, is_owner, Call, Pay, Read, Transfer, Reply, Balance, Done, Full, NotOwner, Short, own_part, LearnsOverview, IsKept, SeatTerms, Knowledge, calls_of, Receipt, IsOfOnePass, pass_of, CallCountTerms, with_one_call, PassTerms, Stands, sent_by, IsRefused, has_used_up, Rest, process-CallMade, CallerTerms, HasLearned, IsAnswered, IsFile, IsStillCalling, caller_turns_left, calls_left_of, is_refused, most_turns, next_call, own_seen, steps_in, CallingTerms, IsCallWithin, IsWay, MakesCallStep, StartsFrom, call_turns_left, exchanges_made, exchanges_of, first_step, next_step, pass_before, publishes_of, refusal_in, steps_made, steps_of, CallMade, StaysWithin, IsPrefix, Publication, IsPrefix-refl, IsCallerOf, IsNextInMaking, StartsNext, TakesTurn, caller_of, stage_in, EndsCall, FollowsCall, raised, CallStage, PayAlone, PayShared, Refuse, Refused, Turned, Answer, Step}
 use Rattle.std.specs.Prelude.{sum_by}
 use Rattle.at_stepper.proofs.PublishedLaws.{longer-IsPrefix}
 use Rattle.at_stepper.proofs.LookLaws.{look-CallMade}
@@ -247,11 +247,11 @@ module _ (b : BookTerms) (seat : SeatTerms) (rest : Rest) (calls : List Call) (r
       abbrev going_on : CallerTerms
       going_on = caller_of after_seat after_rest calls receipts (Some d)
 
-      IsStillCalling-turned : IsStillCalling b before going_on c.stage
-      IsStillCalling-turned = record {
+      IsStillCalling-turned : FollowsCall b c.stage d.stage → IsStillCalling b before going_on c.stage
+      IsStillCalling-turned follows = record {
         pass = same_pass;
         receipts = refl;
-        going_on = (d.stage, refl);
+        going_on = (d.stage, refl, follows);
         turns = omega (arith, turns, one_step);
         exchanges = exchanges;
         begins = more;
@@ -262,11 +262,12 @@ module _ (b : BookTerms) (seat : SeatTerms) (rest : Rest) (calls : List Call) (r
       all_turns_left-turned = omega (arith, turns, one_step, few_turns, all_turns_left-before)
 
       -- so its turn is taken, where the seat has counted its step
-      pub TakesTurn-turned : (published : List Publication) → MakesCallStep b published c.stage seat after_seat after_rest.totals
+      pub TakesTurn-turned : (published : List Publication) → MakesCallStep b published c.stage seat after_seat after_rest.totals → FollowsCall b c.stage d.stage
           → after_seat.steps ≡ raised seat.steps (steps_of c.stage) → after_seat.exchanges ≡ raised seat.exchanges (exchanges_of c.stage)
           → own_seen going_on ≡ own_seen before + publishes_of b c.stage → TakesTurn b published before going_on Step c.stage
-      TakesTurn-turned published made counted exchanged publishes = record {
-        leaves = IsStillCalling-turned;
+      TakesTurn-turned published made follows counted exchanged publishes = record {
+        leaves = IsStillCalling-turned follows;
+        ends = λ none. absurd (cc none);
         step = made;
         kind = sym one_step;
         steps = counted ∙ ap (raised seat.steps) one_step;
@@ -340,11 +341,12 @@ module _ (b : BookTerms) (seat : SeatTerms) (rest : Rest) (calls : List Call) (r
       calls_left-answered : calls_left_of before ≡ calls_left_of answered + 1
       calls_left-answered = omega (arith, count, next.more)
 
-      pub TakesTurn-answered : (published : List Publication) → MakesCallStep b published c.stage seat after_seat after_rest.totals
+      pub TakesTurn-answered : (published : List Publication) → MakesCallStep b published c.stage seat after_seat after_rest.totals → EndsCall b c.stage
           → after_seat.steps ≡ raised seat.steps (steps_of c.stage) → after_seat.exchanges ≡ raised seat.exchanges (exchanges_of c.stage)
           → own_seen answered ≡ own_seen before + publishes_of b c.stage → TakesTurn b published before answered (Answer r) c.stage
-      TakesTurn-answered published stepped counted exchanged publishes = record {
+      TakesTurn-answered published stepped ends counted exchanged publishes = record {
         leaves = IsAnswered-turned;
+        ends = λ none. ends;
         step = stepped;
         kind = sym steps_of-answered;
         steps = counted ∙ ap (raised seat.steps) steps_of-answered;

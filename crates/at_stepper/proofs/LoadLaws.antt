@@ -107,7 +107,7 @@ module _ (q : ℕ) where
   module _ (b : BookTerms) (seen : List Publication) (before after : SeatTerms) (now : TotalSums) where
     loads-MakesLoad : (next : NextLoad) → MakesLoad b seen next before after → LoadsOrLeaves q (length_in next) before.knows after.knows
     loads-MakesLoad (NextLoad.length_of p) (told, more) = loads-LoadsLength b before.knows after.knows p told
-    loads-MakesLoad (NextLoad.view_word p i k) (same, may) = inr ((λ some. cc some), ap (λ (s : SeatTerms). loads_of (own_part s.knows) q) same)
+    loads-MakesLoad (NextLoad.view_word l) (same, may) = inr ((λ some. cc some), ap (λ (s : SeatTerms). loads_of (own_part s.knows) q) same)
     loads-MakesLoad NextLoad.nothing none = absurd none
 
     loads-MakesLookLoad : (stage : LookStage) → MakesLookLoad b seen stage before after now

@@ -34,7 +34,7 @@ pub use Rattle.at_board.specs.declared.step.BoardStep.{BoardStep}
 pub use Rattle.at_board.specs.declared.words.TheConstants.{REQUEST_WORDS}
 pub use Rattle.at_calling.proofs.Laws.Published.{published-MakesCallStep}
 pub use Rattle.at_calling.proofs.Laws.Steps.{MakesOnly-MakesCallStep}
-pub use Rattle.at_calling.specs.Calling.{CallingTerms, IsCallWithin, IsWay, MakesCallStep, StartsFrom, call_turns_left, exchanges_made, exchanges_of, first_step, length_loaded, next_step, pass_before, publishes_of, refusal_in, steps_made, steps_of}
+pub use Rattle.at_calling.specs.Calling.{CallingTerms, EndsCall, FollowsCall, IsCallWithin, IsWay, MakesCallStep, StartsFrom, call_turns_left, exchanges_made, exchanges_of, first_step, length_loaded, next_step, pass_before, publishes_of, refusal_in, steps_made, steps_of}
 pub use Rattle.at_calling.specs.PayingAlone.{MakesPayStep, pay_length_at, pay_publishes_at}
 pub use Rattle.at_calling.specs.PayingShared.{MakesShareStep, share_length_at, share_publishes_at}
 pub use Rattle.at_calling.specs.Starting.{MakesStartStep, start_length_at}

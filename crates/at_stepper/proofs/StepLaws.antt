@@ -62,7 +62,7 @@ publishes_of-loaded b (CallStage.PayShared pay) p loads = share_publishes_at-loa
 module _ (b : BookTerms) (seen : List Publication) (before after : SeatTerms) (now : TotalSums) (p : ℕ) where
   length_in-told : (next : NextLoad) → length_in next ≡ Some p → MakesLoad b seen next before after → IsPrefix seen after.knows.seen
   length_in-told (NextLoad.length_of q) loads made = made.1
-  length_in-told (NextLoad.view_word q i k) loads made = absurd (cc loads)
+  length_in-told (NextLoad.view_word l) loads made = absurd (cc loads)
   length_in-told NextLoad.nothing loads made = absurd made
 
   length_at-told : (stage : LookStage) → length_at stage ≡ Some p → MakesLookLoad b seen stage before after now → IsPrefix seen after.knows.seen
@@ -107,7 +107,7 @@ IsSameProcess before after = after.first ≡ before.first
 module _ (b : BookTerms) (seen : List Publication) (before after : SeatTerms) (now : TotalSums) where
   process-MakesLoad : (next : NextLoad) → MakesLoad b seen next before after → IsSameProcess before.knows after.knows
   process-MakesLoad (NextLoad.length_of p) made = ap (λ (v : Knowledge). v.first) made.0.same
-  process-MakesLoad (NextLoad.view_word p i k) made = ap (λ (s : SeatTerms). s.knows.first) made.0
+  process-MakesLoad (NextLoad.view_word l) made = ap (λ (s : SeatTerms). s.knows.first) made.0
   process-MakesLoad NextLoad.nothing made = absurd made
 
   process-MakesLookLoad : (stage : LookStage) → MakesLookLoad b seen stage before after now → IsSameProcess before.knows after.knows

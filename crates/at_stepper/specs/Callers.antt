@@ -1,6 +1,6 @@
 -- Callers: processes that make their calls one after another, a step a turn.
 use Rattle.std.specs.Prelude.{◌≡◌, ◌≢◌, ℕ, ◌+◌, ◌-◌, ◌*◌, ◌^◌, ◌<◌, ◌≤◌, ◌++◌, Bool, true, false, List, [], ◌∷◌, All, Option, Some, None, drop, length, slice_index_or, sum_by, if◌then◌else◌, refl}
-use Rattle.at_stepper.specs.Prelude.{BookTerms, IsCallOn, Call, Reply, Balance, Done, Full, NotOwner, Short, places_max, IsHistory, IsPrefix, count_of, Publication, raised, SeatTerms, MakesOnly, BoardStep, RECORD_WORDS, TotalSums, look_at, At, Receipt, three_processes, PassTerms, Stands, seat_of, sent_by, IsCallWithin, IsWay, MakesCallStep, StartsFrom, exchanges_made, exchanges_of, first_step, next_step, publishes_of, refusal_in, steps_made, steps_of, CallMade, StaysWithin, call_steps, CallStage}
+use Rattle.at_stepper.specs.Prelude.{BookTerms, IsCallOn, Call, Reply, Balance, Done, Full, NotOwner, Short, places_max, IsHistory, IsPrefix, count_of, Publication, raised, SeatTerms, MakesOnly, BoardStep, RECORD_WORDS, TotalSums, look_at, At, Receipt, three_processes, PassTerms, Stands, seat_of, sent_by, EndsCall, FollowsCall, IsCallWithin, IsWay, MakesCallStep, StartsFrom, exchanges_made, exchanges_of, first_step, next_step, publishes_of, refusal_in, steps_made, steps_of, CallMade, StaysWithin, call_steps, CallStage}
 use Rattle.at_stepper.specs.declared.turned.Turned.{Turned}
 use Rattle.at_stepper.specs.declared.turned.Turned.TheVariants.{Answer, Step}
 
@@ -99,7 +99,7 @@ pub record IsReadyToTurn (b : BookTerms) (published : List Publication) (before 
 pub record IsStillCalling (b : BookTerms) (before after : CallerTerms) (stage : CallStage) : Type 0 where
   pub pass : after.pass ≡ before.pass
   pub receipts : after.receipts ≡ before.receipts
-  pub going_on : (next : CallStage) × (after.stage ≡ Some next)
+  pub going_on : (next : CallStage) × (after.stage ≡ Some next) × FollowsCall b stage next
   pub turns : steps_so_far after.stage ≡ steps_made stage + 1
   pub exchanges : exchanges_so_far after.stage ≡ exchanges_made stage + exchanges_of stage
   pub begins : IsPrefix before.pass.knows.seen after.seat.knows.seen
@@ -152,6 +152,7 @@ pub record IsTurned (b : BookTerms) (published : List Publication) (turned : Tur
   pub stage : CallStage
   pub is_ready : IsReadyToTurn b published before ready stage
   pub leaves : LeavesCaller b ready after stage turned
+  pub ends : after.stage ≡ None → EndsCall b stage
   pub step : MakesCallStep b published stage ready.seat after.seat after.totals
   pub made : MakesOnly b ready.seat.knows after.seat.knows (steps_in turned) (next_step b stage)
   pub kind : steps_in turned ≡ steps_of stage

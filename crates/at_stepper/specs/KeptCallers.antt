@@ -1,6 +1,6 @@
 -- What the type of a caller keeps of its fields, which no other sees.
 use Rattle.std.specs.Prelude.{◌≡◌, ℕ, ◌+◌, ◌<◌, ◌≤◌, List, Option, Some, None, length, take}
-use Rattle.at_stepper.specs.Prelude.{BookTerms, Call, SeatTerms, IsHistory, IsPrefix, Publication, calls_of, Receipt, IsOfOnePass, pass_of, PassTerms, Stands, seat_of, raised, Rest, CallingTerms, IsWay, MakesCallStep, StartsFrom, call_turns_left, exchanges_made, exchanges_of, first_step, next_step, pass_before, publishes_of, refusal_in, steps_made, steps_of, CallStage}
+use Rattle.at_stepper.specs.Prelude.{BookTerms, Call, SeatTerms, IsHistory, IsPrefix, Publication, calls_of, Receipt, IsOfOnePass, pass_of, PassTerms, Stands, seat_of, raised, Rest, CallingTerms, EndsCall, IsWay, MakesCallStep, StartsFrom, call_turns_left, exchanges_made, exchanges_of, first_step, next_step, pass_before, publishes_of, refusal_in, steps_made, steps_of, CallStage}
 use Rattle.at_stepper.specs.Callers.{CallerTerms, IsFile, LeavesCaller, answers_in, caller_turns_left, calls_left_of, next_call, own_seen, steps_in}
 use Rattle.at_stepper.specs.declared.turned.Turned.{Turned}
 
@@ -68,6 +68,7 @@ pub record StartsNext (b : BookTerms) (before after : CallerTerms) : Type 0 wher
 -- just the next step was made of the call in the making, which is then answered or goes on
 pub record TakesTurn (b : BookTerms) (published : List Publication) (before after : CallerTerms) (turned : Turned) (stage : CallStage) : Type 0 where
   pub leaves : LeavesCaller b before after stage turned
+  pub ends : after.stage ≡ None → EndsCall b stage
   pub step : MakesCallStep b published stage before.seat after.seat after.totals
   pub kind : steps_in turned ≡ steps_of stage
   pub steps : after.seat.steps ≡ raised before.seat.steps (steps_in turned)

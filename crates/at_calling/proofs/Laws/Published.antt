@@ -35,7 +35,7 @@ published-MakesLoad b seen (NextLoad.length_of p) before after (told, more) =
     let v : Knowledge = record before.knows { seen = after.knows.seen } in
     let last : ℕ = (loads_of (own_part after.knows) p).last in
     omega (arith, ap (λ (k : Knowledge). (own_part k).published) told.same, published-with_part v (with_load (own_part before.knows) p last) refl)
-published-MakesLoad b seen (NextLoad.view_word p i k) before after (same, may) = omega (arith, ap (λ (s : SeatTerms). (own_part s.knows).published) same)
+published-MakesLoad b seen (NextLoad.view_word l) before after (same, may) = omega (arith, ap (λ (s : SeatTerms). (own_part s.knows).published) same)
 published-MakesLoad b seen NextLoad.nothing before after none = absurd none
 
 published-MakesLookLoad : (b : BookTerms) (seen : List Publication) (stage : LookStage) (before after : SeatTerms) (now : TotalSums) → MakesLookLoad b seen stage before after now

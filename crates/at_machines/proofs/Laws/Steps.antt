@@ -6,7 +6,7 @@ use Rattle.at_machines.proofs.Prelude.{cases_lt, eq-eqb, ne_eqb, word_of, BookTe
 MakesOnly-MakesLoad : (b : BookTerms) (seen : List Publication) (next : NextLoad) (before after : SeatTerms) → MakesLoad b seen next before after
     → MakesOnly b before.knows after.knows 1 (step_in next)
 MakesOnly-MakesLoad b seen (NextLoad.length_of p) before after (told, more) = (refl, ((loads_of (own_part after.knows) p).last, told))
-MakesOnly-MakesLoad b seen (NextLoad.view_word p i k) before after (same, may) = (refl, (may, ap (λ (s : SeatTerms). s.knows) same))
+MakesOnly-MakesLoad b seen (NextLoad.view_word l) before after (same, may) = (refl, (may, ap (λ (s : SeatTerms). s.knows) same))
 MakesOnly-MakesLoad b seen NextLoad.nothing before after none = absurd none
 
 -- of a look

@@ -53,7 +53,8 @@ turned c mark mark_is now totals_are rest rest_is answer ends leaves calls =
     let told = c.turn-paid.ensures in
     subst (λ (s : CallingTerms). TakesCallTurn b c.args.overview.now.seen t (calling_next s next mark rest) c.args.seat.now after now answer) (sym c.self.view_is)
     (TakesCallTurn-stages b c.args.overview.now.seen t c.args.seat.now after mark mark_is now rest rest_is (PayAlone p) next (stage_is c) answer told.turns
-    (subst (λ (s : TotalSums). MakesCallStep b c.args.overview.now.seen (PayAlone p) c.args.seat.now after s) (sym totals_are) told.step) told.left
+    (subst (λ (s : TotalSums). MakesCallStep b c.args.overview.now.seen (PayAlone p) c.args.seat.now after s) (sym totals_are) told.step)
+    (c.turn-paid.new.self, refl, told.follows) told.left
     (few-alone c.args.board.now t (so first) c.args.seat.now c.requires.mark c.requires.board after told.board p (stage_is c) (left c)
     now.totals (turns_made c.turn-paid.new.self) told.so_far (omega (arith, told.counting, ap (λ (s : TotalSums). sum s.upto) totals_are)) told.asks)
     ends (begins c) (runs c) refl leaves calls (steps c) (exchanges c))

@@ -29,7 +29,7 @@ returns c = λ seen.
     c.of.result.value) seat seat now (Some r)) (sym c.become_next.ensures)
     (subst (λ (s : CallingTerms). TakesCallTurn b seen t (calling_next s Refused s.mark c.of.result.value) seat seat now (Some r)) (sym c.self.view_is)
     (TakesCallTurn-stages b seen t seat seat t.mark (sym c.requires.mark) now c.of.result.value c.of.ensures (Refuse c.args.reply) Refused c.requires.stage (Some r)
-    refl refl (omega arith) (IsCallWithin-none b (pass_before t) t.call seat.knows now.totals.upto 0
+    refl refl refl (omega arith) (IsCallWithin-none b (pass_before t) t.call seat.knows now.totals.upto 0
     (undecided-refused c.args.board.now t so seat c.requires.mark c.requires.board c.args.reply c.requires.stage) (omega arith) (omega arith)) (λ some. refl, λ none. refl)
     (begins-refused c.args.board.now t so seat c.requires.mark c.requires.board c.args.reply c.requires.stage)
     (subst (λ (k : BookTerms). AreRuns k seat.knows.seen) c.requires.board.book c.known.ensures.seat.history.runs) refl leaves

@@ -18,6 +18,7 @@ returns-in-Refuse c =
       rest = turned.rest_is;
       turns = turned.turns;
       step = turned.step;
+      follows = turned.follows;
       left = turned.left;
       so_far = turned.so_far;
       ends = turned.ends;

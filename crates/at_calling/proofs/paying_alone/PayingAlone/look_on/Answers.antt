@@ -1,5 +1,5 @@
 use Rattle.std.proofs.Common.{◌≡◌, ℕ, ◌<◌, ◌≤◌, ◌↔◌, List, IfSome, IsSome, Option, None, Some, length, false, true, refl, sym, ap, subst, ◌∙◌, arith, inl, inr}
-use Rattle.at_calling.proofs.Prelude.{cases_lt, sum, BookTerms, amount_of, Reply, Short, balance_after, prefix_of, Entry, SeatTerms, Knowledge, record_width, CountsAccount, CountsCut, StaysCounted, TotalSums, MayAppend, At, Cut, CountsAccount-HasLooked, CountsCut-HasLooked, MayAppend-IsSnapshot, HasLooked, IsLookingFirst, IsPayStageSo, IsPayingAloneSo, TakesPayTurn, AnswersAlone, PayingAloneTerms, append_steps, pay_turns_left, turns_in, LeavesTotals, PayStage, Append, Look, AppendingTerms, starting_appending, IsWithin}
+use Rattle.at_calling.proofs.Prelude.{cases_lt, sum, BookTerms, amount_of, Reply, Short, balance_after, prefix_of, Entry, SeatTerms, Knowledge, record_width, CountsAccount, CountsCut, StaysCounted, TotalSums, MayAppend, At, Cut, CountsAccount-HasLooked, CountsCut-HasLooked, MayAppend-IsSnapshot, HasLooked, IsLookingFirst, IsPayStageSo, IsPayingAloneSo, TakesPayTurn, AnswersAlone, FollowsPay, PayingAloneTerms, append_steps, pay_turns_left, turns_in, LeavesTotals, PayStage, Append, Look, AppendingTerms, starting_appending, IsWithin}
 use Rattle.at_calling.proofs.PayingAloneLaws.{AnswersAlone-short, IsPayingAloneSo-append, next_append, paying_next}
 use Rattle.at_calling.proofs.PayingAloneTurns.{TakesPayTurn-look}
 use Rattle.at_calling.proofs.ReadingLaws.{LeavesTotals-HasLooked}
@@ -26,9 +26,10 @@ turned : (c : After-turn-looked) (turns : ℕ) → turns ≡ c.turn-looked.new.s
     → IfSome answer (λ r. StaysCounted c.turn-looked.new.totals c.args.board.now.book c.turn-looked.new.seat.knows.seen)
     → IfSome answer (λ r. LeavesTotals c.args.board.now.book (the_view c.self.inside).start c.turn-looked.new.seat.knows (the_view c.self.inside).was
     c.turn-looked.new.totals (append_steps (record_width c.args.board.now.book) r.0) turns)
+    → FollowsPay c.args.board.now.book.processes (Look c.in-Look.looking) stage
     → TakesPayTurn c.args.board.now.book c.args.overview.now.seen c.args.self.now (paying_next (the_view c.self.inside) stage turns mark.knows totals) c.args.seat.now
     c.turn-looked.new.seat c.turn-looked.new.totals answer
-turned c turns turns_are mark mark_is totals totals_are stage answer same left ends pays counted leaves =
+turned c turns turns_are mark mark_is totals totals_are stage answer same left ends pays counted leaves follows =
     let b : BookTerms = c.args.board.now.book in
     let t : PayingAloneTerms = the_view c.self.inside in
     let after : SeatTerms = c.turn-looked.new.seat in
@@ -38,7 +39,7 @@ turned c turns turns_are mark mark_is totals totals_are stage answer same left e
     (TakesPayTurn-look b c.args.overview.now.seen t c.self.invariant (book (goal.at.After-turn-looked c).After-self) c.args.seat.now after now mark.knows
     (ap (λ (m : SeatTerms). m.knows) mark_is) totals totals_are c.in-Look.looking c.in-Look.is turns (turns_are ∙ told.turns) told.load told.loads
     (subst (IsWithin b.processes c.in-Look.looking.was (length after.knows.seen)) (sym turns_are) told.so_far)
-    (omega (arith, told.counting, turns_are)) stage answer same left ends pays counted leaves)
+    (omega (arith, told.counting, turns_are)) stage answer same left ends pays counted leaves follows)
 
 pub returns-in_err-cut-clause-turned : goal.returns-in_err-cut-clause-turned
 returns-in_err-cut-clause-turned c =
@@ -52,7 +53,7 @@ returns-in_err-cut-clause-turned c =
     (sym c.turns-self-inside.ensures)
     (omega (arith, c.turn-looked.ensures.left))
     (λ some. let wrong : false ≡ true = some in absurd (cc wrong), λ none. absurd (omega (arith, none)))
-    tt tt tt)
+    tt tt tt c.turn-looked.ensures.follows)
 
 -- the look has ended
 looked : (c : After-known)
@@ -132,7 +133,8 @@ returns-then-not-covers-clause-turned c =
     (subst (λ (k : BookTerms). AnswersAlone k t.start w t.from t.targets r) same here)
     looked_on.counted
     (LeavesTotals-HasLooked b t.start w t.was now cut looked_on c.turns-self-inside.result (omega (arith, so.kept.one_part))
-    (omega (arith, few, c.turns-self-inside.ensures))))
+    (omega (arith, few, c.turns-self-inside.ensures)))
+    (c.turn-looked.new.self.stage, c.turn-looked.ensures.follows, c.in_ok-cut.ensures.ends.0 refl))
 
 pub start-requires : goal.start-requires
 start-requires c =
@@ -190,4 +192,5 @@ returns-clause-turned c =
     (paying_next t k c.turns-self-inside.result c.of.result.value.knows c.of-2.result.value) c.args.seat.now c.turn-looked.new.seat c.turn-looked.new.totals None)
     (sym (c.become_next-2.ensures ∙ ap (λ (a : AppendingTerms). Append a) (appends start)))
     (turned at c.turns-self-inside.result c.turns-self-inside.ensures c.of.result.value c.of.ensures c.of-2.result.value c.of-2.ensures next None (omega arith)
-    (omega (arith, (looks at).left)) (λ some. let wrong : false ≡ true = some in absurd (cc wrong), λ none. absurd (omega (arith, none))) tt tt tt)
+    (omega (arith, (looks at).left)) (λ some. let wrong : false ≡ true = some in absurd (cc wrong), λ none. absurd (omega (arith, none))) tt tt tt
+    ((c.turn-looked.new.self.stage, c.turn-looked.ensures.follows, c.in_ok-cut.ensures.ends.0 refl), refl))

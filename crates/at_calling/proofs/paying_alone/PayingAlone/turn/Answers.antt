@@ -15,6 +15,7 @@ returns-in-Append c =
       totals = turned.totals_are;
       turns = turned.turns;
       step = turned.step;
+      follows = turned.follows;
       left = turned.left;
       ends = turned.ends;
       so_far = turned.so_far;

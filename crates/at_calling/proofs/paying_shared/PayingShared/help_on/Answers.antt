@@ -1,5 +1,5 @@
-use Rattle.std.proofs.Common.{None, Some, ◌≡◌, ℕ, ◌+◌, ◌-◌, ◌*◌, ◌<◌, ◌≤◌, refl, sym, ap, subst, ◌∙◌, arith}
-use Rattle.at_calling.proofs.Prelude.{slots_of, BookTerms, account_of, places_max, IsPrefix-trans, IsPrefix, SettlesInTurns, IsHistory, SeatTerms, Knowledge, HasCounted, TotalSums, Reply, At, HelpingTerms, decides_made, decides_on, round_steps, HelpTurn, More, Settled, IsWithinOneMore, TakesShareTurn, HasCountedSo, IsHelpingThen, IsPayingSharedSo, IsShareStageSo, AnswersInRound, DecidesFew, MakesShareStep, PayingSharedTerms, settling_steps, share_exchanges_at, share_exchanges_made, share_steps, share_turns_left, share_turns_most, unless_settled, unless_starting, LeavesTotals, counted_so_far, newly_seen, IsHelpOf, IsHelpWithin, LeavesSeat, TurningTerms, WaitsOn, help_steps, help_turns_left, help_turns_made, ShareStage, Ended, Help}
+use Rattle.std.proofs.Common.{None, Some, ◌≡◌, ℕ, ◌+◌, ◌-◌, ◌*◌, ◌<◌, ◌≤◌, inl, inr, refl, sym, ap, subst, ◌∙◌, arith}
+use Rattle.at_calling.proofs.Prelude.{slots_of, BookTerms, account_of, places_max, IsPrefix-trans, IsPrefix, SettlesInTurns, IsHistory, SeatTerms, Knowledge, HasCounted, TotalSums, Reply, At, HelpingTerms, decides_made, decides_on, round_steps, HelpTurn, More, Settled, IsWithinOneMore, TakesShareTurn, HasCountedSo, IsHelpingThen, IsPayingSharedSo, IsShareStageSo, AnswersInRound, DecidesFew, FollowsShare, MakesShareStep, PayingSharedTerms, settling_steps, share_exchanges_at, share_exchanges_made, share_steps, share_turns_left, share_turns_most, unless_settled, unless_starting, LeavesTotals, counted_so_far, newly_seen, first_load, IsHelpOf, IsHelpWithin, LeavesSeat, TurningTerms, WaitsOn, help_step_at, help_steps, help_turns_left, help_turns_made, ShareStage, Ended, Help}
 use Rattle.at_calling.proofs.PayingSharedLaws.{SettlesInTurns-settled, DecidesFew-settled, HasCountedSo-more, HasHelped-more, IsHelpingThen-begun, LeavesTotals-settled, AnswersInRound-settled, counting-so_far, few-so_far, few_exchanges-so_far, share_turns_most-le}
 use Rattle.at_calling.proofs.PayingSharedTurns.{share_next, TakesShareTurn-on, TakesShareTurn-settled}
 use Rattle.at_calling.specs.contracts.paying_shared.PayingShared.{the_view}
@@ -240,10 +240,10 @@ step c =
 
 -- what the turn leaves where helping goes on
 goes_on : (c : After-known) (mark : SeatTerms) → mark ≡ c.turn-helped.new.seat → (totals : TotalSums) → totals ≡ c.turn-helped.new.totals
-    → (u : TurningTerms)
+    → (u : TurningTerms) → FollowsShare c.args.board.now.book (Help c.in-Help.helping c.in-Help.turning) (Help c.in-Help.helping u)
     → TakesShareTurn c.args.board.now.book c.args.overview.now.seen c.args.self.now (share_next (the_view c.self.inside) (Help c.in-Help.helping u) mark.knows totals)
     c.args.seat.now c.turn-helped.new.seat c.turn-helped.new.totals None
-goes_on c mark mark_is totals totals_are u =
+goes_on c mark mark_is totals totals_are u follows =
     let at = (goal.at.After-known c).After-turn-helped in
     let b : BookTerms = c.args.board.now.book in
     let t : PayingSharedTerms = the_view c.self.inside in
@@ -255,7 +255,8 @@ goes_on c mark mark_is totals totals_are u =
     (TakesShareTurn-on b c.args.overview.now.seen t before after now mark.knows (ap (λ (m : SeatTerms). m.knows) mark_is) totals totals_are (some at) (step at) (within at)
     (counting at) (begins at) stage (λ n. refl) (within_all c) (ap (λ (m : SeatTerms). decides_made t.account t.start m.knows) mark_is ∙ made at)
     (ap (λ (m : SeatTerms). decides_made t.account t.start m.knows) mark_is)
-    (omega (arith, few_exchanges at, ap (λ (m : SeatTerms). decides_made t.account t.start m.knows) mark_is)))
+    (omega (arith, few_exchanges at, ap (λ (m : SeatTerms). decides_made t.account t.start m.knows) mark_is))
+    (subst (λ (k : ShareStage). FollowsShare b k stage) (sym c.in-Help.is) follows))
 
 pub returns-in_err-answer-clause-turned : goal.returns-in_err-answer-clause-turned
 returns-in_err-answer-clause-turned c =
@@ -263,12 +264,16 @@ returns-in_err-answer-clause-turned c =
     (share_next (the_view c.self.inside) (Help c.in-Help.helping c.turn-helped.new.self) c.of.result.value.knows c.of-2.result.value) c.args.seat.now
     c.turn-helped.new.seat c.turn-helped.new.totals) (sym c.from_residual.ensures)
     (goes_on (goal.at.returns-in_err-answer-clause-turned c).After-known c.of.result.value c.of.ensures c.of-2.result.value c.of-2.ensures
-    c.turn-helped.new.self)
+    c.turn-helped.new.self (inl c.turn-helped.ensures.follows))
 
 pub returns-clause-turned : goal.returns-clause-turned
 returns-clause-turned c =
     goes_on (goal.at.returns-clause-turned c).After-known c.of.result.value c.of.ensures c.of-2.result.value c.of-2.ensures
     c.become_next-2.new.stage
+    (inr (
+      (c.turn-helped.new.self.stage, c.turn-helped.ensures.follows, c.in_ok-answer.ensures.ends.0 refl),
+      subst (λ (v : TurningTerms). help_step_at c.args.board.now.book v.stage ≡ first_load) (sym c.become_next-2.ensures) c.start.ensures.first,
+    ))
 
 pub returns-in-Settled-clause-turned : goal.returns-in-Settled-clause-turned
 returns-in-Settled-clause-turned c =
@@ -307,4 +312,5 @@ returns-in-Settled-clause-turned c =
     (subst (λ (k : BookTerms). SettlesInTurns k v w t.account t.targets) (sym same) settles)
     (subst (λ (k : BookTerms). DecidesFew k v w t.account) (sym same) few) told.counted
     (subst (λ (k : BookTerms). LeavesTotals k v w t.was now (settling_steps k t.account) (t.turns + 1)) (sym same) leaves)
-    (ap (λ (m : SeatTerms). decides_made t.account t.start m.knows) c.of.ensures ∙ made at)))
+    (ap (λ (m : SeatTerms). decides_made t.account t.start m.knows) c.of.ensures ∙ made at)
+    (subst (λ (k : ShareStage). FollowsShare b k Ended) (sym c.in-Help.is) (c.turn-helped.new.self.stage, c.turn-helped.ensures.follows, told.ends.0 refl))))

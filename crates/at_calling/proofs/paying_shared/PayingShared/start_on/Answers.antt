@@ -1,5 +1,5 @@
 use Rattle.std.proofs.Common.{None, ◌≡◌, ℕ, ◌+◌, ◌*◌, ◌<◌, ◌≤◌, List, refl, sym, ap, subst, ◌∙◌, arith}
-use Rattle.at_calling.proofs.Prelude.{slots_of, BookTerms, account_of, TargetPair, IsPrefix-refl, IsPrefix, snapshot_steps, RECORD_WORDS, IsHistory, SeatTerms, Knowledge, HasCounted, TotalSums, HelpingTerms, decides_made, decides_on, asking_steps, IsWithinOneMore, TakesShareTurn, HasCountedSo, IsPayingSharedSo, IsShareStageSo, IsStartingFirst, MakesShareStep, PayingSharedTerms, share_exchanges_at, share_steps, share_turns_left, share_turns_most, unless_settled, unless_starting, LeavesTotals, counted_so_far, newly_seen, IsStartOf, StartingTerms, start_turns_made, TurningTerms, help_turns_left, ShareStage, Help, Start}
+use Rattle.at_calling.proofs.Prelude.{slots_of, BookTerms, account_of, TargetPair, IsPrefix-refl, IsPrefix, snapshot_steps, RECORD_WORDS, IsHistory, SeatTerms, Knowledge, HasCounted, TotalSums, HelpingTerms, decides_made, decides_on, asking_steps, IsWithinOneMore, TakesShareTurn, HasCountedSo, IsPayingSharedSo, IsShareStageSo, IsStartingFirst, FollowsShare, MakesShareStep, PayingSharedTerms, share_exchanges_at, share_steps, share_turns_left, share_turns_most, unless_settled, unless_starting, LeavesTotals, counted_so_far, newly_seen, IsStartOf, StartingTerms, start_turns_made, TurningTerms, help_turns_left, ShareStage, Help, Start}
 use Rattle.at_calling.proofs.PayingSharedLaws.{decides_made-IsStartOf, HasCountedSo-start, HasHelped-start, IsHelpingThen-begun}
 use Rattle.at_calling.proofs.PayingSharedTurns.{share_next, TakesShareTurn-on}
 use Rattle.at_calling.specs.contracts.paying_shared.PayingShared.{the_view}
@@ -140,9 +140,10 @@ none_decided c =
 turned : (c : After-known) (mark : SeatTerms) → mark ≡ c.turn-started.new.seat → (totals : TotalSums) → totals ≡ c.turn-started.new.totals
     → (stage : ShareStage) → ((n : ℕ) → unless_settled n stage ≡ n)
     → unless_starting (decides_made c.self.inside.account c.self.inside.start.value.knows mark.knows) stage ≡ 0
+    → FollowsShare c.args.board.now.book (Start c.in-Start.starting) stage
     → TakesShareTurn c.args.board.now.book c.args.overview.now.seen c.args.self.now (share_next (the_view c.self.inside) stage mark.knows totals) c.args.seat.now
     c.turn-started.new.seat c.turn-started.new.totals None
-turned c mark mark_is totals totals_are stage goes decides =
+turned c mark mark_is totals totals_are stage goes decides follows =
     let at = (goal.at.After-known c).After-turn-started in
     let b : BookTerms = c.args.board.now.book in
     let t : PayingSharedTerms = the_view c.self.inside in
@@ -157,7 +158,8 @@ turned c mark mark_is totals totals_are stage goes decides =
     (subst (λ (v : Knowledge). IsPrefix v.seen after.knows.seen) (starts at).start_is c.turn-started.ensures.begins) stage goes
     (omega (arith, few, c.known.ensures.seat.history.few))
     (omega (arith, decides, ap (unless_starting (decides_made t.account t.start t.mark)) c.in-Start.is, ap share_exchanges_at c.in-Start.is))
-    (omega (arith, decides, none_decided at)) (omega (arith, decides)))
+    (omega (arith, decides, none_decided at)) (omega (arith, decides))
+    (subst (λ (k : ShareStage). FollowsShare b k stage) (sym c.in-Start.is) follows))
 
 pub returns-in_err-helping-clause-turned : goal.returns-in_err-helping-clause-turned
 returns-in_err-helping-clause-turned c =
@@ -165,7 +167,7 @@ returns-in_err-helping-clause-turned c =
     let next : ShareStage = Start c.turn-started.new.self in
     subst (TakesShareTurn c.args.board.now.book c.args.overview.now.seen c.args.self.now (share_next (the_view c.self.inside) next c.of.result.value.knows c.of-2.result.value)
     c.args.seat.now c.turn-started.new.seat c.turn-started.new.totals) (sym c.from_residual.ensures)
-    (turned known c.of.result.value c.of.ensures c.of-2.result.value c.of-2.ensures next (λ n. refl) refl)
+    (turned known c.of.result.value c.of.ensures c.of-2.result.value c.of-2.ensures next (λ n. refl) refl c.turn-started.ensures.follows)
 
 pub returns-clause-turned : goal.returns-clause-turned
 returns-clause-turned c =
@@ -178,4 +180,7 @@ returns-clause-turned c =
     c.args.seat.now c.turn-started.new.seat c.turn-started.new.totals None) (sym c.become_next.ensures)
     (turned known c.of.result.value c.of.ensures c.of-2.result.value c.of-2.ensures (Help h c.start-turning.result) (λ n. refl)
     (ap (λ (m : SeatTerms). decides_made t.account t.start m.knows) c.of.ensures
-    ∙ decides_made-IsStartOf t.start.book t.start w t.account t.targets h (waits start)))
+    ∙ decides_made-IsStartOf t.start.book t.start w t.account t.targets h (waits start)) (
+      (c.turn-started.new.self, c.turn-started.ensures.account, c.turn-started.ensures.follows, c.in_ok-helping.ensures.ends.0 refl),
+      c.start-turning.ensures.first,
+    ))

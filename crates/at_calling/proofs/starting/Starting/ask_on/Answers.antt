@@ -1,5 +1,5 @@
 use Rattle.std.proofs.Common.{None, ◌≡◌, ℕ, ◌+◌, ◌<◌, ◌≤◌, ◌≢◌, List, IsSome, Some, false, true, refl, sym, ap, subst, ◌∙◌, arith}
-use Rattle.at_calling.proofs.Prelude.{slot_in, slots_of, BookTerms, HasSlot, account_of, IsPrefix, Publication, SeatTerms, Announces, Knowledge, REQUEST_WORDS, HasAsked, opened, OpenRequest, same_some, AskingTerms, asking_after, request_asked, CollectingRowsTerms, starting_rows, IsAskingThen, IsStartStageSo, IsStartingSo, TakesStartTurn, HasSameCounts, MakesStartStep, StartingTerms, asking_steps_of, start_turns_after, start_turns_in, the_view, StartStage, Ask, Collect}
+use Rattle.at_calling.proofs.Prelude.{slot_in, slots_of, BookTerms, HasSlot, account_of, IsPrefix, Publication, SeatTerms, Announces, Knowledge, REQUEST_WORDS, HasAsked, opened, OpenRequest, same_some, AskingTerms, asking_after, request_asked, CollectingRowsTerms, starting_rows, IsAskingThen, IsStartStageSo, IsStartingSo, TakesStartTurn, FollowsStart, HasSameCounts, MakesStartStep, StartingTerms, asking_steps_of, start_turns_after, start_turns_in, the_view, StartStage, Ask, Collect}
 use Rattle.at_calling.proofs.StartingLaws.{HasSlot-IsAskingThen, HasSlot-IsStartingSo, IsPrefix-word, IsStartingSo-collect, IsStartingSo-word, slot_in-Announces, slot_of_start, start_after, HasSameCounts-announced, HasSameCounts-word}
 use Rattle.at_calling.proofs.StartingSteps.{TakesStartTurn-ask}
 use Rattle.at_calling.proofs.starting.Starting.ask_on.Goals.{After-become_next, After-opened, After-self, After-slot_of, After-turn-announced}
@@ -150,15 +150,16 @@ turned : (c : After-turn-announced) (seen : List Publication) (mark : SeatTerms)
     → 0 < start_turns_after (asking_steps_of c.args.board.now.book (the_view c.self.inside)) stage
     → start_turns_after (asking_steps_of c.args.board.now.book (the_view c.self.inside)) stage
     < start_turns_after (asking_steps_of c.args.board.now.book (the_view c.self.inside)) (Ask c.in-Ask.asking)
+    → FollowsStart c.args.board.now.book (Ask c.in-Ask.asking) stage
     → TakesStartTurn c.args.board.now.book seen c.args.self.now (start_after (the_view c.self.inside) stage mark.knows) c.args.seat.now
     c.turn-announced.new.seat c.args.self.now.totals None
-turned c seen mark mark_is same_counts more stage same step some left =
+turned c seen mark mark_is same_counts more stage same step some left follows =
     let b : BookTerms = c.args.board.now.book in
     let t : StartingTerms = the_view c.self.inside in
     let after : SeatTerms = c.turn-announced.new.seat in
     subst (λ (s : StartingTerms). TakesStartTurn b seen s (start_after t stage mark.knows) c.args.seat.now after s.totals None) c.self.view_is
     (TakesStartTurn-ask b seen t c.self.invariant (sym (book (goal.at.After-turn-announced c).After-self)) c.args.seat.now after mark.knows
-    (ap (λ (m : SeatTerms). m.knows) mark_is) c.in-Ask.asking c.in-Ask.is same_counts more stage same step some left)
+    (ap (λ (m : SeatTerms). m.knows) mark_is) c.in-Ask.asking c.in-Ask.is same_counts more stage same step some left follows)
 
 pub returns-in_err-number-clause-turned : goal.returns-in_err-number-clause-turned
 returns-in_err-number-clause-turned c = λ seen.
@@ -175,7 +176,7 @@ returns-in_err-number-clause-turned c = λ seen.
     (turned at seen c.of.result.value c.of.ensures (HasSameCounts-word t c.self.invariant a (asks at) c.turn-announced.new.seat.knows (told.word left).2)
     (IsPrefix-word t c.self.invariant a (asks at) c.turn-announced.new.seat.knows (told.word left).2) next
     (omega (arith, stored)) (mark_known at, (asks at).left, λ inside. told.word inside, λ all. absurd (other all)) (omega (arith, stored, left, some_slot at))
-    (omega (arith, stored, left, some_slot at)))
+    (omega (arith, stored, left, some_slot at)) stored)
 
 pub returns-clause-turned : goal.returns-clause-turned
 returns-clause-turned c = λ seen.
@@ -192,4 +193,5 @@ returns-clause-turned c = λ seen.
     c.turn-announced.new.seat c.args.self.now.totals None) (sym (rows_next next))
     (turned at seen c.of.result.value c.of.ensures
     (HasSameCounts-announced t c.self.invariant a (asks at) c.turn-announced.new.seat.knows (announced slot_found)) (announced slot_found).more stage (omega (arith, all))
-    (mark_known at, (asks at).left, λ inside. absurd (omega (arith, inside, all)), λ full. told.announces) (omega (arith, some_slot at)) (omega (arith, all, some_slot at)))
+    (mark_known at, (asks at).left, λ inside. absurd (omega (arith, inside, all)), λ full. told.announces) (omega (arith, some_slot at)) (omega (arith, all, some_slot at))
+    (all, refl, refl))

@@ -98,7 +98,7 @@ turned c seen mark mark_is answer ends starts leaves =
     (ap (λ (m : SeatTerms). m.knows) mark_is) r next c.in-Collect.is (goes c) (ap (λ (x : CollectingRowsTerms). x.made) told.after) (same_counts c) (more_rows c)
     (rows_so c).stage_so.left answer
     ((collects c).mark_is ∙ sym (known_before (goal.at.After-turn-collected c).After-self), (next.slot, next.next, subst (MakesNextLoad b r) told.after told.load))
-    ends starts leaves)
+    ends starts leaves told.load)
 
 pub returns-in_err-asked-clause-turned : goal.returns-in_err-asked-clause-turned
 returns-in_err-asked-clause-turned c = λ seen.

@@ -1,5 +1,5 @@
-use Rattle.std.proofs.Common.{None, ◌≡◌, ℕ, ◌<◌, List, length, sym, ap, subst, ◌∙◌, arith}
-use Rattle.at_calling.proofs.Prelude.{sum, BookTerms, TargetPair, place, AreTargets, SeatTerms, Knowledge, TotalSums, MayAskFor, asked_for, HasLooked, AskingTerms, starting_to_ask, IsLookingToAsk, IsStartStageSo, IsStartingSo, TakesStartTurn, IsWithin, LookingTerms, StartingTerms, asking_steps_of, start_turns_after, start_turns_in, the_view, StartStage, Ask}
+use Rattle.std.proofs.Common.{refl, None, ◌≡◌, ℕ, ◌<◌, List, length, sym, ap, subst, ◌∙◌, arith}
+use Rattle.at_calling.proofs.Prelude.{sum, BookTerms, TargetPair, place, AreTargets, SeatTerms, Knowledge, TotalSums, MayAskFor, asked_for, HasLooked, AskingTerms, starting_to_ask, IsLookingToAsk, IsStartStageSo, IsStartingSo, TakesStartTurn, IsWithin, LookingTerms, FollowsStart, StartingTerms, asking_steps_of, start_turns_after, start_turns_in, the_view, StartStage, Ask}
 use Rattle.at_calling.proofs.StartingLaws.{IsStartingSo-ask, MayAskFor-HasLooked, place-HasLooked-few, slot_of_start, start_after_look}
 use Rattle.at_calling.proofs.StartingSteps.{TakesStartTurn-look}
 use Rattle.at_calling.specs.declared.start_stage.StartStage.TheVariants.{Look}
@@ -88,9 +88,10 @@ turned : (c : After-turn-looked) (turns : ℕ) → turns ≡ c.turn-looked.new.s
     → 0 < start_turns_after (asking_steps_of c.args.board.now.book (the_view c.self.inside)) stage
     → start_turns_after (asking_steps_of c.args.board.now.book (the_view c.self.inside)) stage
     < start_turns_after (asking_steps_of c.args.board.now.book (the_view c.self.inside)) (Look c.in-Look.looking)
+    → FollowsStart c.args.board.now.book (Look c.in-Look.looking) stage
     → TakesStartTurn c.args.board.now.book c.args.overview.now.seen c.args.self.now (start_after_look (the_view c.self.inside) stage mark.knows totals turns) c.args.seat.now
     c.turn-looked.new.seat c.turn-looked.new.totals None
-turned c turns turns_are mark mark_is totals totals_are stage same some left =
+turned c turns turns_are mark mark_is totals totals_are stage same some left follows =
     let b : BookTerms = c.args.board.now.book in
     let t : StartingTerms = the_view c.self.inside in
     let after : SeatTerms = c.turn-looked.new.seat in
@@ -100,7 +101,7 @@ turned c turns turns_are mark mark_is totals totals_are stage same some left =
     subst (λ (s : StartingTerms). TakesStartTurn b c.args.overview.now.seen s (start_after_look t stage mark.knows totals turns) c.args.seat.now after now None) c.self.view_is
     (TakesStartTurn-look b c.args.overview.now.seen t c.self.invariant (sym (book (goal.at.After-turn-looked c).After-self)) c.args.seat.now after mark.knows
     (ap (λ (m : SeatTerms). m.knows) mark_is) now totals totals_are l c.in-Look.is turns (turns_are ∙ told.turns) told.load told.loads told.counted
-    (subst (IsWithin b.processes l.was (length after.knows.seen)) (sym turns_are) told.so_far) (omega (arith, told.counting, turns_are)) stage same some left)
+    (subst (IsWithin b.processes l.was (length after.knows.seen)) (sym turns_are) told.so_far) (omega (arith, told.counting, turns_are)) stage same some left follows)
 
 pub returns-in_err-cut-clause-turned : goal.returns-in_err-cut-clause-turned
 returns-in_err-cut-clause-turned c =
@@ -110,7 +111,7 @@ returns-in_err-cut-clause-turned c =
     (start_after_look (the_view c.self.inside) next c.of.result.value.knows c.of-2.result.value c.turns-self-inside.result) c.args.seat.now
     c.turn-looked.new.seat c.turn-looked.new.totals) (sym c.from_residual.ensures)
     (turned at c.turns-self-inside.result c.turns-self-inside.ensures c.of.result.value c.of.ensures c.of-2.result.value c.of-2.ensures next
-    (sym c.turns-self-inside.ensures) (omega arith) (omega (arith, c.turn-looked.ensures.left)))
+    (sym c.turns-self-inside.ensures) (omega arith) (omega (arith, c.turn-looked.ensures.left)) c.turn-looked.ensures.follows)
 
 pub returns-clause-turned : goal.returns-clause-turned
 returns-clause-turned c =
@@ -121,4 +122,5 @@ returns-clause-turned c =
     (start_after_look (the_view c.self.inside) k c.of.result.value.knows c.of-2.result.value c.turns-self-inside.result) c.args.seat.now
     c.turn-looked.new.seat c.turn-looked.new.totals None) (sym c.become_next.ensures)
     (turned at c.turns-self-inside.result c.turns-self-inside.ensures c.of.result.value c.of.ensures c.of-2.result.value c.of-2.ensures (Ask a)
-    (omega (arith, none)) (omega (arith, none)) (omega (arith, none, (looks at).left)))
+    (omega (arith, none)) (omega (arith, none)) (omega (arith, none, (looks at).left))
+    ((c.turn-looked.new.self.stage, c.turn-looked.ensures.follows, c.in_ok-cut.ensures.ends.0 refl), none))

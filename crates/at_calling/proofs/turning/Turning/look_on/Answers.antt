@@ -1,5 +1,5 @@
 use Rattle.std.proofs.Common.{◌↔◌, IfSome, IsSome, Option, None, Some, true, refl, ◌≡◌, ℕ, ◌*◌, ◌<◌, List, length, false, sym, ap, subst, ◌∙◌, arith}
-use Rattle.at_calling.proofs.Prelude.{sum, BookTerms, prefix_of, is_settled, own_part, SeatTerms, Asking, Knowledge, IsDecidedIn, CountsCut, CountsSlot, HasCounted, TotalSums, HasAccount, HasAccount-IsSeat, IsHelpingAt-turn, HelpingTerms, IsHelping, decides_made, round_steps, HasSameAsking, TurnStage, HelpTurn, Settled, More, CountsAccount-HasLooked, CountsCut-HasLooked, HasCounted-HasLooked, published-HasLoaded, HasLooked, DecidingTerms, starting_deciding, IsLookingStill, IsTurnStageSo, IsTurningSo, TakesHelpStep, IsWithin, LeavesTotals, IsHelpOf, LeavesSeat, TurningTerms, WaitsOn, help_turns_in, help_turns_left, Decide, Found}
+use Rattle.at_calling.proofs.Prelude.{sum, BookTerms, prefix_of, is_settled, own_part, SeatTerms, Asking, Knowledge, IsDecidedIn, CountsCut, CountsSlot, HasCounted, TotalSums, HasAccount, HasAccount-IsSeat, IsHelpingAt-turn, HelpingTerms, IsHelping, decides_made, round_steps, HasSameAsking, TurnStage, HelpTurn, Settled, More, CountsAccount-HasLooked, CountsCut-HasLooked, HasCounted-HasLooked, published-HasLoaded, HasLooked, DecidingTerms, starting_deciding, IsLookingStill, IsTurnStageSo, IsTurningSo, TakesHelpStep, IsWithin, LeavesTotals, FollowsTurn, IsHelpOf, LeavesSeat, TurningTerms, WaitsOn, help_turns_in, help_turns_left, Decide, Found}
 use Rattle.at_calling.proofs.PayingAloneLaws.{HasSameAsking-HasLoaded, sum-HasLooked-le}
 use Rattle.at_calling.proofs.ReadingLaws.{LeavesTotals-HasLooked}
 use Rattle.at_calling.proofs.TurningSteps.{LeavesSeat-HasLoaded, TakesHelpStep-look}
@@ -104,10 +104,11 @@ stepped : (c : After-turn-looked) (turns : ℕ) → turns ≡ c.turn-looked.new.
     → IfSome answer (λ h. LeavesTotals c.args.board.now.book c.self.inside.start.value.knows c.turn-looked.new.seat.knows c.self.inside.was.value
     c.turn-looked.new.totals (round_steps c.args.board.now.book.processes
     * decides_made c.self.inside.helping.value.account c.self.inside.start.value.knows c.turn-looked.new.seat.knows) turns)
+    → FollowsTurn c.args.board.now.book (Look c.in-Look.looking) stage
     → TakesHelpStep c.args.board.now.book c.args.overview.now.seen c.args.self.now
     (record (the_view c.self.inside) { stage = stage; looked = turns; mark = mark.knows; totals = totals }) c.args.seat.now c.turn-looked.new.seat
     c.turn-looked.new.totals answer
-stepped c turns turns_are mark mark_is totals totals_are stage answer same left ends help waits seat counted leaves =
+stepped c turns turns_are mark mark_is totals totals_are stage answer same left ends help waits seat counted leaves follows =
     let b : BookTerms = c.args.board.now.book in
     let t : TurningTerms = the_view c.self.inside in
     let after : SeatTerms = c.turn-looked.new.seat in
@@ -118,7 +119,7 @@ stepped c turns turns_are mark mark_is totals totals_are stage answer same left 
     (TakesHelpStep-look b c.args.overview.now.seen t c.self.invariant (book (goal.at.After-turn-looked c).After-self) c.args.seat.now after now mark.knows
     (ap (λ (m : SeatTerms). m.knows) mark_is) totals totals_are c.in-Look.looking c.in-Look.is turns (turns_are ∙ told.turns) told.load told.loads
     (subst (IsWithin b.processes c.in-Look.looking.was (length after.knows.seen)) (sym turns_are) told.so_far)
-    (omega (arith, told.counting, turns_are)) told.more stage answer same left ends help waits seat counted leaves)
+    (omega (arith, told.counting, turns_are)) told.more stage answer same left ends help waits seat counted leaves follows)
 
 pub returns-in_err-cut-clause-stepped : goal.returns-in_err-cut-clause-stepped
 returns-in_err-cut-clause-stepped c =
@@ -128,7 +129,7 @@ returns-in_err-cut-clause-stepped c =
     (record (the_view c.self.inside) { stage = next; looked = c.turns-self-inside.result; mark = c.of.result.value.knows; totals = c.of-2.result.value }) c.args.seat.now
     c.turn-looked.new.seat c.turn-looked.new.totals) (sym c.from_residual.ensures)
     (stepped at c.turns-self-inside.result c.turns-self-inside.ensures c.of.result.value c.of.ensures c.of-2.result.value c.of-2.ensures next None (sym c.turns-self-inside.ensures)
-    (omega (arith, c.turn-looked.ensures.left)) (λ some. let wrong : false ≡ true = some in absurd (cc wrong), λ none. absurd (omega (arith, none))) tt tt tt tt tt)
+    (omega (arith, c.turn-looked.ensures.left)) (λ some. let wrong : false ≡ true = some in absurd (cc wrong), λ none. absurd (omega (arith, none))) tt tt tt tt tt c.turn-looked.ensures.follows)
 
 -- nothing was decided meanwhile
 leaves_found : (c : After-known) → LeavesTotals c.args.board.now.book c.self.inside.start.value.knows c.turn-looked.new.seat.knows
@@ -174,7 +175,7 @@ returns-in-Some-clause-stepped c =
     (λ more. absurd (cc more))
     (subst (λ (k : HelpingTerms). LeavesSeat t.start w k.account) (sym (helping start))
     (LeavesSeat-HasLoaded b t.start w h.account (omega (arith, c.self.invariant.kept.one_part)) (looked known).loads (waits start).free))
-    (has_counted known) (leaves_found known))
+    (has_counted known) (leaves_found known) (c.turn-looked.new.self.stage, c.turn-looked.ensures.follows, c.in_ok-cut.ensures.ends.0 refl))
 
 pub start-deciding-requires-clause-totals : goal.start-deciding-requires-clause-totals
 start-deciding-requires-clause-totals c = has_counted (goal.at.start-deciding-requires-clause-totals c).After-known
@@ -262,4 +263,7 @@ returns-clause-stepped c =
     c.args.seat.now c.turn-looked.new.seat c.turn-looked.new.totals None) (sym c.become_next-2.ensures)
     (stepped at c.turns-self-inside.result c.turns-self-inside.ensures c.of.result.value c.of.ensures c.of-2.result.value c.of-2.ensures next None
     (omega (arith, begun, most)) (omega (arith, begun, same, (looks at).left))
-    (λ some. let wrong : false ≡ true = some in absurd (cc wrong), λ none. absurd (omega (arith, none, begun))) tt tt tt tt tt)
+    (λ some. let wrong : false ≡ true = some in absurd (cc wrong), λ none. absurd (omega (arith, none, begun))) tt tt tt tt tt (
+      (c.turn-looked.new.self.stage, c.turn-looked.ensures.follows, c.in_ok-cut.ensures.ends.0 refl),
+      ap (λ (d : DecidingTerms). d.next) c.start-deciding.ensures,
+    ))

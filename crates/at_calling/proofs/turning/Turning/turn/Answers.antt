@@ -14,6 +14,7 @@ returns-in-Decide c =
       totals = stepped.totals_are;
       turns = stepped.turns;
       step = stepped.step;
+      follows = stepped.follows;
       left = stepped.left;
       ends = stepped.ends;
       so_far = stepped.so_far;

@@ -16,3 +16,6 @@ returns-clause-loaded c = grind (arith, common_steps)
 
 pub returns-clause-knows : goal.returns-clause-knows
 returns-clause-knows c = grind (arith, common_steps)
+
+pub returns-clause-words : goal.returns-clause-words
+returns-clause-words c = grind (arith, common_steps)

@@ -1,6 +1,6 @@
-use Rattle.std.proofs.Common.{◌≡◌, ℕ, ◌+◌, List, Some, get_or, set, refl, sym, ap, subst, ◌∙◌, arith}
-use Rattle.at_machines.proofs.Prelude.{common_steps, BookTerms, SeatTerms, MayLoadWord, Knowledge, RECORD_WORDS, StaysCounted-HasCounted, IsPrefix-refl, IsCatchingUp, HasCounted, StaysCounted, TotalSums, CatchingUpTerms, CountsNext, MayLoadLeft, loaded_of, loads_left, IsCatchingUpSo, LoadingTerms}
-use Rattle.at_machines.proofs.CatchingUpLaws.{CountsNext-counted, IsCatchingUp-counted, MayCount-IsCatchingUpSo, more-IsCatchingUpSo, none_left}
+use Rattle.std.proofs.Common.{◌≡◌, ℕ, ◌+◌, List, Option, false, true, Some, get_or, set, refl, sym, ap, subst, ◌∙◌, arith}
+use Rattle.at_machines.proofs.Prelude.{common_steps, BookTerms, SeatTerms, MayLoadWord, Knowledge, RECORD_WORDS, StaysCounted-HasCounted, IsPrefix-refl, IsCatchingUp, HasCounted, StaysCounted, TotalSums, CatchingUpTerms, CountsNext, FollowsLoad, MayLoadLeft, loaded_of, loads_left, words_held, IsCatchingUpSo, LoadingTerms}
+use Rattle.at_machines.proofs.CatchingUpLaws.{CountsNext-counted, FollowsLoad-word, IsCatchingUpSo-word, IsCatchingUp-counted, MayCount-IsCatchingUpSo, more-IsCatchingUpSo, none_left}
 use Rattle.at_machines.proofs.catching_up.CatchingUp.turn.Goals.{After-turn, After-count}
 use Rattle.at_machines.proofs.catching_up.CatchingUp.turn.Goals as goal
 
@@ -150,7 +150,12 @@ pub count-requires-clause-next : goal.count-requires-clause-next
 count-requires-clause-next c = grind (arith, common_steps)
 
 pub invariant_of-self : goal.invariant_of-self
-invariant_of-self c = grind (arith, common_steps)
+invariant_of-self c =
+    let i = c.self.inside in
+    let told = c.turn.ensures in
+    IsCatchingUpSo-word i.seat.value.knows i.counts i.totals.value i.process c.in-Some.loading c.turn.new.self
+    (subst (IsCatchingUpSo i.seat.value.knows i.counts i.totals.value i.process) c.in-Some.is c.self.invariant) told.after
+    (λ last. let wrong : false ≡ true = c.in_err-entry.ensures.ends.1 (ap (λ (k : LoadingTerms). k.loaded) told.after ∙ last) in absurd (cc wrong))
 
 pub returns-clause-left : goal.returns-clause-left
 returns-clause-left c = grind (arith, common_steps)
@@ -187,3 +192,30 @@ returns-clause-counts c = grind (arith, common_steps)
 
 pub returns-in_err-entry-clause-left : goal.returns-in_err-entry-clause-left
 returns-in_err-entry-clause-left c = grind (arith, common_steps)
+
+pub returns-in_err-entry-clause-follows : goal.returns-in_err-entry-clause-follows
+returns-in_err-entry-clause-follows c =
+    let at = (goal.at.returns-in_err-entry-clause-follows c).After-turn in
+    let i = c.self.inside in
+    let l : LoadingTerms = c.in-Some.loading in
+    let m : LoadingTerms = c.turn.new.self in
+    let told = c.turn.ensures in
+    let with_loaded : Option LoadingTerms → CatchingUpTerms =
+    λ x. record { counts = i.counts; knows = i.seat.value.knows; totals = i.totals.value; process = i.process; loaded = loaded_of x; words = words_held x } in
+    subst (λ (s : CatchingUpTerms). FollowsLoad s (with_loaded (Some m))) c.self.view_is
+    (subst (λ (x : Option LoadingTerms). FollowsLoad (with_loaded x) (with_loaded (Some m))) (sym c.in-Some.is)
+    (FollowsLoad-word i.seat.value.knows i.counts i.totals.value i.process l m
+    (subst (IsCatchingUpSo i.seat.value.knows i.counts i.totals.value i.process) c.in-Some.is c.self.invariant) told.after told.word
+    (λ last. let wrong : false ≡ true = c.in_err-entry.ensures.ends.1 (ap (λ (k : LoadingTerms). k.loaded) told.after ∙ last) in absurd (cc wrong))))
+
+pub returns-clause-follows : goal.returns-clause-follows
+returns-clause-follows c =
+    let l : LoadingTerms = c.in-Some.loading in
+    let whole : l.loaded + 1 ≡ RECORD_WORDS = ap (λ (k : LoadingTerms). k.loaded) (sym c.in_ok-entry.ensures.after) ∙ c.in_ok-entry.ensures.ends.0 refl in
+    let loaded : l.loaded ≡ c.args.self.now.loaded = ap loaded_of (sym c.in-Some.is) ∙ ap (λ (s : CatchingUpTerms). s.loaded) c.self.view_is in (
+      λ few. absurd (omega (arith, few, whole, loaded)),
+      λ last. (
+        ap (λ (s : CatchingUpTerms). s.loaded) c.at-2.view_is ∙ c.at.ensures.loaded,
+        ap (λ (s : CatchingUpTerms). s.words) c.at-2.view_is ∙ c.at.ensures.words,
+      ),
+    )

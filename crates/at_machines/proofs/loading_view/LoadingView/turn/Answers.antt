@@ -1,6 +1,6 @@
-use Rattle.std.proofs.Common.{◌≡◌, ◌+◌, ◌<◌, length, set, ap, subst, sym, ◌∙◌, arith, ◌^◌}
-use Rattle.at_machines.proofs.Prelude.{common_steps, length-set, BookTerms, IsRecordWord, IsKept, Knowledge, RECORD_WORDS, small-IsRecordWord, IsLoadingSo, LoadingTerms, loading_after}
-use Rattle.at_machines.proofs.LoadingLaws.{IsLoadingSo-turn, IsViewOf-IsLoadingSo}
+use Rattle.std.proofs.Common.{◌≡◌, ℕ, ◌+◌, ◌<◌, [], List, length, set, take, ap, subst, sym, ◌∙◌, arith, ◌^◌}
+use Rattle.at_machines.proofs.Prelude.{common_steps, length-set, BookTerms, IsRecordWord, IsKept, Knowledge, RECORD_WORDS, small-IsRecordWord, IsLoadingSo, AddsWord, LoadingTerms, loading_after}
+use Rattle.at_machines.proofs.LoadingLaws.{AddsWord-set, IsLoadingSo-turn, IsViewOf-IsLoadingSo}
 use Rattle.at_machines.proofs.loading_view.LoadingView.turn.Goals.{After-load_record_word-count}
 use Rattle.at_machines.proofs.loading_view.LoadingView.turn.Goals as goal
 
@@ -40,11 +40,11 @@ set-requires-clause-small c = small (goal.at.set-requires-clause-small c).After-
 
 -- the load after the step
 kept : (c : After-load_record_word-count)
-    → IsLoadingSo (loading_after c.args.self.now) RECORD_WORDS (set c.self.inside.view c.args.self.now.loaded c.load_record_word-count.result)
+    → IsLoadingSo (loading_after c.args.self.now []) RECORD_WORDS (set c.self.inside.view c.args.self.now.loaded c.load_record_word-count.result)
 kept c =
     let inside : c.args.self.now.loaded < length c.self.inside.view =
     omega (arith, c.requires.left, c.self.invariant.0, ap (λ (t : LoadingTerms). t.knows.book.processes) c.self.view_is, ap (λ (t : BookTerms). t.processes) (book c)) in
-    IsLoadingSo-turn c.args.self.now RECORD_WORDS c.self.inside.view c.load_record_word-count.result inside (so_far c) (word c)
+    IsLoadingSo-turn c.args.self.now RECORD_WORDS c.self.inside.view [] c.load_record_word-count.result inside (so_far c) (word c)
 
 pub returns-clause-view : goal.returns-clause-view
 returns-clause-view c =
@@ -59,7 +59,7 @@ returns-clause-view c =
     let sized : length (set c.self.inside.view before.loaded w) ≡ before.knows.book.processes =
     length-set c.self.inside.view before.loaded w ∙ (c.self.invariant.0 ∙ ap (λ (t : LoadingTerms). t.knows.book.processes) c.self.view_is) in
     c.copy.ensures ∙ (c.set.ensures ∙ (ap (λ q. set c.self.inside.view q w) loaded
-    ∙ IsViewOf-IsLoadingSo (loading_after before) (set c.self.inside.view before.loaded w) (seat read) sized all (kept read)))
+    ∙ IsViewOf-IsLoadingSo (loading_after before []) (set c.self.inside.view before.loaded w) (seat read) sized all (kept read)))
 
 pub set-requires-clause-process : goal.set-requires-clause-process
 set-requires-clause-process c = grind (arith, common_steps)
@@ -78,3 +78,22 @@ overflow_add-self c = grind (arith, common_steps)
 
 pub returns-then-self-processes-clause-after : goal.returns-then-self-processes-clause-after
 returns-then-self-processes-clause-after c = grind (arith, common_steps)
+
+-- the word that is loaded, after those before it
+adds : (c : After-load_record_word-count) (view : List ℕ) → view ≡ set c.self.inside.view c.self.inside.loaded c.load_record_word-count.result
+    → AddsWord c.args.self.now.knows c.args.self.now.process c.args.self.now.number (RECORD_WORDS + c.args.self.now.loaded) c.args.self.now.words
+    (take (c.self.inside.loaded + 1) view)
+adds c view is =
+    let i = c.self.inside in
+    let w = c.load_record_word-count.result in
+    let known : c.args.seat.now.knows ≡ i.seat.value.knows = c.requires.mark ∙ sym (ap (λ (t : LoadingTerms). t.knows) c.self.view_is) in
+    let loaded : i.loaded ≡ c.args.self.now.loaded = ap (λ (t : LoadingTerms). t.loaded) c.self.view_is in
+    let inside : i.loaded < length i.view =
+    omega (arith, c.requires.left, loaded, c.self.invariant.0, ap (λ (t : LoadingTerms). t.knows.book.processes) c.self.view_is, ap (λ (t : BookTerms). t.processes) (book c)) in
+    subst (λ (t : LoadingTerms). AddsWord t.knows t.process t.number (RECORD_WORDS + t.loaded) t.words (take (i.loaded + 1) view)) c.self.view_is
+    (subst (λ (xs : List ℕ). AddsWord i.seat.value.knows i.process i.number (RECORD_WORDS + i.loaded) (take i.loaded i.view) (take (i.loaded + 1) xs)) (sym is)
+    (AddsWord-set i.seat.value.knows i.process i.number (RECORD_WORDS + i.loaded) i.loaded i.view w inside
+    (subst (λ (v : Knowledge). IsRecordWord v i.process i.number (RECORD_WORDS + i.loaded) w) known c.load_record_word-count.ensures.word)))
+
+pub returns-clause-word : goal.returns-clause-word
+returns-clause-word c = adds (goal.at.returns-clause-word c).After-load_record_word-count c.set.new.self c.set.ensures

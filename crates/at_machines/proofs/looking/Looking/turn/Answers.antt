@@ -1,5 +1,5 @@
 use Rattle.std.proofs.Common.{◌≡◌, ◌+◌, ◌≤◌, ℕ, List, length, IfSome, sym, ap, subst, ◌∙◌, arith}
-use Rattle.at_machines.proofs.Prelude.{common_steps, sum, Covers, BookTerms, IsPrefix-refl, SeatTerms, Knowledge, HasRecords, StaysCounted, TotalSums, Covers-IsSnapshot, HasRecords-IsCut, HasLooked, HasLoaded, snapshot_steps, IsLookingSo, IsSnapped, LookingTerms, MakesLookLoad, look_turns_left, LookStage, CatchUp, Snap}
+use Rattle.at_machines.proofs.Prelude.{common_steps, sum, Covers, BookTerms, IsPrefix-refl, SeatTerms, Knowledge, HasRecords, StaysCounted, TotalSums, Covers-IsSnapshot, HasRecords-IsCut, HasLooked, HasLoaded, snapshot_steps, IsLookingSo, IsSnapped, FollowsLook, LookingTerms, MakesLookLoad, MayFollow, NextLoad, look_turns_left, LookStage, CatchUp, Snap}
 use Rattle.at_machines.proofs.Laws.Snapshots.{snapshot_steps-le}
 use Rattle.at_machines.proofs.LookingLaws.{HasLooked-snapped, IsLookingSo-caught, StaysCounted-HasLoaded, few-IsSnapped, sum-IsSnapped}
 use Rattle.at_machines.proofs.looking.Looking.turn.Goals.{After-copy, After-turn-caught, After-turn-snapped, then-is_ended, else-is_ended}
@@ -332,3 +332,21 @@ overflow_add-self c = grind (arith, common_steps)
 
 pub returns-in_err-cut-in-Snap-clause-totals : goal.returns-in_err-cut-in-Snap-clause-totals
 returns-in_err-cut-in-Snap-clause-totals c = grind (arith, common_steps)
+
+pub returns-in_err-cut-in-Snap-clause-follows : goal.returns-in_err-cut-in-Snap-clause-follows
+returns-in_err-cut-in-Snap-clause-follows c =
+    subst (λ (k : LookStage). FollowsLook c.args.board.now.book.processes k (Snap c.turn-snapped.new.self))
+    (sym (snaps (goal.at.returns-in_err-cut-in-Snap-clause-follows c).After-turn-snapped)) c.turn-snapped.ensures.next
+
+pub returns-after-is_ended-clause-follows : goal.returns-after-is_ended-clause-follows
+returns-after-is_ended-clause-follows c =
+    let n : ℕ = c.args.board.now.book.processes in
+    let ended : MayFollow n c.in-Snap.snapping.next NextLoad.nothing = subst (MayFollow n c.in-Snap.snapping.next) c.in_ok-cut-in-Snap.ensures.ended c.turn-snapped.ensures.next in
+    subst (λ (k : LookStage). FollowsLook n k c.become_next.new.stage) (sym (snaps (goal.at.returns-after-is_ended-clause-follows c).After-turn-snapped))
+    (subst (FollowsLook n (Snap c.in-Snap.snapping)) (sym c.become_next.ensures)
+    (ended, c.start-catching.ensures.loaded, c.start-catching.ensures.words))
+
+pub returns-in-CatchUp-clause-follows : goal.returns-in-CatchUp-clause-follows
+returns-in-CatchUp-clause-follows c =
+    subst (λ (k : LookStage). FollowsLook c.args.board.now.book.processes k (CatchUp c.turn-caught.new.self))
+    (sym (catches (goal.at.returns-in-CatchUp-clause-follows c).After-turn-caught)) c.turn-caught.ensures.follows

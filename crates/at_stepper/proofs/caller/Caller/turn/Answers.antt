@@ -1,6 +1,6 @@
 use Rattle.std.proofs.Common.{◌≡◌, ◌∙◌, ◌<◌, Option, Some, None, IfSome, ap, arith, refl, subst, sym}
 use Rattle.at_stepper.proofs.Prelude.{vec_capacity, Receipt, published-MakesCallStep, CallingTerms, call_turns_left, CallerTerms, IsCallerOf, TakesTurn, caller_of, Making, Answer, Step}
-use Rattle.at_stepper.proofs.CallerLaws.{IsCallerOf-answered, TakesTurn-answered, TakesTurn-caller, TakesTurn-turned, left-going_on, own_seen-published}
+use Rattle.at_stepper.proofs.CallerLaws.{IsCallerOf-answered, IsCallerOf-turned, TakesTurn-answered, TakesTurn-caller, TakesTurn-turned, left-going_on, own_seen-published}
 use Rattle.at_stepper.proofs.StepLaws.{process-MakesCallStep}
 use Rattle.at_stepper.proofs.caller.Caller.turn.Goals.{After-become_next}
 use Rattle.at_stepper.proofs.caller.Caller.turn.Goals as goal
@@ -25,10 +25,26 @@ returns-in_default-made-clause-turned c =
     (subst (λ (o : Option CallingTerms). IsCallerOf seat rest calls receipts o room) c.in-Some.is c.self.invariant)
     (ap (λ (t : CallerTerms). t.seat.knows.book) c.self.view_is ∙ c.requires.board.book) next c.turn-made.new.seat c.turn-made.new.rest
     c.known-2.ensures.seat told.board.book told.call told.start told.was told.turns told.exchanges_made told.left told.begins told.so_far left told.mark
-    told.rest c.args.overview.now.seen told.step told.steps told.exchanges
+    told.rest c.args.overview.now.seen told.step told.follows told.steps told.exchanges
     (own_seen-published b was after calling.stage c.known.ensures.seat c.known-2.ensures.seat
     (published-MakesCallStep b c.args.overview.now.seen calling.stage seat c.turn-made.new.seat c.turn-made.new.rest.totals
     (omega (arith, c.known.ensures.seat.one_part)) told.step)))
+
+pub invariant_of-self : goal.invariant_of-self
+invariant_of-self c =
+    let b = c.args.board.now.book in
+    let seat = c.self.inside.seat in
+    let rest = c.self.inside.rest in
+    let calls = c.self.inside.calls.items in
+    let receipts = c.self.inside.receipts.items in
+    let room = vec_capacity c.self.inside.receipts in
+    let next = c.turn-made.new.self in
+    let told = c.turn-made.ensures in
+    IsCallerOf-turned b seat rest calls receipts c.in-Some.calling room
+    (subst (λ (o : Option CallingTerms). IsCallerOf seat rest calls receipts o room) c.in-Some.is c.self.invariant)
+    (ap (λ (t : CallerTerms). t.seat.knows.book) c.self.view_is ∙ c.requires.board.book) next c.turn-made.new.seat c.turn-made.new.rest
+    c.known-2.ensures.seat told.board.book told.call told.start told.was told.turns told.exchanges_made told.left told.begins told.so_far
+    (left-going_on c.turn-made.result (call_turns_left b next.stage) told.ends c.in_default-made.not-Some) told.mark told.rest
 
 -- behind an answer no call is in the making
 ended : (c : After-become_next) → c.become_next.new.stage.calling ≡ None
@@ -75,7 +91,7 @@ returns-clause-turned c =
     (ap (λ (t : CallerTerms). t.seat.knows.book) c.self.view_is ∙ c.requires.board.book) c.turn-made.new.self c.turn-made.new.seat
     c.turn-made.new.rest c.known-2.ensures.seat told.board.book told.call told.start told.was told.turns told.exchanges_made told.left told.begins
     told.so_far c.in-Some-made.receipt made.made made.stands made.kept made.calls made.within made.refused c.push_reserved.new.self.items
-    c.push_reserved.ensures.items c.args.overview.now.seen told.step told.steps told.exchanges
+    c.push_reserved.ensures.items c.args.overview.now.seen told.step (c.turn-made.new.self.stage, told.follows, made.ends.0 refl) told.steps told.exchanges
     (own_seen-published b was after calling.stage c.known.ensures.seat c.known-2.ensures.seat
     (published-MakesCallStep b c.args.overview.now.seen calling.stage seat c.turn-made.new.seat c.turn-made.new.rest.totals
     (omega (arith, c.known.ensures.seat.one_part)) told.step)))))
