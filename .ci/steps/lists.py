@@ -122,7 +122,7 @@ ONCE = {"turn", "Arc::new", "try_clone", "try_unwrap", "Board::new", "Ledger::ne
 # What makes a seat of each process, and gathers them, before and after all steps. And words that mean other things in these.
 FREE = {
     "at_board/deal.rt deal", "at_board/close.rt gather",
-    "at_broadcast/node.rt deliver", "at_broadcast/progress.rt store", "at_commands/commanding.rt command_text",
+    "at_broadcast/node.rt deliver", "at_broadcast/progress.rt store", "at_broadcast/progress.rt store_all", "at_commands/commanding.rt command_text",
     "at_pages/curves.rt publishing_turn", "at_pages/loads.rt first_load",
 }
 
@@ -218,6 +218,7 @@ PLACES = """
     at_broadcast/node.rt deliver: store
     at_broadcast/progress.rt settle: while
     at_broadcast/progress.rt store: store
+    at_broadcast/progress.rt store_all: store
     at_io/reading.rt read_whole: while
     at_io/writing.rt put_all: while
     at_journal/by_threads.rt held_by_threads: map_indices

@@ -1,5 +1,5 @@
 -- Messages as far as they are kept, and none after them.
-use Rattle.std.proofs.Common.{◌≡◌, ℕ, zero, suc, ◌+◌, ◌-◌, ◌<◌, ◌≤◌, List, [], ◌∷◌, ◌++◌, length, get_or, set, replicate, Option, None, refl, ap, sym, ◌∙◌, inl, inr, arith, append_assoc, length-append, length-set}
+use Rattle.std.proofs.Common.{◌≡◌, ℕ, zero, suc, ◌+◌, ◌-◌, ◌<◌, ◌≤◌, [], ◌∷◌, ◌++◌, length, get_or, set, replicate, Option, None, IsSome, refl, ap, sym, ◌∙◌, inl, inr, arith, append_assoc, length-append, length-set}
 use Rattle.at_broadcast.proofs.Prelude.{get_or-eq_default, cases_lt, get_or-append-add, get_or_append_left, length-replicate, set-append_left, Message, MESSAGES_MAX, MessageList, filled, message_at, no_messages}
 
 -- a list that was filled with the default
@@ -52,3 +52,11 @@ filled-set list number m within =
 pub filled-none : filled [] ≡ no_messages
 unfolding filled no_messages
 filled-none = let all : MESSAGES_MAX - 0 ≡ MESSAGES_MAX = omega arith in ap (λ n. replicate {A = Option Message} n None) all
+
+-- a message that is there is in the list
+pub within-there : (list : MessageList) (number : ℕ) → IsSome (message_at list number) → number < length list
+within-there list number some =
+    elim (cases_lt number (length list)) as (λ _. number < length list) [
+      | inl inside ↦ inside
+      | inr past ↦ let none : get_or list number None ≡ None = get_or-eq_default list None past in absurd cc
+    ]

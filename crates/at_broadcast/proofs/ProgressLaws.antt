@@ -1,13 +1,14 @@
 -- What holds of a node's progress, after one more delivery and after one more validation.
-use Rattle.std.proofs.Common.{◌≡◌, ◌≢◌, ℕ, ◌+◌, ◌-◌, ◌<◌, ◌≤◌, List, [], ◌∷◌, length, get_or, set, take, sum_by, None, Some, refl, ap, sym, subst, ◌∙◌, inl, inr, arith, length-set, get_or-set_same, get_or-set_other}
-use Rattle.at_broadcast.proofs.Prelude.{le_prop, get_or-eq_default, get_or-map, ∥∥₁_elim, ∥∥₁_map, map-set_same, cases_eq, cases_lt, nat_tests, common_steps, map-set, sum_by-set, Covers, credited, AreTargetsOn, TargetPair, amount_of, LogTerms, account_on_logs, Message, MESSAGES_MAX, IsMessageOn, MessageList, list_of, message_at, message_credit, message_debit, message_of, sum_of_first, with_message, left, IsProgress, messages_of, no_sender, sender_of, IsSender, IsStored, MakesRoom, SenderState, message_counted, IsValid, Reached, came, went, one_more_of, raise}
+use Rattle.std.proofs.Common.{◌≡◌, ◌≢◌, ℕ, ◌+◌, ◌-◌, ◌<◌, ◌≤◌, List, [], length, get_or, set, take, sum_by, Option, None, Some, is_some, refl, ap, sym, subst, ◌∙◌, inl, inr, arith, length-set, get_or-set_same, get_or-set_other}
+use Rattle.at_broadcast.proofs.Prelude.{le_prop, get_or-eq_default, get_or-map, ∥∥₁_elim, ∥∥₁_map, map-set_same, cases_eq, cases_lt, nat_tests, common_steps, map-set, sum_by-set, Covers, credited, AreTargetsOn, TargetPair, amount_of, LogTerms, account_on_logs, Message, MESSAGES_MAX, IsMessageOn, MessageList, list_of, message_at, message_credit, message_debit, message_of, sum_of_first, with_place, left, IsProgress, messages_of, no_sender, sender_of, IsSender, IsStored, MakesRoom, SenderState, message_counted, IsValid, Reached, came, went, one_more_of, raise}
 use Rattle.at_broadcast.proofs.BalanceLaws.{covers-from_balance_at}
-use Rattle.at_broadcast.proofs.MessageLaws.{Reached-with_message, message_of-new, message_of-other}
+use Rattle.at_broadcast.proofs.FilledLaws.{within-there}
+use Rattle.at_broadcast.proofs.MessageLaws.{Reached-with_place, message_of-here, message_of-place}
 use Rattle.at_broadcast.proofs.MoveLaws.{get_or-moved, length-moved, moved, sum-moved}
 use Rattle.at_broadcast.proofs.RangeLaws.{sum_by-take_none}
 use Rattle.at_broadcast.proofs.ReachedLaws.{IsCounted, IsCounted-Reached, after-Reached, length-Reached}
 use Rattle.at_broadcast.proofs.SenderLaws.{IsSender-message_counted, IsSender-roomier, IsSender-stored, messages-message_counted}
-use Rattle.at_broadcast.proofs.SumLaws.{part, sum_of_first-le, sum_of_first-one_more_of, sum_of_first-same, sum_of_first-with_message}
+use Rattle.at_broadcast.proofs.SumLaws.{part, sum_of_first-le, sum_of_first-one_more_of, sum_of_first-same, sum_of_first-with_place}
 
 -- the list of a sender is what is kept of it
 pub list_of-messages_of : (senders : List SenderState) (p : ℕ) → list_of (messages_of senders) p ≡ (sender_of senders p).messages
@@ -16,11 +17,11 @@ list_of-messages_of senders p = get_or-map (λ (s : SenderState). s.messages) se
 pub length-messages_of : (senders : List SenderState) → length (messages_of senders) ≡ length senders
 length-messages_of senders = grind (arith, common_steps)
 
-pub messages_of-stored : (senders : List SenderState) (p number : ℕ) (m : Message) (new : SenderState) → IsStored (sender_of senders p) number m new
-    → messages_of (set senders p new) ≡ with_message (messages_of senders) p number m
-messages_of-stored senders p number m new stored =
+pub messages_of-stored : (senders : List SenderState) (p number : ℕ) (o : Option Message) (new : SenderState) → IsStored (sender_of senders p) number o new
+    → messages_of (set senders p new) ≡ with_place (messages_of senders) p number o
+messages_of-stored senders p number o new stored =
     map-set (λ (s : SenderState). s.messages) senders p new
-    ∙ ap (λ (l : MessageList). set (messages_of senders) p l) (stored.messages ∙ ap (λ (l : MessageList). set l number (Some m)) (sym (list_of-messages_of senders p)))
+    ∙ ap (λ (l : MessageList). set (messages_of senders) p l) (stored.messages ∙ ap (λ (l : MessageList). set l number o) (sym (list_of-messages_of senders p)))
 
 pub messages_of-same : (senders : List SenderState) (p : ℕ) (new : SenderState) → new.messages ≡ (sender_of senders p).messages
     → messages_of (set senders p new) ≡ messages_of senders
@@ -37,36 +38,33 @@ pub validated-le : (b : LogTerms) (counts : List ℕ) (senders : List SenderStat
 validated-le b counts senders balances p number is none =
     ∥∥₁_elim is.reached le_prop (λ r. after-Reached b (messages_of senders) counts r p number none)
 
--- messages that name accounts of the book, and one more
-known-with_message : (b : LogTerms) (messages : List MessageList) (p number : ℕ) (m : Message) → p < length messages
-    → number < length (list_of messages p) → IsMessageOn b.logs (length b.accounts) m → ((q k : ℕ) (other : Message) → message_of messages q k ≡ Some other → IsMessageOn b.logs (length b.accounts) other)
-    → (q k : ℕ) (other : Message) → message_of (with_message messages p number m) q k ≡ Some other → IsMessageOn b.logs (length b.accounts) other
-known-with_message b messages p number m listed inside known all q k other e =
+-- messages that name accounts of the book, where one more stands at a place or none
+known-with_place : (b : LogTerms) (messages : List MessageList) (p number : ℕ) (o : Option Message) → p < length messages
+    → number < length (list_of messages p) → ((m : Message) → o ≡ Some m → IsMessageOn b.logs (length b.accounts) m) → ((q k : ℕ) (other : Message) → message_of messages q k ≡ Some other → IsMessageOn b.logs (length b.accounts) other)
+    → (q k : ℕ) (other : Message) → message_of (with_place messages p number o) q k ≡ Some other → IsMessageOn b.logs (length b.accounts) other
+known-with_place b messages p number o listed inside known all q k other e =
     elim (cases_eq q p) as (λ _. IsMessageOn b.logs (length b.accounts) other) [
       | inl same ↦ elim (cases_eq k number) as (λ _. IsMessageOn b.logs (length b.accounts) other) [
         | inl last ↦
-            let new : message_of (with_message messages p number m) p number ≡ Some m = message_of-new messages p number m listed inside in
-            let there : message_of (with_message messages p number m) p number ≡ Some other =
-            ap (λ (i : ℕ). message_of (with_message messages p number m) i number) (sym same)
-            ∙ (ap (λ (i : ℕ). message_of (with_message messages p number m) q i) (sym last) ∙ e) in
-            let one : m ≡ other = cc (new, there) in
-            subst (IsMessageOn b.logs (length b.accounts)) one known
-        | inr apart ↦ all q k other (sym (message_of-other messages p number q k m listed (λ _. apart)) ∙ e)
+            let new : message_of (with_place messages p number o) p number ≡ o = message_of-here messages p number o listed inside in
+            let there : message_of (with_place messages p number o) p number ≡ Some other =
+            ap (λ (i : ℕ). message_of (with_place messages p number o) i number) (sym same)
+            ∙ (ap (λ (i : ℕ). message_of (with_place messages p number o) q i) (sym last) ∙ e) in
+            known other (sym new ∙ there)
+        | inr apart ↦ all q k other (sym (message_of-place messages p number q k o listed (λ _. apart)) ∙ e)
       ]
-      | inr apart ↦ all q k other (sym (message_of-other messages p number q k m listed (λ same. absurd (apart same))) ∙ e)
+      | inr apart ↦ all q k other (sym (message_of-place messages p number q k o listed (λ same. absurd (apart same))) ∙ e)
     ]
 
-pub IsProgress-stored : (b : LogTerms) (counts : List ℕ) (senders : List SenderState) (balances : List ℕ) (p number : ℕ) (m : Message) (new : SenderState)
-    → IsProgress b counts senders balances → p < b.logs → number < MESSAGES_MAX → message_of (messages_of senders) p number ≡ None → IsMessageOn b.logs (length b.accounts) m
-    → IsStored (sender_of senders p) number m new → IsProgress b counts (set senders p new) balances
-IsProgress-stored b counts senders balances p number m new is process within none known stored =
+pub IsProgress-stored : (b : LogTerms) (counts : List ℕ) (senders : List SenderState) (balances : List ℕ) (p number : ℕ) (o : Option Message) (new : SenderState)
+    → IsProgress b counts senders balances → p < b.logs → number < MESSAGES_MAX → get_or counts p 0 ≤ number → ((m : Message) → o ≡ Some m → IsMessageOn b.logs (length b.accounts) m)
+    → IsStored (sender_of senders p) number o new → IsProgress b counts (set senders p new) balances
+IsProgress-stored b counts senders balances p number o new is process within after known stored =
     let messages : List MessageList = messages_of senders in
     let inside_senders : p < length senders = omega (arith, is.sized, process) in
     let listed : p < length messages = omega (arith, inside_senders, length-messages_of senders) in
-    let after = validated-le b counts senders balances p number is none in
-    let here : message_at (sender_of senders p).messages number ≡ None = ap (λ (l : MessageList). message_at l number) (sym (list_of-messages_of senders p)) ∙ none in
     let inside : number < length (sender_of senders p).messages = omega (arith, (is.credits p process).messages, within) in
-    let same = messages_of-stored senders p number m new stored in
+    let same = messages_of-stored senders p number o new stored in
     record {
       book = is.book;
       counted = is.counted;
@@ -74,17 +72,17 @@ IsProgress-stored b counts senders balances p number m new is process within non
       credits = λ q q_in. elim (cases_eq q p) as (λ _. IsSender (length b.accounts) (get_or counts q 0) (sender_of (set senders p new) q)) [
         | inl e ↦ subst (λ (q : ℕ). IsSender (length b.accounts) (get_or counts q 0) (sender_of (set senders p new) q)) (sym e)
             (subst (IsSender (length b.accounts) (get_or counts p 0)) (sym (get_or-set_same senders p new no_sender inside_senders))
-            (IsSender-stored (length b.accounts) (get_or counts p 0) (sender_of senders p) number m new (is.credits p process) after inside here stored))
+            (IsSender-stored (length b.accounts) (get_or counts p 0) (sender_of senders p) number o new (is.credits p process) after inside stored))
         | inr apart ↦ subst (IsSender (length b.accounts) (get_or counts q 0)) (sym (get_or-set_other senders p q new no_sender apart)) (is.credits q q_in)
       ];
-      known = λ q k other e. known-with_message b messages p number m listed (omega (arith, inside, ap (λ (l : MessageList). length l) (list_of-messages_of senders p))) known is.known q k other
+      known = λ q k other e. known-with_place b messages p number o listed (omega (arith, inside, ap (λ (l : MessageList). length l) (list_of-messages_of senders p))) known is.known q k other
           (ap (λ (l : List MessageList). message_of l q k) (sym same) ∙ e);
       reached = subst (λ (l : List MessageList). ∥ Reached b l counts ∥₁) (sym same)
-          (∥∥₁_map is.reached (λ r. Reached-with_message b messages counts p number m listed process none r));
+          (∥∥₁_map is.reached (λ r. Reached-with_place b messages counts p number o listed process after r));
       balanced = is.balanced;
       balance = λ a a_in.
-          let credits = ap (λ (l : List MessageList). sum_of_first (message_credit a) l counts) same ∙ sum_of_first-with_message (message_credit a) messages counts p number m listed after in
-          let debits = ap (λ (l : List MessageList). sum_of_first (message_debit a) l counts) same ∙ sum_of_first-with_message (message_debit a) messages counts p number m listed after in
+          let credits = ap (λ (l : List MessageList). sum_of_first (message_credit a) l counts) same ∙ sum_of_first-with_place (message_credit a) messages counts p number o listed after in
+          let debits = ap (λ (l : List MessageList). sum_of_first (message_debit a) l counts) same ∙ sum_of_first-with_place (message_debit a) messages counts p number o listed after in
           omega (arith, credits, debits, is.balance a a_in);
       total = is.total;
     }
@@ -124,14 +122,6 @@ delivered-process messages p number m there =
       | inr past ↦
           let none : message_of messages p number ≡ None = ap (λ (l : MessageList). message_at l number) (get_or-eq_default messages [] past) in
           absurd (differ m (sym none ∙ there))
-    ]
-
--- and its number is in the list
-delivered-number : (list : MessageList) (number : ℕ) (m : Message) → message_at list number ≡ Some m → number < length list
-delivered-number list number m there =
-    elim (cases_lt number (length list)) as (λ _. number < length list) [
-      | inl inside ↦ inside
-      | inr past ↦ absurd (differ m (sym (get_or-eq_default list None past) ∙ there))
     ]
 
 alone : (q p : ℕ) → Some q ≡ Some p → q ≡ p
@@ -204,7 +194,7 @@ Stands-valid b counts senders balances p m is valid =
     record {
       process = omega (arith, listed, length-messages_of senders, is.sized);
       sender = omega (arith, listed, length-messages_of senders);
-      number = delivered-number (sender_of senders p).messages (get_or counts p 0) m here;
+      number = within-there (sender_of senders p).messages (get_or counts p 0) (ap is_some here);
       message = here;
       known = is.known p (get_or counts p 0) m valid.delivered;
     }

@@ -13,10 +13,18 @@ get_or-zeros (suc n) zero = refl
 get_or-zeros (suc n) (suc p) = get_or-zeros n p
 
 -- raising an entry leaves it where it was or one above
-one_more_of-le : (counts : List ℕ) (p : ℕ) → get_or (one_more_of counts p) p 0 ≤ get_or counts p 0 + 1
+pub one_more_of-le : (counts : List ℕ) (p : ℕ) → get_or (one_more_of counts p) p 0 ≤ get_or counts p 0 + 1
 one_more_of-le [] p = omega arith
 one_more_of-le (c ∷ counts) zero = omega arith
 one_more_of-le (c ∷ counts) (suc p) = one_more_of-le counts p
+
+-- and no other lower
+pub one_more_of-ge : (counts : List ℕ) (p k : ℕ) → get_or counts k 0 ≤ get_or (one_more_of counts p) k 0
+one_more_of-ge [] p k = omega arith
+one_more_of-ge (c ∷ counts) zero zero = omega arith
+one_more_of-ge (c ∷ counts) zero (suc k) = omega arith
+one_more_of-ge (c ∷ counts) (suc p) zero = omega arith
+one_more_of-ge (c ∷ counts) (suc p) (suc k) = one_more_of-ge counts p k
 
 -- a counted message: it was delivered, and its log debits its source
 pub record IsCounted (b : LogTerms) (messages : List MessageList) (p number : ℕ) : Type 0 where

@@ -1,30 +1,34 @@
 -- What is kept of one sender, after one more delivery and after one more validation.
-use Rattle.std.proofs.Common.{◌≡◌, ◌≢◌, ℕ, zero, suc, ◌+◌, ◌-◌, ◌*◌, ◌^◌, ◌<◌, ◌≤◌, List, [], ◌∷◌, ◌++◌, length, get_or, set, drop, None, Some, leb, cond, eqb, refl, ap, sym, subst, ◌∙◌, inl, inr, add-one, arith, eq-eqb, le-leb, length-append, length-set, length-drop, get_or-drop, get_or-set_same, get_or-set_other}
-use Rattle.at_broadcast.proofs.Prelude.{All, sum_by, cases_eq, nat_tests, at_drop_all, at_drop_more, drop-set-add, take-set-le, All-append, All-head, All-tail, sum_by-append, sum_by-cons, sum_by-drop_more, sum_by-set, AreTargetsOn, TargetPair, target_at, most_targets, Credit, Message, MESSAGES_MAX, CreditList, amount_since, credit_after, MessageList, amount_to, message_at, message_credit, times_named, times_to, AreCreditsTo, HasRoomFor, IsSender, IsStored, MakesRoom, SenderState, brought, credits_to, message_counted, no_credits, target_counted, with_one_credit}
+use Rattle.std.proofs.Common.{◌≡◌, ◌≢◌, ℕ, zero, suc, ◌+◌, ◌-◌, ◌*◌, ◌^◌, ◌<◌, ◌≤◌, List, [], ◌∷◌, ◌++◌, length, set, drop, Option, None, Some, leb, cond, eqb, refl, ap, sym, subst, ◌∙◌, inl, inr, add-one, arith, eq-eqb, le-leb, length-append, length-set, length-drop, get_or-set_same, get_or-set_other}
+use Rattle.at_broadcast.proofs.Prelude.{All, sum_by, cases_eq, at_drop_all, at_drop_more, drop-set-add, take-set-le, All-append, All-head, All-tail, sum_by-append, sum_by-cons, sum_by-drop_more, sum_by-set, AreTargetsOn, TargetPair, target_at, most_targets, Credit, Message, CreditList, amount_since, credit_after, MessageList, amount_to, message_at, message_credit, targets_in, times_named, times_to, AreCreditsTo, HasRoomFor, IsSender, IsStored, MakesRoom, SenderState, brought, credits_to, message_counted, no_credits, target_counted, with_one_credit}
 use Rattle.at_broadcast.proofs.CreditLaws.{amount_since-none}
 use Rattle.at_broadcast.proofs.MoveLaws.{amount_if, amount_if-other}
 use Rattle.at_broadcast.proofs.RangeLaws.{sum_by-take_more}
 
--- the same credits with room for so many more, after a message that names the account as often is delivered
-AreCreditsTo-stored : (messages : MessageList) (validated account : ℕ) (c after : CreditList) (number : ℕ) (m : Message)
-    → AreCreditsTo messages validated account c → validated ≤ number → number < length messages → message_at messages number ≡ None
-    → after.list ≡ c.list → c.room + times_to account m.targets ≤ after.room
-    → AreCreditsTo (set messages number (Some m)) validated account after
-AreCreditsTo-stored messages validated account c after number m are later within none same more =
+-- how often a message names an account is how many of its targets it is
+times_to-targets_in : (account : ℕ) (o : Option Message) → times_to account (targets_in o) ≡ times_named account o
+times_to-targets_in account None = refl
+times_to-targets_in account (Some m) = refl
+
+-- the same credits with room for so many more, after a message that names the account as often stands at a place
+AreCreditsTo-stored : (messages : MessageList) (validated account : ℕ) (c after : CreditList) (number : ℕ) (o : Option Message)
+    → AreCreditsTo messages validated account c → validated ≤ number → number < length messages
+    → after.list ≡ c.list → c.room + times_to account (targets_in o) ≤ after.room
+    → AreCreditsTo (set messages number o) validated account after
+AreCreditsTo-stored messages validated account c after number o are later within same more =
     let i : ℕ = number - validated in
     let split : validated + i ≡ number = omega arith in
     let rest : MessageList = drop validated messages in
     let inside : i < length rest = omega (arith, length-drop validated messages) in
-    let empty : get_or rest i None ≡ None = get_or-drop validated messages i None ∙ (ap (λ k. get_or messages k None) split ∙ none) in
-    let dropped : drop validated (set messages number (Some m)) ≡ set rest i (Some m) =
-    ap (λ k. drop validated (set messages k (Some m))) (sym split) ∙ drop-set-add validated messages i (Some m) in
-    let summed = sum_by-set (times_named account) rest i (Some m) None inside in
+    let dropped : drop validated (set messages number o) ≡ set rest i o =
+    ap (λ k. drop validated (set messages k o)) (sym split) ∙ drop-set-add validated messages i o in
+    let summed = sum_by-set (times_named account) rest i o None inside in
     record {
       earlier = subst (λ (l : List Credit). All (λ (c : Credit). c.number < validated) l) (sym same) are.earlier;
       few = omega (arith, are.few, ap (λ (l : List Credit). length l) same);
       since = λ count below.
-          let first = take-set-le count messages number (Some m) (omega arith) in
-          let whole = take-set-le validated messages number (Some m) later in
+          let first = take-set-le count messages number o (omega arith) in
+          let whole = take-set-le validated messages number o later in
           omega (
             arith,
             are.since count below,
@@ -32,17 +36,17 @@ AreCreditsTo-stored messages validated account c after number m are later within
             ap (λ l. sum_by (message_credit account) l) first,
             ap (λ l. sum_by (message_credit account) l) whole,
           );
-      room = omega (arith, more, are.room, summed, ap (times_named account) empty, ap (λ l. sum_by (times_named account) l) dropped);
+      room = omega (arith, more, are.room, summed, times_to-targets_in account o, ap (λ l. sum_by (times_named account) l) dropped);
     }
 
-pub IsSender-stored : (accounts validated : ℕ) (s : SenderState) (number : ℕ) (m : Message) (after : SenderState) → IsSender accounts validated s → validated ≤ number
-    → number < length s.messages → message_at s.messages number ≡ None → IsStored s number m after → IsSender accounts validated after
-IsSender-stored accounts validated s number m after is later within none stored = record {
-  messages = ap (λ (l : MessageList). length l) stored.messages ∙ (length-set s.messages number (Some m) ∙ is.messages);
+pub IsSender-stored : (accounts validated : ℕ) (s : SenderState) (number : ℕ) (o : Option Message) (after : SenderState) → IsSender accounts validated s → validated ≤ number
+    → number < length s.messages → IsStored s number o after → IsSender accounts validated after
+IsSender-stored accounts validated s number o after is later within stored = record {
+  messages = ap (λ (l : MessageList). length l) stored.messages ∙ (length-set s.messages number o ∙ is.messages);
   within = is.within;
   sized = stored.credits.sized ∙ is.sized;
   credits = λ a a_in. subst (λ (l : MessageList). AreCreditsTo l validated a (credits_to after a)) (sym stored.messages)
-      (AreCreditsTo-stored s.messages validated a (credits_to s a) (credits_to after a) number m (is.credits a a_in) later within none
+      (AreCreditsTo-stored s.messages validated a (credits_to s a) (credits_to after a) number o (is.credits a a_in) later within
       (stored.credits.kept a) (stored.credits.room a (omega (arith, a_in, is.sized))));
 }
 

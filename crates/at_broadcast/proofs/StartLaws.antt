@@ -1,5 +1,5 @@
 -- A node to which nothing was delivered; and what holds of the state that a node shows.
-use Rattle.std.proofs.Common.{◌≡◌, ℕ, zero, suc, ◌+◌, ◌*◌, ◌≤◌, List, [], ◌∷◌, length, get_or, map, replicate, take, sum, sum_by, Option, None, Some, refl, ap, sym, subst, ◌∙◌, inl, inr, arith}
+use Rattle.std.proofs.Common.{◌≡◌, ℕ, zero, suc, ◌+◌, ◌*◌, ◌≤◌, List, [], ◌∷◌, length, map, replicate, take, sum, sum_by, Option, None, Some, refl, ap, sym, subst, ◌∙◌, inl, inr, arith}
 use Rattle.at_broadcast.proofs.Prelude.{range_with_len, get_or-eq_default, get_or-map, cases_lt, get_or-replicate, length-map, length-replicate, sum_by-replicate, sum_by-cons, no_account_on_logs, LogAccount, LogTerms, IsLogBook, Message, MESSAGES_MAX, MessageList, list_of, message_at, message_credit, message_debit, message_of, no_messages, times_named, sum_of_first, IsSteady, IsProgress, messages_of, no_sender, sender_of, AreCreditsTo, IsSender, SenderState, brought, new_sender, no_credits, zeros}
 use Rattle.at_broadcast.proofs.FilledLaws.{get_or-replicated}
 use Rattle.at_broadcast.proofs.ProgressLaws.{differ, length-messages_of, list_of-messages_of}

@@ -1,6 +1,6 @@
 -- Sums over the first messages of each sender.
-use Rattle.std.proofs.Common.{◌≡◌, ◌≢◌, ℕ, ◌+◌, ◌<◌, ◌≤◌, List, [], length, get_or, set, take, Option, None, Some, ap, sym, subst, ◌∙◌, inl, inr, add-one, arith, length-set, get_or-set_same, get_or-set_other}
-use Rattle.at_broadcast.proofs.Prelude.{range_with_len, sum_by, cases_eq, take-set-le, Message, MessageList, list_of, message_of, sum_of_first, with_message, one_more_of}
+use Rattle.std.proofs.Common.{◌≡◌, ◌≢◌, ℕ, ◌+◌, ◌<◌, ◌≤◌, List, [], length, get_or, set, take, Option, None, ap, sym, subst, ◌∙◌, inl, inr, add-one, arith, length-set, get_or-set_same, get_or-set_other}
+use Rattle.at_broadcast.proofs.Prelude.{range_with_len, sum_by, cases_eq, take-set-le, Message, MessageList, list_of, message_of, sum_of_first, with_place, one_more_of}
 use Rattle.at_broadcast.proofs.RangeLaws.{range-le, range-one, range-same, sum_by-take_le, sum_by-take_more}
 
 -- the sum over the first messages of one sender
@@ -34,23 +34,23 @@ sum_of_first-one_more_of weight messages counts p none known counted =
     (λ q apart. ap (λ k. sum_by weight (take k (list_of messages q))) (get_or-set_other counts p q (c + 1) 0 apart))
 
 -- the list of a sender after one more delivery
-pub list_of-other : (messages : List MessageList) (p number q : ℕ) (m : Message) → q ≢ p → list_of (with_message messages p number m) q ≡ list_of messages q
-list_of-other messages p number q m apart = get_or-set_other messages p q (set (list_of messages p) number (Some m)) [] apart
+pub list_of-other : (messages : List MessageList) (p number q : ℕ) (o : Option Message) → q ≢ p → list_of (with_place messages p number o) q ≡ list_of messages q
+list_of-other messages p number q o apart = get_or-set_other messages p q (set (list_of messages p) number o) [] apart
 
-pub list_of-same : (messages : List MessageList) (p number : ℕ) (m : Message) → p < length messages
-    → list_of (with_message messages p number m) p ≡ set (list_of messages p) number (Some m)
-list_of-same messages p number m known = get_or-set_same messages p (set (list_of messages p) number (Some m)) [] known
+pub list_of-same : (messages : List MessageList) (p number : ℕ) (o : Option Message) → p < length messages
+    → list_of (with_place messages p number o) p ≡ set (list_of messages p) number o
+list_of-same messages p number o known = get_or-set_same messages p (set (list_of messages p) number o) [] known
 
--- a delivery after the counted messages
-pub sum_of_first-with_message : (weight : Option Message → ℕ) (messages : List MessageList) (counts : List ℕ) (p number : ℕ) (m : Message)
-    → p < length messages → get_or counts p 0 ≤ number → sum_of_first weight (with_message messages p number m) counts ≡ sum_of_first weight messages counts
-sum_of_first-with_message weight messages counts p number m known after =
-    ap (λ n. sum_by (part weight (with_message messages p number m) counts) (range_with_len 0 n)) (length-set messages p (set (list_of messages p) number (Some m)))
-    ∙ range-same (part weight (with_message messages p number m) counts) (part weight messages counts) 0 (length messages)
-    (λ q low high. elim (cases_eq q p) as (λ _. part weight (with_message messages p number m) counts q ≡ part weight messages counts q) [
+-- what stands after the counted messages
+pub sum_of_first-with_place : (weight : Option Message → ℕ) (messages : List MessageList) (counts : List ℕ) (p number : ℕ) (o : Option Message)
+    → p < length messages → get_or counts p 0 ≤ number → sum_of_first weight (with_place messages p number o) counts ≡ sum_of_first weight messages counts
+sum_of_first-with_place weight messages counts p number o known after =
+    ap (λ n. sum_by (part weight (with_place messages p number o) counts) (range_with_len 0 n)) (length-set messages p (set (list_of messages p) number o))
+    ∙ range-same (part weight (with_place messages p number o) counts) (part weight messages counts) 0 (length messages)
+    (λ q low high. elim (cases_eq q p) as (λ _. part weight (with_place messages p number o) counts q ≡ part weight messages counts q) [
       | inl same ↦
-          subst (λ (q : ℕ). part weight (with_message messages p number m) counts q ≡ part weight messages counts q) (sym same)
-          (ap (λ (l : MessageList). sum_by weight (take (get_or counts p 0) l)) (list_of-same messages p number m known)
-          ∙ ap (λ (l : MessageList). sum_by weight l) (take-set-le (get_or counts p 0) (list_of messages p) number (Some m) after))
-      | inr apart ↦ ap (λ (l : MessageList). sum_by weight (take (get_or counts q 0) l)) (list_of-other messages p number q m apart)
+          subst (λ (q : ℕ). part weight (with_place messages p number o) counts q ≡ part weight messages counts q) (sym same)
+          (ap (λ (l : MessageList). sum_by weight (take (get_or counts p 0) l)) (list_of-same messages p number o known)
+          ∙ ap (λ (l : MessageList). sum_by weight l) (take-set-le (get_or counts p 0) (list_of messages p) number o after))
+      | inr apart ↦ ap (λ (l : MessageList). sum_by weight (take (get_or counts q 0) l)) (list_of-other messages p number q o apart)
     ])

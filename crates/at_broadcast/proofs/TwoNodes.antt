@@ -1,6 +1,6 @@
 -- A node that was given more, and two nodes that read the same logs.
 use Rattle.std.proofs.Common.{◌≡◌, ℕ, zero, suc, ◌+◌, ◌<◌, ◌≤◌, ℤ, pos, ◌-ℤ◌, ◌≤ℤ◌, List, length, get_or, take, Option, None, Some, IsSome, refl, ap, sym, subst, ◌∙◌, arith, get_or-set_same}
-use Rattle.at_broadcast.proofs.Prelude.{range_with_len, sum_by, le_prop, ∥∥₁_elim, ℕ_set, same_number_lists, amount_of, LogTerms, account_on_logs, Message, MessageList, list_of, message_credit, message_debit, message_of, sum_of_first, IsNode, NodeState, Extends, Follows, IsFinal, IsMadeAt, KeepsUp, ReadSame, SharesBalances, SharesPrefixes, IsValid, Reached, balance_at, came, one_more_of, went, zeros, raise}
+use Rattle.at_broadcast.proofs.Prelude.{range_with_len, sum_by, le_prop, ∥∥₁_elim, ℕ_set, same_number_lists, amount_of, LogTerms, account_on_logs, Message, MessageList, list_of, message_credit, message_debit, message_of, sum_of_first, IsNode, NodeState, Extends, IsFinal, KeepsUp, SharesBalances, SharesPrefixes, IsValid, Reached, balance_at, came, one_more_of, went, zeros, raise}
 use Rattle.at_broadcast.proofs.BalanceLaws.{balance_at-covers}
 use Rattle.at_broadcast.proofs.NodeLaws.{HasPrefixes-IsNode}
 use Rattle.at_broadcast.proofs.RangeLaws.{range-same, sum_by-take_more}

@@ -1,5 +1,5 @@
 -- The messages that were delivered, and what they move.
-use Rattle.std.specs.Prelude.{◌≡◌, ℕ, ◌==◌, ◌-◌, ◌<◌, ◌≤◌, ◌++◌, List, [], length, take, replicate, sum_by, slice_index, slice_index_or, slice_set, Option, Some, None, if◌then◌else◌}
+use Rattle.std.specs.Prelude.{◌≡◌, ℕ, ◌==◌, ◌+◌, ◌-◌, ◌<◌, ◌≤◌, ◌++◌, List, [], ◌∷◌, length, take, replicate, sum_by, slice_index, slice_index_or, slice_set, Option, Some, None, if◌then◌else◌}
 use Rattle.at_broadcast.specs.Prelude.{range_with_len, AreTargetsOn, TargetPair, amount_of, most_targets}
 use Rattle.at_broadcast.specs.declared.message.Message.{Message}
 use Rattle.at_broadcast.specs.declared.message.TheConstants.{MESSAGES_MAX}
@@ -28,9 +28,18 @@ message_at list number = slice_index_or list number None
 abbrev pub message_of : List MessageList → ℕ → ℕ → Option Message
 message_of messages p number = message_at (list_of messages p) number
 
+-- the lists where this stands at a number of a log
+abbrev pub with_place : List MessageList → ℕ → ℕ → Option Message → List MessageList
+with_place messages p number o = slice_set messages p (slice_set (list_of messages p) number o)
+
 -- the lists with one more message
 abbrev pub with_message : List MessageList → ℕ → ℕ → Message → List MessageList
-with_message messages p number m = slice_set messages p (slice_set (list_of messages p) number (Some m))
+with_message messages p number m = with_place messages p number (Some m)
+
+-- the lists with more messages of a log, from a number on
+abbrev pub with_messages : List MessageList → ℕ → ℕ → List Message → List MessageList
+with_messages messages p number [] = messages
+with_messages messages p number (m ∷ others) = with_messages (with_message messages p number m) p (number + 1) others
 
 -- what targets bring to an account
 abbrev pub amount_to : ℕ → List TargetPair → ℕ
@@ -54,6 +63,15 @@ message_debit account (Some m) = if m.from == account then amount_of m.targets e
 abbrev pub sum_of_first : (Option Message → ℕ) → List MessageList → List ℕ → ℕ
 sum_of_first weight messages counts =
     sum_by (λ p. sum_by weight (take (slice_index counts p) (list_of messages p))) (range_with_len 0 (length messages))
+
+-- none of so many messages of a log, from a number on, was delivered
+abbrev pub IsUndelivered : List MessageList → ℕ → ℕ → ℕ → Type 0
+IsUndelivered messages p number count = (k : ℕ) → k < count → message_of messages p (number + k) ≡ None
+
+-- the targets of a message
+abbrev pub targets_in : Option Message → List TargetPair
+targets_in None = []
+targets_in (Some m) = m.targets
 
 -- how often a message names the account as a target
 abbrev pub times_named : ℕ → Option Message → ℕ

@@ -1,8 +1,8 @@
 -- What a node has of one sender.
-use Rattle.std.specs.Prelude.{◌≡◌, ℕ, ◌+◌, ◌-◌, ◌*◌, ◌^◌, ◌<◌, ◌≤◌, ◌++◌, List, [], ◌∷◌, length, replicate, take, drop, sum_by, slice_index_or, slice_set, All, Some}
+use Rattle.std.specs.Prelude.{◌≡◌, ℕ, ◌+◌, ◌-◌, ◌*◌, ◌^◌, ◌<◌, ◌≤◌, ◌++◌, List, [], ◌∷◌, length, replicate, take, drop, sum_by, slice_index_or, slice_set, All, Option}
 use Rattle.at_broadcast.specs.Prelude.{TargetPair, most_targets}
 use Rattle.at_broadcast.specs.Credits.{CreditList, amount_since, credit_after}
-use Rattle.at_broadcast.specs.Messages.{MessageList, message_credit, no_messages, times_named, times_to}
+use Rattle.at_broadcast.specs.Messages.{MessageList, message_credit, no_messages, targets_in, times_named, times_to}
 use Rattle.at_broadcast.specs.declared.message.Message.{Message}
 use Rattle.at_broadcast.specs.declared.message.TheConstants.{MESSAGES_MAX}
 
@@ -33,10 +33,10 @@ pub record MakesRoom (targets : List TargetPair) (before after : SenderState) : 
   pub room : (account : ℕ) → account < length before.credits
       → (credits_to before account).room + times_to account targets ≤ (credits_to after account).room
 
--- one more message is delivered, and there is room for what it brings
-pub record IsStored (before : SenderState) (number : ℕ) (m : Message) (after : SenderState) : Type 0 where
-  pub messages : after.messages ≡ slice_set before.messages number (Some m)
-  pub credits : MakesRoom m.targets before after
+-- this stands at a number, and there is room for what it brings
+pub record IsStored (before : SenderState) (number : ℕ) (o : Option Message) (after : SenderState) : Type 0 where
+  pub messages : after.messages ≡ slice_set before.messages number o
+  pub credits : MakesRoom (targets_in o) before after
 
 -- there is room for what a message of this number brings to its targets, and none of a later one is counted
 pub record HasRoomFor (targets : List TargetPair) (number : ℕ) (s : SenderState) : Type 0 where

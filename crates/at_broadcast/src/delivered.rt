@@ -1,6 +1,6 @@
 //! The messages of one log by number.
 
-ghost use Rattle.std.specs.Prelude.{◌≡◌, ◌<◌, ◌≤◌, length, slice_set, Some, OnOk, OnErr, option_copied};
+ghost use Rattle.std.specs.Prelude.{◌≡◌, ◌<◌, ◌≤◌, length, slice_set, None, Some, IsSome, OnOk, OnErr, option_copied};
 ghost use Rattle.at_broadcast.specs.Messages.{filled, message_at, no_messages};
 ghost use Rattle.at_broadcast.specs.declared.message.TheConstants.{MESSAGES_MAX};
 
@@ -52,6 +52,14 @@ impl Delivered {
         fill(&mut self.list, number)?;
         self.list[number as usize] = Some(message.copy());
         Ok(())
+    }
+
+    /// Lets a message go.
+    pub(crate) fn remove(&mut self, number: u32)
+        requires { IsSome (message_at self.old number) }
+        ensures { self.new ≡ slice_set self.old number None }
+    {
+        self.list[number as usize] = None;
     }
 }
 

@@ -1,8 +1,8 @@
 //! A node.
 
-ghost use Rattle.std.specs.Prelude.{◌≡◌, ◌<◌, ◌↔◌, length, pos, slice_index, sum, true, false, None, Ok, IsTrue, IfOk, OnErr};
+ghost use Rattle.std.specs.Prelude.{◌≡◌, ◌<◌, ◌↔◌, ◌+◌, ◌≤◌, All, length, pos, slice_index, sum, true, false, None, Ok, IsTrue, IfOk, OnOk, OnErr, option_copied};
 ghost use Rattle.at_broadcast.specs.LogBook.{account_on_logs, total_on_logs};
-ghost use Rattle.at_broadcast.specs.Messages.{IsMessageOn, message_of, with_message};
+ghost use Rattle.at_broadcast.specs.Messages.{IsMessageOn, IsUndelivered, message_of, with_message, with_messages};
 ghost use Rattle.at_broadcast.specs.Validated.{IsClosed, IsOnlyClosed, balance_at};
 ghost use Rattle.at_broadcast.specs.declared.message.TheConstants.{MESSAGES_MAX};
 
@@ -88,6 +88,26 @@ impl Node {
         Ok(true)
     }
 
+    /// Takes messages of a log from this number on, all of them or, for want of memory, none, and validates all that they make valid.
+    pub fn deliver_all(
+        &mut self,
+        log: u32,
+        number: u32,
+        messages: &[Message],
+    ) -> Result<(), AllocError>
+        requires log_in { log < self.old.book.logs }
+        requires number_in { number + length messages.now ≤ MESSAGES_MAX }
+        requires undelivered { IsUndelivered self.old.messages log number (length messages.now) }
+        requires messages_in { All (IsMessageOn self.old.book.logs (length self.old.book.accounts)) messages.now }
+        ensures delivered { OnOk result (self.new.messages ≡ with_messages self.old.messages log number messages.now) }
+        ensures book { self.new.book ≡ self.old.book }
+        ensures err { OnErr result (self.new ≡ self.old) }
+    {
+        self.progress.store_all(log, number, messages)?;
+        self.progress.settle();
+        Ok(())
+    }
+
     /// Tells a proof what holds of the node beside any other of the same logs. It does nothing when it runs.
     pub fn known(&self)
         ensures node { IsNode self.now }
@@ -120,6 +140,14 @@ impl Node {
         ensures node { IsNode self.now }
     {
         self.progress.validated(p)
+    }
+
+    /// The message of a log and number, if it was delivered.
+    pub fn message(&self, log: u32, number: u32) -> Option<&Message>
+        requires { log < self.now.book.logs }
+        ensures { option_copied result ≡ message_of self.now.messages log number }
+    {
+        self.progress.message(log, number)
     }
 
     /// How many messages of each log are validated.

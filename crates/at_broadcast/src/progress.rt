@@ -1,9 +1,9 @@
 //! How far a node is.
 
-ghost use Rattle.std.specs.Prelude.{◌≡◌, ◌+◌, ◌≤◌, ◌<◌, ◌^◌, ◌↔◌, ℕ, pos, ◌≤ℤ◌, [], ◌∷◌, length, map, replicate, slice_index, sum, None, Some, IsTrue, IfOk, OnOk, OnErr, IfSome, IfNone, is_some};
+ghost use Rattle.std.specs.Prelude.{◌≡◌, ◌+◌, ◌≤◌, ◌<◌, ◌^◌, ◌↔◌, ℕ, pos, ◌≤ℤ◌, [], ◌∷◌, length, map, replicate, slice_index, sum, None, Some, IsTrue, IfOk, OnOk, OnErr, All, IsSome, IfSome, IfNone, is_some, option_copied};
 ghost use Rattle.at_broadcast.specs.Prelude.{Covers, AreTargetsOn, amount_of, credited};
 ghost use Rattle.at_broadcast.specs.LogBook.{IsLogBook, account_on_logs};
-ghost use Rattle.at_broadcast.specs.Messages.{IsMessageOn, message_credit, message_of, sum_of_first, with_message};
+ghost use Rattle.at_broadcast.specs.Messages.{IsMessageOn, IsUndelivered, message_credit, message_of, sum_of_first, with_message, with_messages, with_place};
 ghost use Rattle.at_broadcast.specs.Sender.{new_sender};
 ghost use Rattle.at_broadcast.specs.Validated.{IsValid, balance_at, one_more_of};
 ghost use Rattle.at_broadcast.specs.declared.message.Message.{Message};
@@ -113,12 +113,20 @@ impl Progress {
         self.balances[account as usize]
     }
 
-    /// Whether the message of this sender and number was delivered.
+    /// The message of this sender and number, if it was delivered.
+    pub(crate) fn message(&self, sender: u32, number: u32) -> Option<&Message>
+        requires { sender < self.now.book.logs }
+        ensures { option_copied result ≡ message_of self.now.messages sender number }
+    {
+        self.senders[sender as usize].message(number)
+    }
+
+    /// Whether it was.
     pub(crate) fn is_delivered(&self, sender: u32, number: u32) -> bool
         requires { sender < self.now.book.logs }
         ensures { result ≡ is_some (message_of self.now.messages sender number) }
     {
-        self.senders[sender as usize].message(number).is_some()
+        self.message(sender, number).is_some()
     }
 
     /// Keeps a message. What its validation takes memory for is made room for here.
@@ -138,6 +146,44 @@ impl Progress {
         ensures err { OnErr result (self.new ≡ self.old) }
     {
         self.senders[sender as usize].store(number, message)
+    }
+
+    /// Lets a message go that isn't validated.
+    fn remove(&mut self, sender: u32, number: u32)
+        requires sender_in { sender < self.old.book.logs }
+        requires later { slice_index self.old.validated sender ≤ number }
+        requires there { IsSome (message_of self.old.messages sender number) }
+        ensures { self.new ≡ record self.old { messages = with_place self.old.messages sender number None } }
+    {
+        self.senders[sender as usize].remove(number);
+    }
+
+    /// Keeps messages of a sender, from this number on, all or none of them.
+    pub(crate) fn store_all(
+        &mut self,
+        sender: u32,
+        number: u32,
+        messages: &[Message],
+    ) -> Result<(), AllocError>
+        requires sender_in { sender < self.old.book.logs }
+        requires number_in { number + length messages.now ≤ MESSAGES_MAX }
+        requires undelivered { IsUndelivered self.old.messages sender number (length messages.now) }
+        requires messages_in { All (IsMessageOn self.old.book.logs (length self.old.book.accounts)) messages.now }
+        ensures ok { OnOk result
+            (self.new ≡ record self.old
+            { messages = with_messages self.old.messages sender number messages.now }) }
+        ensures err { OnErr result (self.new ≡ self.old) }
+    {
+        let _kept = &self.validated;
+        let [message, others @ ..] = messages else {
+            return Ok(());
+        };
+        self.store(sender, number, message)?;
+        if let Err(error) = self.store_all(sender, number + 1, others) {
+            self.remove(sender, number);
+            return Err(error);
+        }
+        Ok(())
     }
 
     /// Validates a message that is valid next. Takes no memory.

@@ -1,6 +1,6 @@
 //! What a node has of one sender.
 
-ghost use Rattle.std.specs.Prelude.{◌≡◌, ◌+◌, ◌*◌, ◌^◌, ◌<◌, ◌≤◌, [], length, replicate, All, IfOk, OnOk, OnErr, option_copied};
+ghost use Rattle.std.specs.Prelude.{◌≡◌, ◌+◌, ◌*◌, ◌^◌, ◌<◌, ◌≤◌, [], length, replicate, All, None, Some, IsSome, IfOk, OnOk, OnErr, option_copied};
 ghost use Rattle.at_broadcast.specs.Credits.{amount_since};
 ghost use Rattle.at_broadcast.specs.Sender.{no_credits};
 ghost use Rattle.at_broadcast.specs.declared.message.TheConstants.{MESSAGES_MAX};
@@ -55,12 +55,20 @@ impl Sender {
     pub(crate) fn store(&mut self, number: u32, message: &Message) -> Result<(), AllocError>
         requires number { number < MESSAGES_MAX }
         requires targets { AreTargetsOn (length self.old.credits) message.now.targets }
-        ensures ok { OnOk result (IsStored self.old number message.now self.new) }
+        ensures ok { OnOk result (IsStored self.old number (Some message.now) self.new) }
         ensures messages { OnErr result (self.new.messages ≡ self.old.messages) }
         ensures err { OnErr result (MakesRoom [] self.old self.new) }
     {
         self.make_room(&message.targets)?;
         self.messages.put(number, message)
+    }
+
+    /// Lets a message go that isn't validated.
+    pub(crate) fn remove(&mut self, number: u32)
+        requires { IsSome (message_at self.old.messages number) }
+        ensures { IsStored self.old number None self.new }
+    {
+        self.messages.remove(number);
     }
 
     /// Makes room for a credit to each target. Where memory runs out some of it is made.

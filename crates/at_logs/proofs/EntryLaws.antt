@@ -1,6 +1,6 @@
 -- An entry is read from its bytes, and from no others.
-use Rattle.std.proofs.Common.{◌≡◌, ◌↔◌, ℕ, ◌+◌, ◌^◌, ◌<◌, ◌≤◌, List, [], length, get_or, Option, Some, Result, Ok, Err, IfOk, refl, ◌∙◌}
-use Rattle.at_logs.proofs.Prelude.{All-from_recursion, recursion_from_All, AreBytes, EntryMessage, EntryTerms, HasMessageBytes, Head, IsEntryOn, IsMessageOn, AreTargetsOn, TargetPair, entry_bytes, head_bytes, length-set, message_bytes, message_in_log, most_in_entry, most_targets, target_bytes, entry_version, read_entry, read_head, read_message, read_target, read_whole}
+use Rattle.std.proofs.Common.{◌≡◌, ◌↔◌, ℕ, ◌+◌, ◌^◌, ◌<◌, ◌≤◌, List, [], length, get_or, Option, Some, Result, Ok, Err, IfOk, refl, sym, subst, ◌∙◌, arith}
+use Rattle.at_logs.proofs.Prelude.{All, All-from_recursion, get_or-map-range_with_len, length-map-range_with_len, recursion_from_All, AreBytes, EntryMessage, EntryTerms, HasMessageBytes, Head, IsEntryOn, IsMessageOn, AreTargetsOn, TargetPair, entry_bytes, head_bytes, length-set, message_bytes, message_in_log, messages_in_log, most_in_entry, most_targets, target_bytes, entry_version, read_entry, read_head, read_message, read_target, read_whole}
 use Rattle.at_logs.proofs.ReaderLaws.{AreListed, AreSoMany, IsBytes, Reads, Reads-after, Reads-below, Reads-items, Reads-listed, Reads-made, Reads-pair, Reads-raw, Reads-u32, Reads-u64, reads_whole}
 
 -- a target that has bytes
@@ -131,3 +131,9 @@ IsMessageOn-in_log logs accounts processes e log i within is =
       few = (is.bytes.messages i none within).few;
       deps = length-set e.deps log (get_or e.deps log 0 + i) ∙ is.names.deps;
     }
+
+pub All-in_log : (logs accounts processes : ℕ) (e : EntryTerms) (log : ℕ) → IsEntryOn logs accounts processes e → All (IsMessageOn logs accounts) (messages_in_log e log)
+All-in_log logs accounts processes e log is k d within =
+    let inside : k < length e.messages = omega (arith, within, length-map-range_with_len (message_in_log e log) 0 (length e.messages)) in
+    subst (IsMessageOn logs accounts) (sym (get_or-map-range_with_len (message_in_log e log) 0 (length e.messages) k k d inside (omega arith)))
+    (IsMessageOn-in_log logs accounts processes e log k inside is)

@@ -3,34 +3,38 @@ pub use Rattle.std.proofs.Math.Bridge.{le_prop}
 pub use Rattle.std.proofs.Math.Logic.{∥∥₁_elim}
 pub use Rattle.std.proofs.lemmas.Bool.{cases_eq, cases_lt, eq-eqb, eqb-false, eqb-true, le-ltb, lt-ltb, ltb-false, ltb-true}
 pub use Rattle.std.proofs.lemmas.Bool.Decides.{eqb_tells}
-pub use Rattle.std.proofs.lemmas.List.{append-nil, drop_at, get_or-append-add, get_or-drop, get_or-replicate, get_or-take, get_or_default, get_or_past, get_or_read, length-append, length-map, length-replicate, length-set, length-take, nil_from_length, take-append-drop, take_all, take_at, take_more_set}
-pub use Rattle.std.proofs.lemmas.List.FromFn.{length-range_with_len, map-range_with_len_more}
+pub use Rattle.std.proofs.lemmas.List.{append-nil, drop_at, get_or-append-add, get_or-drop, get_or-replicate, get_or-take, get_or_default, get_or_past, get_or_read, length-append, length-map, length-replicate, length-set, length-take, nil_from_length, set-get_or, take-append-drop, take_all, take_at, take_more_set}
+pub use Rattle.std.proofs.lemmas.List.FromFn.{get_or-map-range_with_len, length-map-range_with_len, length-range_with_len, map-range_with_len_more}
 pub use Rattle.std.proofs.lemmas.List.Sums.{sum_by-append, sum_by-cons, sum_by_more}
 pub use Rattle.std.proofs.lemmas.List.Elements.{All-from_recursion, recursion_from_All}
 pub use Rattle.std.proofs.lemmas.Nat.{be_bytes_4, be_bytes_8, from_be_bytes-to_be_bytes_4, from_be_bytes-to_be_bytes_8}
 pub use Rattle.std.proofs.lemmas.Option.{cond_some, same_Some}
 pub use Rattle.std.specs.List.{All, AllByRecursion, flat_map, range_with_len}
-pub use Rattle.at_broadcast.proofs.MessageLaws.{message_of-new, message_of-other}
+pub use Rattle.at_broadcast.proofs.MessageLaws.{message_of-listed, message_of-unlisted}
 pub use Rattle.at_base.specs.Counts.{Covers}
-pub use Rattle.at_broadcast.proofs.ReachedLaws.{IsCounted, IsCounted-Reached, get_or-zeros}
+pub use Rattle.at_broadcast.proofs.ReachedLaws.{IsCounted, IsCounted-Reached, get_or-zeros, one_more_of-ge, one_more_of-le}
+pub use Rattle.at_broadcast.proofs.NodeLaws.{AgreesWithAll-IsNode, IsClosed-IsNode, IsSolvent-IsNode, ShowsBalances-IsNode}
 pub use Rattle.at_broadcast.proofs.StartLaws.{none-start}
-pub use Rattle.at_broadcast.specs.LogBook.{LogTerms}
-pub use Rattle.at_broadcast.specs.Messages.{IsMessageOn, MessageList, message_of, no_messages, with_message}
+pub use Rattle.at_broadcast.proofs.TwoNodes.{IsFinal-IsNode, KeepsUp-IsNode, SharesBalances-IsNode, SharesPrefixes-IsNode}
+pub use Rattle.at_broadcast.specs.LogBook.{LogTerms, most_logs}
+pub use Rattle.at_broadcast.specs.Messages.{IsMessageOn, IsUndelivered, MessageList, message_of, no_messages, with_messages}
 pub use Rattle.at_broadcast.specs.Node.{IsNode, NodeState, starting_state}
-pub use Rattle.at_broadcast.specs.TwoNodes.{IsFinal}
 pub use Rattle.at_broadcast.specs.Validated.{Reached, one_more_of}
 pub use Rattle.at_broadcast.specs.Validated.Reached.{raise, zeros}
-pub use Rattle.at_broadcast.specs.declared.message.TheConstants.{MESSAGES_MAX}
 pub use Rattle.at_broadcast.specs.declared.log_book.LogAccount.{LogAccount}
 pub use Rattle.at_broadcast.specs.declared.message.Message.{Message}
 pub use Rattle.at_ledger.specs.Account.{AccountTerms, is_shared, no_account}
 pub use Rattle.at_ledger.specs.Book.{BookTerms, account_of}
 pub use Rattle.at_ledger.specs.Call.{AreTargetsOn, TargetPair}
-pub use Rattle.at_logs.specs.Draft.{IsDraft, IsFinalAt}
-pub use Rattle.at_logs.specs.Logs.{log_account, shared_among}
-pub use Rattle.at_logs.specs.Reading.{CanPay, ComesNext, IsReading, ReadingState, opened_node}
+pub use Rattle.at_logs.specs.Draft.{CanPay, IsDraft, payment_entry}
+pub use Rattle.at_logs.specs.Answers.{ComesNext, IsAnswerAt, IsOneAnswer, IsSource, tail_after}
+pub use Rattle.at_logs.specs.Logs.{log_account, logs_of, shared_among}
+pub use Rattle.at_logs.specs.Reading.{IsReading, IsTail, ReadingState, no_tail, opened_node, tail_of}
+pub use Rattle.at_logs.specs.declared.node.Answer.{Answer}
+pub use Rattle.at_logs.specs.declared.node.Answer.TheVariants.{Taken, NotAnEntry, Forked, Gap, Again}
 pub use Rattle.at_logs.specs.declared.node.Draft.{Draft}
-pub use Rattle.at_logs.specs.Entry.{AreBytes, EntryTerms, HasMessageBytes, IsEntryOn, entry_bytes, entry_version, head_bytes, listed_bytes, message_bytes, message_in_log, most_in_entry, target_bytes}
+pub use Rattle.at_logs.specs.declared.tail.Tail.{Tail}
+pub use Rattle.at_logs.specs.Entry.{AreBytes, EntryTerms, HasBytes, HasMessageBytes, IsEntryOn, entry_bytes, entry_version, head_bytes, listed_bytes, message_bytes, message_in_log, messages_in_log, most_in_entry, target_bytes}
 pub use Rattle.at_logs.specs.Readers.{Reader, ◌>>=◌, read_after, read_below, read_listed, read_made, read_number, read_pair, read_raw, read_whole}
 unfoldable pub use Rattle.at_logs.specs.Readers.{read_items, read_target, read_message, read_head, read_entry}
 pub use Rattle.at_logs.specs.declared.entry.EntryMessage.{EntryMessage}

@@ -1,108 +1,121 @@
--- One message more of a log is read.
-use Rattle.std.proofs.Common.{◌≡◌, ◌↔◌, ℕ, zero, suc, ◌+◌, ◌<◌, ◌≤◌, Bool, true, IsTrue, List, [], ◌∷◌, length, get_or, set, replicate, Option, None, Some, refl, add-one, ap, sym, subst, ◌∙◌, inl, inr, arith, length-set, get_or-set_same, get_or-set_other}
-use Rattle.at_logs.proofs.Prelude.{cases_eq, cases_lt, le_prop, ∥∥₁_elim, get_or-replicate, get_or-zeros, length-replicate, same_Some, Covers, ComesNext, IsCounted, IsCounted-Reached, MESSAGES_MAX, Reached, raise, zeros, TargetPair, LogTerms, MessageList, message_of, no_messages, with_message, IsNode, NodeState, starting_state, IsFinal, one_more_of, Message, message_of-new, message_of-other, none-start, IsDraft, IsFinalAt, CanPay, IsReading, ReadingState, opened_node, Draft}
+-- One entry more of a log is read.
+use Rattle.std.proofs.Common.{◌≡◌, ℕ, zero, suc, ◌+◌, ◌-◌, ◌<◌, ◌≤◌, List, length, get_or, set, replicate, Option, None, Some, refl, add-one, ap, sym, subst, ◌∙◌, inl, inr, arith, length-set, get_or-set_same, get_or-set_other}
+use Rattle.at_logs.proofs.Prelude.{cases_eq, cases_lt, le_prop, ∥∥₁_elim, get_or-map-range_with_len, get_or-replicate, get_or-zeros, length-map-range_with_len, length-replicate, one_more_of-ge, one_more_of-le, same_Some, BookTerms, Covers, ComesNext, EntryTerms, IsCounted, IsCounted-Reached, IsUndelivered, Reached, raise, zeros, LogTerms, MessageList, message_in_log, message_of, message_of-listed, message_of-unlisted, messages_in_log, no_messages, with_messages, IsNode, NodeState, starting_state, one_more_of, Message, none-start, IsReading, IsTail, ReadingState, Tail, log_account, logs_of, no_tail, opened_node, tail_after, tail_of}
 
--- the next number is no number of the log before it
-unread-more : (s : ReadingState) (log : ℕ) (m : Message) → IsReading s → log < s.node.book.logs → (p number : ℕ)
-    → get_or (one_more_of s.read log) p 0 ≤ number → message_of (with_message s.node.messages log (get_or s.read log 0) m) p number ≡ None
-unread-more s log m is known p number after =
-    let next : ℕ = get_or s.read log 0 in
-    let listed : log < length s.node.messages = omega (arith, known, is.node.steady.sized) in
-    elim (cases_eq p log) as (λ _. message_of (with_message s.node.messages log next m) p number ≡ None) [
-      | inl same ↦
-          let more : get_or (one_more_of s.read log) p 0 ≡ next + 1 =
-          ap (λ k. get_or (one_more_of s.read log) k 0) same ∙ get_or-set_same s.read log (next + 1) 0 (omega (arith, known, is.sized)) in
-          message_of-other s.node.messages log next p number m listed (λ _ e. omega (arith, e, more, after))
-          ∙ is.unread p number (omega (arith, more, after, ap (λ k. get_or s.read k 0) same))
-      | inr apart ↦
-          message_of-other s.node.messages log next p number m listed (λ e. absurd (apart e))
-          ∙ is.unread p number (omega (arith, after, get_or-set_other s.read log p (next + 1) 0 apart))
-    ]
+pub length-messages_in_log : (e : EntryTerms) (log : ℕ) → length (messages_in_log e log) ≡ length e.messages
+length-messages_in_log e log = length-map-range_with_len (message_in_log e log) 0 (length e.messages)
 
--- the last `deps` of a log are those of the message before the next number
-later-more : (s : ReadingState) (log : ℕ) (m : Message) → IsReading s → log < s.node.book.logs → get_or s.read log 0 < MESSAGES_MAX → (p number : ℕ) (x : Message) → p < s.node.book.logs
-    → get_or (one_more_of s.read log) p 0 ≡ number + 1 → message_of (with_message s.node.messages log (get_or s.read log 0) m) p number ≡ Some x
-    → get_or (set s.last log m.deps) p [] ≡ x.deps
-later-more s log m is known room p number x in_book next found =
-    let here : ℕ = get_or s.read log 0 in
-    let listed : log < length s.node.messages = omega (arith, known, is.node.steady.sized) in
-    elim (cases_eq p log) as (λ _. get_or (set s.last log m.deps) p [] ≡ x.deps) [
-      | inl same ↦
-          let more : get_or (one_more_of s.read log) p 0 ≡ here + 1 =
-          ap (λ k. get_or (one_more_of s.read log) k 0) same ∙ get_or-set_same s.read log (here + 1) 0 (omega (arith, known, is.sized)) in
-          let at : number ≡ here = omega (arith, more, next) in
-          let new : message_of (with_message s.node.messages log here m) p number ≡ Some m =
-          ap (λ k. message_of (with_message s.node.messages log here m) k number) same
-          ∙ (ap (λ k. message_of (with_message s.node.messages log here m) log k) at
-          ∙ message_of-new s.node.messages log here m listed (omega (arith, is.node.steady.lists log known, room))) in
-          ap (λ k. get_or (set s.last log m.deps) k []) same
-          ∙ (get_or-set_same s.last log m.deps [] (omega (arith, known, is.listed)) ∙ ap (λ (y : Message). y.deps) (same_Some m x (sym new ∙ found)))
-      | inr apart ↦
-          get_or-set_other s.last log p m.deps [] apart
-          ∙ is.later p number x in_book (sym (get_or-set_other s.read log p (here + 1) 0 apart) ∙ next)
-          (sym (message_of-other s.node.messages log here p number m listed (λ e. absurd (apart e))) ∙ found)
-    ]
+-- the messages of the next entry weren't delivered
+pub IsUndelivered-tail : (n : NodeState) (p count : ℕ) (t : Tail) → IsTail n p t → IsUndelivered n.messages p t.messages count
+IsUndelivered-tail n p count t is k within = is.unread (t.messages + k) (omega arith)
 
--- a property of the last `deps` of each log
-last-more : (s : ReadingState) (log : ℕ) (m : Message) (P : ℕ → List ℕ → Type 0) → log < length s.last → P log m.deps
-    → (p : ℕ) → (¬ (p ≡ log) → P p (get_or s.last p [])) → P p (get_or (set s.last log m.deps) p [])
-last-more s log m P listed new p other =
-    elim (cases_eq p log) as (λ _. P p (get_or (set s.last log m.deps) p [])) [
-      | inl same ↦
-          subst (λ k. P k (get_or (set s.last log m.deps) k [])) (sym same) (subst (P log) (sym (get_or-set_same s.last log m.deps [] listed)) new)
-      | inr apart ↦ subst (P p) (sym (get_or-set_other s.last log p m.deps [] apart)) (other apart)
-    ]
-
-pub IsReading-taken : (s : ReadingState) (log : ℕ) (m : Message) (after : NodeState) → IsReading s → IsNode after → after.book ≡ s.node.book
-    → log < s.node.book.logs → get_or s.read log 0 < MESSAGES_MAX → length m.deps ≡ s.node.book.logs
-    → after.messages ≡ with_message s.node.messages log (get_or s.read log 0) m
-    → IsReading (record { node = after; read = one_more_of s.read log; last = set s.last log m.deps })
-IsReading-taken s log m after is node book known room deps messages =
-    let logs : after.book.logs ≡ s.node.book.logs = ap (λ (b : LogTerms). b.logs) book in
-    let listed : log < length s.last = omega (arith, known, is.listed) in
+-- where nothing of the log changes
+pub IsTail-same : (n after : NodeState) (p : ℕ) (t : Tail) → after.book ≡ n.book → ((number : ℕ) → message_of after.messages p number ≡ message_of n.messages p number)
+    → IsTail n p t → IsTail after p t
+IsTail-same n after p t book same is =
+    let logs : after.book.logs ≡ n.book.logs = ap (λ (b : LogTerms). b.logs) book in
     record {
-      node = node;
-      sized = length-set s.read log (get_or s.read log 0 + 1) ∙ (is.sized ∙ sym logs);
-      unread = λ p number later. ap (λ (l : List MessageList). message_of l p number) messages ∙ unread-more s log m is known p number later;
-      listed = length-set s.last log m.deps ∙ (is.listed ∙ sym logs);
-      counted = λ p within. last-more s log m (λ _ l. length l ≡ after.book.logs) listed (deps ∙ sym logs) p (λ _. is.counted p (omega (arith, within, logs)) ∙ sym logs);
-      first = λ p within none. last-more s log m (λ k l. get_or (one_more_of s.read log) k 0 ≡ 0 → l ≡ replicate after.book.logs 0) listed
-          (λ zero. absurd (omega (arith, zero, get_or-set_same s.read log (get_or s.read log 0 + 1) 0 (omega (arith, known, is.sized))))) p
-          (λ apart zero. is.first p (omega (arith, within, logs)) (sym (get_or-set_other s.read log p (get_or s.read log 0 + 1) 0 apart) ∙ zero) ∙ ap (λ n. replicate n 0) (sym logs)) none;
-      later = λ p number x within next found. later-more s log m is known room p number x (omega (arith, within, logs)) next
-          (sym (ap (λ (l : List MessageList). message_of l p number) messages) ∙ found);
+      counted = is.counted ∙ sym logs;
+      unread = λ number low. same number ∙ is.unread number low;
+      first = λ none. is.first none ∙ ap (λ k. replicate k 0) (sym logs);
+      later = λ number m next found. is.later number m next (sym (same number) ∙ found);
     }
 
+-- where bytes are passed over
+pub IsTail-passed : (n : NodeState) (p entries : ℕ) (hash : List ℕ) (t : Tail) → IsTail n p t
+    → IsTail n p (record { entries = entries; messages = t.messages; deps = t.deps; hash = hash })
+IsTail-passed n p entries hash t is = record { counted = is.counted; unread = is.unread; first = is.first; later = is.later }
+
+-- the `deps` of an entry are no more than those of its messages
+le-in_log : (e : EntryTerms) (p i q : ℕ) → p < length e.deps → get_or e.deps q 0 ≤ get_or (message_in_log e p i).deps q 0
+le-in_log e p i q within =
+    elim (cases_eq q p) as (λ _. get_or e.deps q 0 ≤ get_or (message_in_log e p i).deps q 0) [
+      | inl same ↦
+          omega (arith, ap (λ k. get_or e.deps k 0) same, ap (λ k. get_or (message_in_log e p i).deps k 0) same, get_or-set_same e.deps p (get_or e.deps p 0 + i) 0 within)
+      | inr apart ↦ omega (arith, get_or-set_other e.deps p q (get_or e.deps p 0 + i) 0 apart)
+    ]
+
+-- where an entry is read
+pub IsTail-read : (n after : NodeState) (p : ℕ) (bytes : List ℕ) (e : EntryTerms) (t : Tail) → IsNode n → IsTail n p t → p < n.book.logs → after.book ≡ n.book
+    → after.messages ≡ with_messages n.messages p t.messages (messages_in_log e p) → ComesNext t p e → length e.deps ≡ n.book.logs → 1 ≤ length e.messages
+    → IsTail after p (tail_after t bytes e)
+IsTail-read n after p bytes e t node is known book messages next deps some =
+    let logs : after.book.logs ≡ n.book.logs = ap (λ (b : LogTerms). b.logs) book in
+    let listed : p < length n.messages = omega (arith, known, node.steady.sized) in
+    let more : List Message = messages_in_log e p in
+    let long : length more ≡ length e.messages = length-messages_in_log e p in
+    record {
+      counted = deps ∙ sym logs;
+      unread = λ number low.
+          ap (λ (l : List MessageList). message_of l p number) messages
+          ∙ (message_of-unlisted n.messages p t.messages more p number listed (λ _ _. omega (arith, low, long)) ∙ is.unread number (omega (arith, low)));
+      first = λ none. absurd (omega (arith, none, some));
+      later = λ number m top found q.
+          let i : ℕ = number - t.messages in
+          let at : t.messages + i ≡ number = omega (arith, top, some) in
+          let within : i < length e.messages = omega (arith, top, some) in
+          let there : Some (get_or more i m) ≡ Some m =
+          sym (message_of-listed n.messages p t.messages more i m listed (omega (arith, node.steady.lists p known, next.room, long)) (omega (arith, within, long)))
+          ∙ (ap (message_of (with_messages n.messages p t.messages more) p) at
+          ∙ (sym (ap (λ (l : List MessageList). message_of l p number) messages) ∙ found)) in
+          let is : message_in_log e p i ≡ m = sym (get_or-map-range_with_len (message_in_log e p) 0 (length e.messages) i i m within (omega arith)) ∙ same_Some (get_or more i m) m there in
+          omega (arith, le-in_log e p i q (omega (arith, deps, known)), ap (λ (x : Message). get_or x.deps q 0) is);
+    }
+
+-- a new tail of one log
+pub IsReading-set : (s : ReadingState) (log : ℕ) (t : Tail) (after : NodeState) → IsReading s → IsNode after → after.book ≡ s.node.book → log < s.node.book.logs
+    → ((p number : ℕ) → ¬ (p ≡ log) → message_of after.messages p number ≡ message_of s.node.messages p number) → IsTail after log t
+    → IsReading (record { book = s.book; hash = s.hash; node = after; tails = set s.tails log t })
+IsReading-set s log t after is node book known same new =
+    let logs : after.book.logs ≡ s.node.book.logs = ap (λ (b : LogTerms). b.logs) book in
+    record {
+      node = node;
+      book = book ∙ is.book;
+      sized = length-set s.tails log t ∙ (is.sized ∙ sym logs);
+      tails = λ p within. elim (cases_eq p log) as (λ _. IsTail after p (get_or (set s.tails log t) p (no_tail 0))) [
+        | inl e ↦ subst (λ k. IsTail after k (get_or (set s.tails log t) k (no_tail 0))) (sym e)
+            (subst (IsTail after log) (sym (get_or-set_same s.tails log t (no_tail 0) (omega (arith, known, is.sized)))) new)
+        | inr apart ↦ subst (IsTail after p) (sym (get_or-set_other s.tails log p t (no_tail 0) apart))
+            (IsTail-same s.node after p (tail_of s p) book (λ number. same p number apart) (is.tails p (omega (arith, within, logs))))
+      ];
+    }
+
+-- an entry is read
+pub IsReading-read : (s : ReadingState) (log : ℕ) (bytes : List ℕ) (e : EntryTerms) (after : NodeState) → IsReading s → IsNode after → after.book ≡ s.node.book → log < s.node.book.logs
+    → after.messages ≡ with_messages s.node.messages log (tail_of s log).messages (messages_in_log e log) → ComesNext (tail_of s log) log e → length e.deps ≡ s.node.book.logs → 1 ≤ length e.messages
+    → IsReading (record { book = s.book; hash = s.hash; node = after; tails = set s.tails log (tail_after (tail_of s log) bytes e) })
+IsReading-read s log bytes e after is node book known messages next deps some =
+    IsReading-set s log (tail_after (tail_of s log) bytes e) after is node book known
+    (λ p number apart. ap (λ (l : List MessageList). message_of l p number) messages
+    ∙ message_of-unlisted s.node.messages log (tail_of s log).messages (messages_in_log e log) p number (omega (arith, known, is.node.steady.sized)) (λ same _. absurd (apart same)))
+    (IsTail-read s.node after log bytes e (tail_of s log) is.node (is.tails log known) known book messages next deps some)
+
+-- bytes are passed over
+pub IsReading-passed : (s : ReadingState) (log entries : ℕ) (hash : List ℕ) → IsReading s → log < s.node.book.logs
+    → IsReading (record { book = s.book; hash = s.hash; node = s.node; tails = set s.tails log (record { entries = entries; messages = (tail_of s log).messages; deps = (tail_of s log).deps; hash = hash }) })
+IsReading-passed s log entries hash is known =
+    IsReading-set s log (record { entries = entries; messages = (tail_of s log).messages; deps = (tail_of s log).deps; hash = hash }) s.node is is.node refl known
+    (λ p number apart. refl) (IsTail-passed s.node log entries hash (tail_of s log) (is.tails log known))
+
 -- a node that has read nothing
-pub IsReading-opened_node : (b : LogTerms) → IsNode (starting_state b) → IsReading (opened_node b)
-IsReading-opened_node b node = record {
+pub IsReading-opened_node : (b : BookTerms) (hash : List ℕ) → IsNode (starting_state (logs_of b)) → IsReading (opened_node b hash)
+IsReading-opened_node b hash node = record {
   node = node;
-  sized = length-replicate b.logs 0;
-  unread = λ p number after. none p number (message_of (starting_state b).messages p number) refl;
-  listed = length-replicate b.logs (replicate {A = ℕ} b.logs 0);
-  counted = λ p within. ap length (zeros p within) ∙ length-replicate {A = ℕ} b.logs 0;
-  first = λ p within _. zeros p within;
-  later = λ p number m within next found. absurd (omega (arith, next, get_or-zeros b.logs p));
+  book = refl;
+  sized = length-replicate logs (no_tail logs);
+  tails = λ p within. subst (IsTail (starting_state (logs_of b)) p) (sym (get_or-replicate logs p (no_tail logs) (no_tail 0) within)) (record {
+    counted = length-replicate {A = ℕ} logs 0;
+    unread = λ number low. none p number (message_of (replicate logs no_messages) p number) refl;
+    first = λ _. refl;
+    later = λ number m next found. absurd (omega (arith, next));
+  });
 } where
-  zeros : (p : ℕ) → p < b.logs → get_or (replicate b.logs (replicate {A = ℕ} b.logs 0)) p [] ≡ replicate {A = ℕ} b.logs 0
-  zeros p within = get_or-replicate b.logs p (replicate {A = ℕ} b.logs 0) [] within
+  logs : ℕ
+  logs = (logs_of b).logs
 
-  none : (p number : ℕ) (o : Option Message) → message_of (replicate b.logs no_messages) p number ≡ o → message_of (replicate b.logs no_messages) p number ≡ None
+  none : (p number : ℕ) (o : Option Message) → message_of (replicate (logs_of b).logs no_messages) p number ≡ o → message_of (replicate (logs_of b).logs no_messages) p number ≡ None
   none p number None is = is
-  none p number (Some m) is = absurd (none-start b b.logs p number m is)
-
--- raising lowers nothing
-one_more_of-ge : (counts : List ℕ) (p k : ℕ) → get_or counts k 0 ≤ get_or (one_more_of counts p) k 0
-one_more_of-ge [] p k = omega arith
-one_more_of-ge (c ∷ counts) zero zero = omega arith
-one_more_of-ge (c ∷ counts) zero (suc k) = omega arith
-one_more_of-ge (c ∷ counts) (suc p) zero = omega arith
-one_more_of-ge (c ∷ counts) (suc p) (suc k) = one_more_of-ge counts p k
-
-one_more_of-le : (counts : List ℕ) (p : ℕ) → get_or (one_more_of counts p) p 0 ≤ get_or counts p 0 + 1
-one_more_of-le [] p = omega arith
-one_more_of-le (c ∷ counts) zero = omega arith
-one_more_of-le (c ∷ counts) (suc p) = one_more_of-le counts p
+  none p number (Some m) is = absurd (none-start (logs_of b) (logs_of b).logs p number m is)
 
 -- counts that are reached cover the `deps` of each message that they count
 Covers-counted : (b : LogTerms) (messages : List MessageList) (counts : List ℕ) → Reached b messages counts → (q number : ℕ) (x : Message)
@@ -123,48 +136,28 @@ Covers-counted b messages _ (raise counts p m before valid) q number x below fou
           ]
     ]
 
--- where all of a log that was read is validated, the validated counts cover its last `deps`
-Covers-last : (s : ReadingState) (p : ℕ) → IsReading s → p < s.node.book.logs → get_or s.node.validated p 0 ≡ get_or s.read p 0
-    → Covers s.node.validated (get_or s.last p [])
-Covers-last s p is known all k within = by_read (get_or s.read p 0) refl where
-  by_read : (read : ℕ) → get_or s.read p 0 ≡ read → get_or (get_or s.last p []) k 0 ≤ get_or s.node.validated k 0
-  by_read zero none = omega (arith, ap (λ (l : List ℕ). get_or l k 0) (is.first p known none), get_or-zeros s.node.book.logs k)
+-- where all of a log that was read is validated, the validated counts cover its `deps`
+pub Covers-tail : (n : NodeState) (p : ℕ) (t : Tail) → IsNode n → IsTail n p t → get_or n.validated p 0 ≡ t.messages → Covers n.validated t.deps
+Covers-tail n p t node is all k within = by_read t.messages refl where
+  by_read : (read : ℕ) → t.messages ≡ read → get_or t.deps k 0 ≤ get_or n.validated k 0
+  by_read zero none = omega (arith, ap (λ (l : List ℕ). get_or l k 0) (is.first none), get_or-zeros n.book.logs k)
   by_read (suc number) some =
-      ∥∥₁_elim is.node.steady.reached le_prop (λ r.
-      let c : IsCounted s.node.book s.node.messages p number = IsCounted-Reached s.node.book s.node.messages s.node.validated r p number (omega (arith, all, some)) in
+      ∥∥₁_elim node.steady.reached le_prop (λ r.
+      let c : IsCounted n.book n.messages p number = IsCounted-Reached n.book n.messages n.validated r p number (omega (arith, all, some)) in
       omega (
         arith,
-        ap (λ (l : List ℕ). get_or l k 0) (is.later p number c.message known (some ∙ sym (add-one number)) c.delivered),
-        Covers-counted s.node.book s.node.messages s.node.validated r p number c.message (omega (arith, all, some)) c.delivered k within,
+        is.later number c.message (some ∙ sym (add-one number)) c.delivered k,
+        Covers-counted n.book n.messages n.validated r p number c.message (omega (arith, all, some)) c.delivered k within,
       ))
 
--- the payment of a draft that can be made
-pub IsDraft-can : (s : ReadingState) (log from : ℕ) (targets : List TargetPair) (reference : List ℕ) (d : Draft) → IsReading s → log < s.node.book.logs → from < length s.node.book.accounts
-    → CanPay s log from targets → d ≡ record { log = log; message = record { from = from; targets = targets; reference = reference; deps = s.node.validated } }
-    → IsDraft s from targets reference d
-IsDraft-can s log from targets reference d reading log_in source can is = subst (IsDraft s from targets reference) (sym is) (record {
-  made = record { log = log_in; source = source; owner = can.owner; deps = refl; amount = can.covered };
-  next = record { own = can.all; within = can.room; kept = Covers-last s log reading log_in can.all };
-  source = refl;
-  targets = refl;
-  reference = refl;
-})
+-- the accounts of a book's logs are its own
+pub accounts-logs_of : (n : LogTerms) (b : BookTerms) → n ≡ logs_of b → length n.accounts ≡ length b.accounts
+accounts-logs_of n b is = ap (λ (n : LogTerms). length n.accounts) is ∙ length-map-range_with_len (log_account b) 0 (length b.accounts)
 
--- a draft that stands at its place
-pub IsFinalAt-IsNode : (s : NodeState) (d : Draft) (messages : List MessageList) (number : ℕ) → IsNode s → IsFinal s → d.log < length messages
-    → number < length (get_or messages d.log []) → s.messages ≡ with_message messages d.log number d.message → get_or d.message.deps d.log 0 ≡ number → IsFinalAt s d
-IsFinalAt-IsNode s d messages number node final listed within same own maker follows made =
-    let place : get_or maker.validated d.log 0 ≡ number = ap (λ (l : List ℕ). get_or l d.log 0) (sym made.deps) ∙ own in
-    final maker d.log d.message follows made
-    (ap (λ (l : List MessageList). message_of l d.log (get_or maker.validated d.log 0)) same
-    ∙ (ap (λ k. message_of (with_message messages d.log number d.message) d.log k) place ∙ message_of-new messages d.log number d.message listed within))
-
--- the same of the values that are written
-pub IsReading-take : (s : ReadingState) (log number : ℕ) (m : Message) (after : NodeState) (read : List ℕ) (last : List (List ℕ)) (new : Bool) → IsReading s → IsNode after
-    → log < s.node.book.logs → ComesNext s log m → length m.deps ≡ s.node.book.logs → number ≡ get_or s.read log 0 → (IsTrue new ↔ (message_of s.node.messages log number ≡ None))
-    → (new ≡ true → after.messages ≡ with_message s.node.messages log number m) → after.book ≡ s.node.book → read ≡ set s.read log (number + 1)
-    → last ≡ set s.last log m.deps → IsReading (record { node = after; read = read; last = last })
-IsReading-take s log number m after read last new is node known comes deps next fresh delivered book read_is last_is =
-    let yes : new ≡ true = fresh.1 (is.unread log number (omega (arith, next))) in
-    rw (read_is ∙ ap (λ n. set s.read log (n + 1)) next, last_is)
-    (IsReading-taken s log m after is node book known comes.within deps (delivered yes ∙ ap (λ n. with_message s.node.messages log n m) next))
+-- a tail by its parts
+pub same_tail : (s t : Tail) → s.entries ≡ t.entries → s.messages ≡ t.messages → s.deps ≡ t.deps → s.hash ≡ t.hash → s ≡ t
+same_tail s t entries messages deps hash =
+    ap (λ n. record { entries = n; messages = s.messages; deps = s.deps; hash = s.hash }) entries
+    ∙ (ap (λ n. record { entries = t.entries; messages = n; deps = s.deps; hash = s.hash }) messages
+    ∙ (ap (λ (l : List ℕ). record { entries = t.entries; messages = t.messages; deps = l; hash = s.hash }) deps
+    ∙ ap (λ (l : List ℕ). record { entries = t.entries; messages = t.messages; deps = t.deps; hash = l }) hash))

@@ -1,7 +1,7 @@
 -- An entry: what one append leaves in a log, and the one form of it as bytes.
-use Rattle.std.specs.Prelude.{◌≡◌, ℕ, ◌+◌, ◌<◌, ◌≤◌, ◌^◌, List, [], ◌∷◌, ◌++◌, length, All, slice_index, slice_index_or, slice_set}
+use Rattle.std.specs.Prelude.{◌≡◌, ℕ, ◌+◌, ◌<◌, ◌≤◌, ◌^◌, List, [], ◌∷◌, ◌++◌, length, map, All, slice_index, slice_index_or, slice_set}
 use Rattle.std.specs.Int.{w32, w64, to_be_bytes}
-use Rattle.at_logs.specs.Prelude.{AreTargetsOn, Message, TargetPair, flat_map, most_targets}
+use Rattle.at_logs.specs.Prelude.{range_with_len, AreTargetsOn, Message, TargetPair, flat_map, most_targets}
 use Rattle.at_logs.specs.declared.entry.EntryMessage.{EntryMessage}
 
 -- who wrote it, how many messages of each log its writer's node had validated, the hash of the book, the hash of the entry before it in
@@ -88,3 +88,7 @@ message_in_log e log i = record {
   reference = (entry_message e i).reference;
   deps = slice_set e.deps log (slice_index e.deps log + i);
 }
+
+-- all of them
+abbrev pub messages_in_log : EntryTerms → ℕ → List Message
+messages_in_log e log = map (message_in_log e log) (range_with_len 0 (length e.messages))

@@ -1,44 +1,44 @@
 -- What a node over logs has read.
-use Rattle.std.specs.Prelude.{◌≡◌, ℕ, ◌+◌, ◌<◌, ◌≤◌, List, [], length, replicate, slice_index, slice_index_or, None, Some}
-use Rattle.at_logs.specs.Prelude.{Covers, TargetPair, amount_of, LogTerms, account_on_logs, message_of, IsNode, NodeState, starting_state, Message, MESSAGES_MAX}
+use Rattle.std.specs.Prelude.{◌≡◌, ℕ, ◌+◌, ◌<◌, ◌≤◌, List, length, replicate, slice_index, slice_index_or, Some, None}
+use Rattle.at_logs.specs.Prelude.{BookTerms, message_of, IsNode, NodeState, starting_state, Message}
+use Rattle.at_logs.specs.Logs.{logs_of}
+use Rattle.at_logs.specs.declared.tail.Tail.{Tail}
 
--- the node of the messages that were read, how many of each log were, and the `deps` of the last of them in each log
+-- a book and its hash, the node of the messages that were read, and the tail of each log
 pub record ReadingState : Type 0 where
+  pub book : BookTerms
+  pub hash : List ℕ
   pub node : NodeState
-  pub read : List ℕ
-  pub last : List (List ℕ)
+  pub tails : List Tail
 
--- the last `deps` of a log
-abbrev pub last_of : ReadingState → ℕ → List ℕ
-last_of s p = slice_index_or s.last p []
+-- of one of so many logs, when nothing of it was read
+abbrev pub no_tail : ℕ → Tail
+no_tail logs = record { entries = 0; messages = 0; deps = replicate logs 0; hash = replicate 32 0 }
 
--- what holds of every such node: of each log just the first so many messages were read, and its last `deps` are those of the last of them, or
--- zeros
+abbrev pub tail_of : ReadingState → ℕ → Tail
+tail_of s log = slice_index_or s.tails log (no_tail 0)
+
+-- just the first so many messages of the log were read, and its `deps` are zeros before the first of them, and later no more than those
+-- of the last one
+pub record IsTail (n : NodeState) (p : ℕ) (t : Tail) : Type 0 where
+  pub counted : length t.deps ≡ n.book.logs
+  pub unread : (number : ℕ) → t.messages ≤ number → message_of n.messages p number ≡ None
+  pub first : t.messages ≡ 0 → t.deps ≡ replicate n.book.logs 0
+  pub later : (number : ℕ) (m : Message) → t.messages ≡ number + 1 → message_of n.messages p number ≡ Some m
+      → (q : ℕ) → slice_index t.deps q ≤ slice_index m.deps q
+
+-- what holds of every such node: it is a node over the logs of the book, and each log has its tail
 pub record IsReading (s : ReadingState) : Type 0 where
   pub node : IsNode s.node
-  pub sized : length s.read ≡ s.node.book.logs
-  pub unread : (p number : ℕ) → slice_index s.read p ≤ number → message_of s.node.messages p number ≡ None
-  pub listed : length s.last ≡ s.node.book.logs
-  pub counted : (p : ℕ) → p < s.node.book.logs → length (last_of s p) ≡ s.node.book.logs
-  pub first : (p : ℕ) → p < s.node.book.logs → slice_index s.read p ≡ 0 → last_of s p ≡ replicate s.node.book.logs 0
-  pub later : (p number : ℕ) (m : Message) → p < s.node.book.logs → slice_index s.read p ≡ number + 1
-      → message_of s.node.messages p number ≡ Some m → last_of s p ≡ m.deps
+  pub book : s.node.book ≡ logs_of s.book
+  pub sized : length s.tails ≡ s.node.book.logs
+  pub tails : (p : ℕ) → p < s.node.book.logs → IsTail s.node p (tail_of s p)
 
 -- a node that has read nothing
-abbrev pub opened_node : LogTerms → ReadingState
-opened_node b = record { node = starting_state b; read = replicate b.logs 0; last = replicate b.logs (replicate b.logs 0) }
-
--- the message can be the next of the log: its `deps` count all of the log before it and no less of any log than those of the message before
--- it, and there is a number for it
-pub record ComesNext (s : ReadingState) (log : ℕ) (m : Message) : Type 0 where
-  pub own : slice_index m.deps log ≡ slice_index s.read log
-  pub within : slice_index s.read log < MESSAGES_MAX
-  pub kept : Covers m.deps (last_of s log)
-
--- a pay-out can be made from this account by this log: the log debits it, the node has validated all of the log that it has read, and
--- the balance covers the amounts
-pub record CanPay (s : ReadingState) (log from : ℕ) (targets : List TargetPair) : Type 0 where
-  pub owner : (account_on_logs s.node.book from).log ≡ Some log
-  pub all : slice_index s.node.validated log ≡ slice_index s.read log
-  pub room : slice_index s.read log < MESSAGES_MAX
-  pub covered : amount_of targets ≤ slice_index s.node.balances from
+abbrev pub opened_node : BookTerms → List ℕ → ReadingState
+opened_node b hash = record {
+  book = b;
+  hash = hash;
+  node = starting_state (logs_of b);
+  tails = replicate (logs_of b).logs (no_tail (logs_of b).logs);
+}

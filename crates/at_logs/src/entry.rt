@@ -1,9 +1,10 @@
 //! Entries: what one append leaves in a log.
 
-ghost use Rattle.std.specs.Prelude.{◌≡◌, ℕ, ◌+◌, ◌<◌, ◌≤◌, ◌^◌, length, slice_index};
+ghost use Rattle.std.specs.Prelude.{◌≡◌, ℕ, ◌+◌, ◌<◌, ◌≤◌, ◌^◌, length, slice_index, IfOk};
 
 use at_broadcast::{LogCounts, Message};
 use at_ledger::Targets;
+use std::alloc::{AllocError, Global};
 use std::marker::Model;
 
 /// The most messages of one entry.
@@ -41,7 +42,7 @@ impl Model for Entry {
 
 impl Entry {
     ghost use Rattle.at_logs.specs.Prelude.{IsMessageOn};
-    ghost use Rattle.at_logs.specs.Entry.{IsEntryOn, most_in_entry, message_in_log};
+    ghost use Rattle.at_logs.specs.Entry.{IsEntryOn, most_in_entry, message_in_log, messages_in_log};
 
     /// An entry of these messages.
     pub fn new(
@@ -128,5 +129,18 @@ impl Entry {
             reference: message.reference,
             deps,
         }
+    }
+
+    /// All its messages as messages of this log.
+    pub fn messages_in_log(&self, alloc: Global, log: u32) -> Result<Vec<Message>, AllocError>
+        requires log_in { log < length self.now.deps }
+        requires room { slice_index self.now.deps log + length self.now.messages ≤ 2 ^ 32 }
+        ensures { IfOk result (λ messages. messages.items ≡ messages_in_log self.now log) }
+    {
+        let mut messages = Vec::new(alloc);
+        for i in 0..self.len() {
+            messages.push(self.message(log, i))?;
+        }
+        Ok(messages)
     }
 }

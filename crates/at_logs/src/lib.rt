@@ -8,9 +8,11 @@ mod logs;
 mod node;
 mod reading;
 mod spelling;
+mod tail;
 
 pub use crate::entry::{ENTRY_MESSAGES_MAX, Entry, EntryMessage};
 pub use crate::logs::logs_of;
-pub use crate::node::{Draft, Node};
+pub use crate::node::{Answer, Draft, Node};
 pub use crate::reading::read_entry;
 pub use crate::spelling::{entry_bytes, hash_of};
+pub use crate::tail::ENTRIES_MAX;

@@ -1,19 +1,29 @@
 //! A node over logs.
 
-ghost use Rattle.std.specs.Prelude.{◌≡◌, ◌<◌, ◌≤◌, ◌↔◌, ℕ, Some, length, replicate, slice_index, slice_set, true, false, Ok, IsTrue, IfOk, IfSome, IfNone, OnOk, OnErr};
-ghost use Rattle.at_logs.specs.Prelude.{AreTargetsOn, account_on_logs, IsMessageOn, with_message, most_logs, one_more_of};
+ghost use Rattle.std.specs.Prelude.{◌≡◌, ◌≢◌, ◌<◌, ◌≤◌, ◌↔◌, ℕ, All, Some, length, replicate, slice_index, sum, IsTrue, IfOk, IfErr, IfSome, IfNone, OnOk, OnErr, nat_le, None, if◌then◌else◌};
+ghost use Rattle.at_logs.specs.Prelude.{AreTargetsOn, most_logs};
+ghost use Rattle.at_logs.specs.Entry.{EntryTerms, IsEntryOn};
+ghost use Rattle.at_logs.specs.Logs.{logs_of};
+ghost use Rattle.at_logs.specs.Reading.{IsReading, no_tail, opened_node, tail_of};
+ghost use Rattle.at_logs.specs.declared.tail.TheConstants.{ENTRIES_MAX};
 
-use at_broadcast::{LogBook, LogCounts, MESSAGES_MAX, Message};
-use at_ledger::Targets;
+use crate::entry::{Entry, EntryMessage};
+use crate::logs::logs_of;
+use crate::reading::read_entry;
+use crate::spelling::{entry_bytes, hash_of};
+use crate::tail::{ENTRIES_MAX, Tail, is_same};
+use at_broadcast::{LogCounts, MESSAGES_MAX};
+use at_ledger::{Book, Targets};
 use std::alloc::{AllocError, Global};
 use std::marker::Model;
 
 /// What a node has read of its logs, and what it has validated of that.
 #[derive(Drop)]
 pub struct Node {
+    book: Book,
+    hash: [u8; 32],
     core: at_broadcast::Node,
-    read: LogCounts,
-    last: Vec<LogCounts>,
+    tails: Vec<Tail>,
 }
 
 impl Model for Node {
@@ -21,129 +31,281 @@ impl Model for Node {
 
     ghost Value = { ReadingState };
 
-    ghost view = { λ n. record { node = n.core; read = n.read; last = n.last.items } };
+    ghost view = { λ n. record { book = n.book; hash = n.hash; node = n.core; tails = n.tails.items } };
 
-    ghost invariant = { λ n. IsReading (record { node = n.core; read = n.read; last = n.last.items }) };
+    ghost invariant = { λ n. IsReading (record { book = n.book; hash = n.hash; node = n.core; tails = n.tails.items }) };
 }
 
-/// A payment that was made for a log and isn't in it yet. Nothing counts it until its append was answered.
+/// What a node answers of the bytes at a place of a log.
+#[derive(Clone, Copy, Debug)]
+pub enum Answer {
+    /// They spell an entry: it is read, and all that it makes valid is validated.
+    Taken,
+    /// They spell no entry of this log and place. They are passed over: the place counts, and the log goes on.
+    NotAnEntry,
+    /// They spell an entry that was made after other bytes than those at the place before: the log was rewritten. The node goes no further
+    /// in it.
+    Forked,
+    /// Places before it weren't read yet.
+    Gap,
+    /// The place was read.
+    Again,
+}
+
+/// A payment that was made: the bytes to append to a log at a place. Nothing counts it until its append was answered.
+/// One whose append was refused is let go, and the node is as if it had never been made.
 #[derive(Debug, Drop)]
 pub struct Draft {
     pub log: u32,
-    pub message: Message,
+    pub place: u32,
+    pub bytes: Vec<u8>,
 }
 
 impl Node {
-    ghost use Rattle.at_logs.specs.Draft.{IsDraft, IsFinalAt};
-    ghost use Rattle.at_logs.specs.Reading.{CanPay, ComesNext, IsReading, opened_node};
+    ghost use Rattle.at_logs.specs.Answers.{ComesNext, Fits, HasTaken, IsAnswerAt, IsOneAnswer, IsSource, LeavesAfter, SpellsEntry, passed_over};
+    ghost use Rattle.at_logs.specs.Draft.{CanPay, IsDraft};
+    ghost use Rattle.at_logs.specs.Prelude.{AgreesWithAll, IsClosed, IsFinal, IsSolvent, KeepsUp, SharesBalances, SharesPrefixes, ShowsBalances, total_on_logs};
+    ghost use Rattle.at_logs.specs.declared.node.Answer.{Answer};
 
-    /// A node that has read nothing. It keeps a copy of the book of logs.
-    pub fn open(alloc: Global, book: &LogBook) -> Result<Node, AllocError>
-        ensures { IfOk result (λ n. n ≡ opened_node book.now) }
+    /// A node that has read nothing of the logs of a book. Each entry has the hash of its book: a caller takes that of the book's file. None
+    /// comes where there are more than 64 logs.
+    pub fn open(alloc: Global, book: &Book, hash: &[u8; 32]) -> Result<Option<Node>, AllocError>
+        ensures { IfOk result (λ found. found ≡ (if nat_le (logs_of book.now).logs most_logs then Some (opened_node book.now hash.now) else None)) }
     {
-        let core = at_broadcast::Node::new(alloc, book)?;
+        let Some(logs) = logs_of(alloc, book)? else {
+            return Ok(None);
+        };
+        let core = at_broadcast::Node::new(alloc, &logs)?;
         core.known();
-        let last = zeros_of_each(alloc, book.logs())?;
-        Ok(Node {
+        let tails = new_tails(alloc, logs.logs())?;
+        Ok(Some(Node {
+            book: book.copy(alloc)?,
+            hash: *hash,
             core,
-            read: LogCounts::zeros(book.logs()),
-            last,
-        })
+            tails,
+        }))
     }
 
-    /// Whether the message can be the next of the log.
-    fn comes_next(&self, log: u32, message: &Message) -> bool
-        requires log_in { log < self.now.node.book.logs }
-        requires message_in { IsMessageOn self.now.node.book.logs (length self.now.node.book.accounts) message.now }
-        ensures { IsTrue result ↔ ComesNext self.now log message.now }
-    {
-        let number = self.read.get(log);
-        message.deps.get(log) == number
-            && number < MESSAGES_MAX
-            && message.deps.covers(&self.last[log as usize])
-    }
-
-    /// Takes the next message of a log, and validates all that it makes valid. It answers false where the message can't be the next of the
-    /// log: it is passed over then, and nothing changes.
-    pub fn take(&mut self, log: u32, message: &Message) -> Result<bool, AllocError>
+    /// Reads the bytes at a place of a log.
+    pub fn take(
+        &mut self,
+        alloc: Global,
+        log: u32,
+        place: u32,
+        bytes: &[u8],
+    ) -> Result<Answer, AllocError>
         requires log_in { log < self.old.node.book.logs }
-        requires message_in { IsMessageOn self.old.node.book.logs (length self.old.node.book.accounts)
-            message.now }
-        ensures next { IfOk result (λ taken. IsTrue taken ↔ ComesNext self.old log message.now) }
-        ensures passed { result ≡ Ok false → self.new ≡ self.old }
-        ensures messages { result ≡ Ok true
-            → self.new.node.messages ≡ with_message self.old.node.messages log (slice_index self.old.read log) message.now }
-        ensures read { result ≡ Ok true → self.new.read ≡ one_more_of self.old.read log }
-        ensures last { result ≡ Ok true → self.new.last ≡ slice_set self.old.last log message.now.deps }
-        ensures book { self.new.node.book ≡ self.old.node.book }
-        ensures reading { IsReading self.new }
+        requires place_in { place < ENTRIES_MAX }
+        ensures answer { IfOk result (IsOneAnswer self.old log place bytes.now) }
+        ensures left { IfOk result (LeavesAfter self.old log bytes.now self.new) }
         ensures err { OnErr result (self.new ≡ self.old) }
     {
-        if !self.comes_next(log, message) {
-            return Ok(false);
+        match self.next_entry(alloc, log, place, bytes)? {
+            Ok(entry) => {
+                self.read(alloc, log, &entry, bytes)?;
+                Ok(Answer::Taken)
+            }
+            Err(answer) => {
+                if matches!(answer, Answer::NotAnEntry) {
+                    self.pass_over(log, bytes);
+                }
+                Ok(answer)
+            }
         }
-        let number = self.read.get(log);
-        self.core.deliver(log, number, message)?;
+    }
+
+    /// The entry that comes next there, or the answer why there is none.
+    fn next_entry(
+        &self,
+        alloc: Global,
+        log: u32,
+        place: u32,
+        bytes: &[u8],
+    ) -> Result<Result<Entry, Answer>, AllocError>
+        requires { log < self.now.node.book.logs }
+        ensures fits { IfOk result (λ found. IfOk found (Fits self.now log place bytes.now)) }
+        ensures only { IfOk result (λ found. IfOk found (λ e. (other : EntryTerms) → SpellsEntry self.now log bytes.now other → other ≡ e)) }
+        ensures answer { IfOk result (λ found. IfErr found (IsAnswerAt self.now log place bytes.now)) }
+        ensures untaken { IfOk result (λ found. IfErr found (λ a. a ≢ Answer.Taken)) }
+    {
+        let tail = &self.tails[log as usize];
+        if place > tail.entries {
+            return Ok(Err(Answer::Gap));
+        }
+        if place < tail.entries {
+            return Ok(Err(Answer::Again));
+        }
+        let Some(entry) = self.spelled(alloc, log, bytes)? else {
+            return Ok(Err(Answer::NotAnEntry));
+        };
+        if !is_same(&entry.before(), &tail.hash) {
+            return Ok(Err(Answer::Forked));
+        }
+        if !tail.comes_next(log, &entry) {
+            return Ok(Err(Answer::NotAnEntry));
+        }
+        Ok(Ok(entry))
+    }
+
+    /// The entry of the log that the bytes spell.
+    fn spelled(&self, alloc: Global, log: u32, bytes: &[u8]) -> Result<Option<Entry>, AllocError>
+        requires { log < self.now.node.book.logs }
+        ensures { IfOk result (λ found. (e : EntryTerms) → (found ≡ Some e) ↔ SpellsEntry self.now log bytes.now e) }
+    {
+        let read = read_entry(
+            alloc,
+            self.core.logs(),
+            self.book.accounts(),
+            self.book.processes(),
+            bytes,
+        )?;
+        let Some(entry) = read else {
+            return Ok(None);
+        };
+        if !is_same(&entry.book(), &self.hash) || !self.has_sources(log, &entry) {
+            return Ok(None);
+        }
+        Ok(Some(entry))
+    }
+
+    /// Whether each message of the entry has a source there.
+    fn has_sources(&self, log: u32, entry: &Entry) -> bool
+        requires { All (λ m. m.from < length self.now.book.accounts) entry.now.messages }
+        ensures { IsTrue result ↔ All (λ m. IsSource self.now log entry.now.writer m.from) entry.now.messages }
+    {
+        for message in entry.messages() {
+            if !self.is_source(log, entry.writer(), message.from) {
+                return false;
+            }
+        }
+        true
+    }
+
+    /// Whether the log debits the account, and the writer owns it.
+    fn is_source(&self, log: u32, writer: u32, account: u32) -> bool
+        requires { account < length self.now.book.accounts }
+        ensures { IsTrue result ↔ IsSource self.now log writer account }
+    {
+        self.core.log_of(account) == Some(log) && self.book.slot_of(account, writer).is_some()
+    }
+
+    /// Counts an entry that comes next.
+    fn read(
+        &mut self,
+        alloc: Global,
+        log: u32,
+        entry: &Entry,
+        bytes: &[u8],
+    ) -> Result<(), AllocError>
+        requires log_in { log < self.old.node.book.logs }
+        requires place_in { (tail_of self.old log).entries < ENTRIES_MAX }
+        requires on { IsEntryOn self.old.node.book.logs (length self.old.book.accounts) self.old.book.processes
+            entry.now }
+        requires next { ComesNext (tail_of self.old log) log entry.now }
+        ensures ok { OnOk result (HasTaken self.old log bytes.now entry.now self.new) }
+        ensures err { OnErr result (self.new ≡ self.old) }
+    {
+        let number = self.tails[log as usize].messages;
+        let messages = entry.messages_in_log(alloc, log)?;
+        self.core.deliver_all(log, number, &messages)?;
         self.core.known();
-        self.read.set(log, number + 1);
-        self.last[log as usize] = message.deps.copy();
-        Ok(true)
+        let tail = &mut self.tails[log as usize];
+        tail.entries += 1;
+        tail.messages = number + entry.len();
+        tail.deps = entry.deps().copy();
+        tail.hash = hash_of(bytes);
+        Ok(())
     }
 
-    /// Makes a payment from what the node has validated. It changes nothing: the draft counts once its append was answered.
-    /// None comes where no log debits the account, where the node has read messages of the log that it hasn't validated,
-    /// and where the balance is short.
-    pub fn pay(&self, from: u32, targets: &Targets, reference: &[u8; 16]) -> Option<Draft>
-        requires source_in { from < length self.now.node.book.accounts }
-        requires targets_in { AreTargetsOn (length self.now.node.book.accounts) targets.now }
-        ensures some { IfSome result (IsDraft self.now from targets.now reference.now) }
-        ensures none { IfNone result ((log : ℕ) → log < self.now.node.book.logs → ¬ CanPay self.now log from targets.now) }
+    /// Counts the place of bytes that are no entry.
+    fn pass_over(&mut self, log: u32, bytes: &[u8])
+        requires log_in { log < self.old.node.book.logs }
+        requires place_in { (tail_of self.old log).entries < ENTRIES_MAX }
+        ensures { self.new ≡ passed_over self.old log bytes.now }
     {
-        let log = self.core.log_of(from)?;
-        if log >= self.core.logs() || !self.can_pay(log, from, targets) {
-            return None;
+        let tail = &mut self.tails[log as usize];
+        tail.entries += 1;
+        tail.hash = hash_of(bytes);
+    }
+
+    /// Makes a payment by a process from what the node has validated, with a reference that the payer chooses. It changes nothing: the draft
+    /// counts once its append was answered.
+    /// None comes where no log debits the account, where the writer doesn't own it, where the node has read messages of the log that it
+    /// hasn't validated, where the log is full, and where the balance is short.
+    pub fn pay(
+        &self,
+        alloc: Global,
+        writer: u32,
+        from: u32,
+        targets: &Targets,
+        reference: &[u8; 16],
+    ) -> Result<Option<Draft>, AllocError>
+        requires writer_in { writer < self.now.book.processes }
+        requires source_in { from < length self.now.book.accounts }
+        requires targets_in { AreTargetsOn (length self.now.book.accounts) targets.now }
+        ensures some { IfOk result (λ made. IfSome made (IsDraft self.now writer from targets.now reference.now)) }
+        ensures none { IfOk result (λ made. IfNone made ((log : ℕ) → log < self.now.node.book.logs → ¬ CanPay self.now log writer from targets.now)) }
+    {
+        let Some(log) = self.core.log_of(from) else {
+            return Ok(None);
+        };
+        if log >= self.core.logs() || !self.can_pay(log, writer, from, targets) {
+            return Ok(None);
         }
-        Some(Draft {
+        let mut messages = Vec::new(alloc);
+        messages.push(EntryMessage {
+            from,
+            targets: targets.copy(),
+            reference: *reference,
+        })?;
+        let tail = &self.tails[log as usize];
+        let entry = Entry::new(writer, self.core.counts(), self.hash, tail.hash, messages);
+        Ok(Some(Draft {
             log,
-            message: Message {
-                from,
-                targets: targets.copy(),
-                reference: *reference,
-                deps: self.core.counts(),
-            },
-        })
+            place: tail.entries,
+            bytes: entry_bytes(alloc, &entry)?,
+        }))
     }
 
-    /// Whether the node has validated all that it has read of the log, and the balance covers the amounts.
-    fn can_pay(&self, log: u32, from: u32, targets: &Targets) -> bool
+    /// Whether the process can pay the amounts by this log.
+    fn can_pay(&self, log: u32, writer: u32, from: u32, targets: &Targets) -> bool
         requires log_in { log < self.now.node.book.logs }
-        requires source_in { from < length self.now.node.book.accounts }
-        requires owner { (account_on_logs self.now.node.book from).log ≡ Some log }
-        ensures { IsTrue result ↔ CanPay self.now log from targets.now }
+        requires source_in { from < length self.now.book.accounts }
+        ensures { IsTrue result ↔ CanPay self.now log writer from targets.now }
     {
-        let number = self.read.get(log);
-        self.core.validated(log) == number
-            && number < MESSAGES_MAX
+        let tail = &self.tails[log as usize];
+        self.is_source(log, writer, from)
+            && self.core.validated(log) == tail.messages
+            && tail.messages < MESSAGES_MAX
+            && tail.entries < ENTRIES_MAX
             && targets.sum() <= u128::from(self.core.balance(from))
     }
 
-    /// Counts a draft whose append was answered: it stands as the next message of its log.
-    pub fn appended(&mut self, draft: &Draft) -> Result<(), AllocError>
+    /// Counts a draft whose append was answered, by reading it at its place.
+    pub fn appended(&mut self, alloc: Global, draft: &Draft) -> Result<Answer, AllocError>
         requires log_in { draft.now.log < self.old.node.book.logs }
-        requires message_in { IsMessageOn self.old.node.book.logs (length self.old.node.book.accounts)
-            draft.now.message }
-        requires next { ComesNext self.old draft.now.log draft.now.message }
-        ensures messages { OnOk result
-            (self.new.node.messages ≡ with_message self.old.node.messages draft.now.log (slice_index self.old.read draft.now.log) draft.now.message) }
-        ensures read { OnOk result (self.new.read ≡ one_more_of self.old.read draft.now.log) }
-        ensures last { OnOk result (self.new.last ≡ slice_set self.old.last draft.now.log draft.now.message.deps) }
-        ensures is_final { OnOk result (IsFinalAt self.new.node draft.now) }
-        ensures book { self.new.node.book ≡ self.old.node.book }
+        requires place_in { draft.now.place < ENTRIES_MAX }
+        ensures answer { IfOk result (IsOneAnswer self.old draft.now.log draft.now.place draft.now.bytes.items) }
+        ensures left { IfOk result (LeavesAfter self.old draft.now.log draft.now.bytes.items self.new) }
         ensures err { OnErr result (self.new ≡ self.old) }
     {
-        self.take(draft.log, &draft.message)?;
+        self.take(alloc, draft.log, draft.place, draft.bytes.as_slice())
+    }
+
+    /// Tells a proof what holds of the node, alone and beside any other of the same logs. It does nothing when it runs.
+    pub fn known(&self)
+        ensures reading { IsReading self.now }
+        ensures closed { IsClosed self.now.node.book self.now.node.messages self.now.node.validated }
+        ensures balances { ShowsBalances self.now.node }
+        ensures solvent { IsSolvent self.now.node }
+        ensures total { sum self.now.node.balances ≡ total_on_logs self.now.node.book }
+        ensures agree { AgreesWithAll self.now.node }
+        ensures keeps_up { KeepsUp self.now.node }
+        ensures is_final { IsFinal self.now.node }
+        ensures prefixes { SharesPrefixes self.now.node }
+        ensures shared { SharesBalances self.now.node }
+    {
         self.core.known();
-        Ok(())
     }
 
     /// How many messages of each log are validated.
@@ -155,22 +317,22 @@ impl Node {
 
     /// The balance of the account at these counts.
     pub fn balance(&self, account: u32) -> u64
-        requires { account < length self.now.node.book.accounts }
+        requires { account < length self.now.book.accounts }
         ensures { result ≡ slice_index self.now.node.balances account }
     {
         self.core.balance(account)
     }
 }
 
-/// As many counts of zero for each log as there are logs.
-fn zeros_of_each(alloc: Global, logs: u32) -> Result<Vec<LogCounts>, AllocError>
+/// A tail for each of so many logs.
+fn new_tails(alloc: Global, logs: u32) -> Result<Vec<Tail>, AllocError>
     requires some { 1 ≤ logs }
     requires few { logs ≤ most_logs }
-    ensures { IfOk result (λ last. last.items ≡ replicate logs (replicate logs 0)) }
+    ensures { IfOk result (λ tails. tails.items ≡ replicate logs (no_tail logs)) }
 {
-    let mut last = Vec::new(alloc);
+    let mut tails = Vec::new(alloc);
     for _ in 0..logs {
-        last.push(LogCounts::zeros(logs))?;
+        tails.push(Tail::new(logs))?;
     }
-    Ok(last)
+    Ok(tails)
 }

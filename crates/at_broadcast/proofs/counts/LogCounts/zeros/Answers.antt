@@ -1,4 +1,3 @@
-use Rattle.std.proofs.Common.{arith}
 use Rattle.at_broadcast.proofs.Prelude.{take-replicate}
 use Rattle.at_broadcast.proofs.counts.LogCounts.zeros.Goals as goal
 

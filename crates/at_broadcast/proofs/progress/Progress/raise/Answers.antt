@@ -1,7 +1,7 @@
-use Rattle.std.proofs.Common.{◌≡◌, ℕ, ◌+◌, ◌-◌, ◌<◌, ◌≤◌, ◌^◌, List, length, get_or, set, sum, ap, sym, subst, ◌∙◌, arith, length-set}
-use Rattle.at_broadcast.proofs.Prelude.{common_steps, get_or_default_zero, get_or_read, take_at, get_or-le-sum_by, credited, AreTargetsOn, TargetPair, amount_of, Message, NodeState, left, messages_of, no_sender, sender_of, HasRoomFor, SenderState, message_counted, IsValid, one_more_of}
+use Rattle.std.proofs.Common.{◌≡◌, ℕ, ◌+◌, ◌-◌, ◌<◌, ◌≤◌, List, length, get_or, set, sum, ap, sym, subst, ◌∙◌, arith, length-set}
+use Rattle.at_broadcast.proofs.Prelude.{get_or_default_zero, get_or_read, take_at, get_or-le-sum_by, credited, AreTargetsOn, TargetPair, amount_of, Message, NodeState, messages_of, no_sender, sender_of, HasRoomFor, SenderState, message_counted, IsValid}
 use Rattle.at_broadcast.proofs.MoveLaws.{length-credited, sum-less}
-use Rattle.at_broadcast.proofs.ProgressLaws.{Stands, Stands-valid, IsProgress-raised_to, covered-valid, message_counted-same, left-one_more_of, messages_of-message_counted, moved-same}
+use Rattle.at_broadcast.proofs.ProgressLaws.{Stands, Stands-valid, IsProgress-raised_to, covered-valid, message_counted-same, messages_of-message_counted, moved-same}
 use Rattle.at_broadcast.proofs.SenderLaws.{HasRoomFor-next}
 use Rattle.at_broadcast.proofs.progress.Progress.raise.Goals.{After-index_mut, After-index_mut-2}
 use Rattle.at_broadcast.proofs.progress.Progress.raise.Goals as goal

@@ -1,6 +1,6 @@
-use Rattle.std.proofs.Common.{◌≡◌, ℕ, ◌<◌, List, [], length, set, None, Ok, Err, ap, sym, subst, ◌∙◌, arith}
-use Rattle.at_broadcast.proofs.Prelude.{OnOk, OnErr, Result, AllocError, on_err_weaker, on_ok_weaker, get_or_read, AreTargetsOn, LogTerms, Message, IsMessageOn, MessageList, message_of, with_message, NodeState, IsProgress, messages_of, no_sender, sender_of, IsStored, MakesRoom, SenderState}
-use Rattle.at_broadcast.proofs.ProgressLaws.{IsProgress-roomier, IsProgress-stored, messages_of-same, messages_of-stored}
+use Rattle.std.proofs.Common.{◌≡◌, ℕ, ◌<◌, List, [], length, set, None, Some, Ok, Err, ap, sym, subst, ◌∙◌, arith}
+use Rattle.at_broadcast.proofs.Prelude.{OnOk, OnErr, Result, AllocError, on_err_weaker, on_ok_weaker, get_or_read, same_Some, AreTargetsOn, LogTerms, Message, IsMessageOn, MessageList, message_of, with_message, NodeState, IsProgress, no_sender, sender_of, IsStored, MakesRoom, SenderState}
+use Rattle.at_broadcast.proofs.ProgressLaws.{IsProgress-roomier, IsProgress-stored, messages_of-same, messages_of-stored, validated-le}
 use Rattle.at_broadcast.proofs.progress.Progress.store.Goals.{After-index_mut}
 use Rattle.at_broadcast.proofs.progress.Progress.store.Goals as goal
 
@@ -44,11 +44,12 @@ invariant_of-self c =
     let none = subst (λ (s : NodeState). message_of s.messages p c.args.number ≡ None) (sym c.self.view_is) c.requires.undelivered in
     let known = subst (λ (s : NodeState). IsMessageOn s.book.logs (length s.book.accounts) m) (sym c.self.view_is) c.requires.message_in in
     let sender = read ((goal.at.invariant_of-self c).After-index_mut) in
-    either c.store.result (IsStored c.index_mut.result.now c.args.number m new) (KeepsSender c.index_mut.result.now new)
+    either c.store.result (IsStored c.index_mut.result.now c.args.number (Some m) new) (KeepsSender c.index_mut.result.now new)
     (IsProgress b counts (set senders p new) balances)
     c.store.ensures.ok (keeps c.store.result c.index_mut.result.now new c.store.ensures.messages c.store.ensures.err)
-    (λ stored. IsProgress-stored b counts senders balances p c.args.number m new c.self.invariant process c.requires.number_in none known
-    (subst (λ (s : SenderState). IsStored s c.args.number m new) sender stored))
+    (λ stored. IsProgress-stored b counts senders balances p c.args.number (Some m) new c.self.invariant process c.requires.number_in
+    (validated-le b counts senders balances p c.args.number c.self.invariant none) (λ x is. subst (IsMessageOn b.logs (length b.accounts)) (same_Some m x is) known)
+    (subst (λ (s : SenderState). IsStored s c.args.number (Some m) new) sender stored))
     (λ kept. IsProgress-roomier b counts senders balances p new c.self.invariant process
     (kept.0 ∙ ap (λ (s : SenderState). s.messages) sender) (subst (λ (s : SenderState). MakesRoom [] s new) sender kept.1))
 
@@ -61,7 +62,7 @@ returns-clause-ok c =
     let new : SenderState = c.store.new.self in
     on_ok_weaker c.store.result (λ ok.
     ap (λ (l : List MessageList). record { book = c.self.inside.book; messages = l; validated = c.self.inside.validated; balances = c.self.inside.balances.items })
-    (messages_of-stored senders p number m new (subst (λ (s : SenderState). IsStored s number m new) (read ((goal.at.returns-clause-ok c).After-index_mut)) ok))
+    (messages_of-stored senders p number (Some m) new (subst (λ (s : SenderState). IsStored s number (Some m) new) (read ((goal.at.returns-clause-ok c).After-index_mut)) ok))
     ∙ ap (λ (s : NodeState). record { book = s.book; messages = with_message s.messages p number m; validated = s.validated; balances = s.balances }) c.self.view_is) c.store.ensures.ok
 
 pub returns-clause-err : goal.returns-clause-err

@@ -1,4 +1,4 @@
-use Rattle.std.proofs.Common.{◌≡◌, ℕ, ◌+◌, ◌<◌, List, length, drop, set, get_or, ap, sym, subst, ◌∙◌, arith, length-set}
+use Rattle.std.proofs.Common.{◌≡◌, ℕ, ◌+◌, ◌<◌, List, length, drop, set, ap, sym, subst, ◌∙◌, arith, length-set}
 use Rattle.at_broadcast.proofs.Prelude.{get_or_read, All-get_or, TargetPair, target_at, HasRoomFor, SenderState, credits_to, message_counted, no_credits, target_counted}
 use Rattle.at_broadcast.proofs.SenderLaws.{HasRoomFor-drop_more, HasRoomFor-here, IsNextRoom, counted-same, message_counted-drop_all, message_counted-drop_more}
 use Rattle.at_broadcast.proofs.sender.Sender.count.Goals.{After-index_mut}
