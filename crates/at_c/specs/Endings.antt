@@ -42,7 +42,8 @@ pub record ReportedTerms : Type 0 where
   pub text : List ℕ
 
 -- the text is the report of the closed ledger, and of no other lines: of all its calls, in one order in which the ledger answers each as
--- it was answered. Some order of these lines is legal and has each call that had ended before another began before it
+-- it was answered. For all times by which no call is behind one that began after it had ended, some order of these lines is legal and has each
+-- call that had ended before another began before it
 pub record IsReportOfClosed (closed : ClosedTerms) (names : NameList) (text : List ℕ) : Type 0 where
   pub text_is : text ≡ report_text closed.book names (journal_lines closed.closing)
   pub spells : (others : List Line) → length others < 2 ^ 64 → All (IsPrinted closed.book) (journal_lines closed.closing)
