@@ -114,6 +114,16 @@ def most_stages(folder):
     printed(folder.run("orders", "book", "0", "1"), lines(*rows))
 
 
+def stages_by_room(folder):
+    """A process pays itself what another brings to it once: 1,047,627 stages, in which the same calls were made and the balances are the
+    same, and the used room differs."""
+    folder.write("book", lines("book,1", "processes,2", "limits,4096,1", "account,0,0,0", "account,1,1,1"))
+    folder.write("0", "transfer,0,0,1\n" * 1445)
+    folder.write("1", "transfer,1,0,1\n")
+    rows = ["process,line,call,account,kind,replies", *(f"0,{i},transfer,0,alone,done short" for i in range(1, 1446))]
+    printed(folder.run("orders", "book", "0", "1"), lines(*rows, "1,1,transfer,1,alone,done"))
+
+
 def longest(folder):
     """Where the openings cover the files, files of any size are answered."""
     folder.write("book", lines("book,1", "processes,2", "limits,4,1", "account,0,4,0", "account,1,0,"))
@@ -128,6 +138,7 @@ def longest(folder):
 def cases():
     """The cases."""
     yield Case("the orders of the most stages", most_stages)
+    yield Case("the orders of the most stages that differ in the used room alone", stages_by_room)
     yield Case("the orders of the longest files, which the openings cover", longest)
     for first in range(1, SEEDS + 1, AT_ONCE):
         yield Case(f"orders of random files, seeds {first} to {first + AT_ONCE - 1}", try_seeds, first)

@@ -6,19 +6,19 @@ pub use Rattle.std.proofs.lemmas.Bool.{and_from, and_parts, cases_Bool, cases_eq
 pub use Rattle.std.proofs.lemmas.Bool.Decides.{Decides-eqb, Decides-ltb}
 pub use Rattle.std.proofs.lemmas.Cmp.{nat_list_eq_equiv}
 pub use Rattle.std.proofs.lemmas.Grind.{common_steps, get_or-set_at, get_or_default_zero}
-pub use Rattle.std.proofs.lemmas.List.{append-nil, append_assoc, ext_get_or, get_or-append-add, get_or-map, get_or-replicate, get_or-set_other, get_or-set_same, get_or_append_left, get_or_default, length-append, length-map, length-replicate, length-set, length-take, length-take-le, map-set, take_all, take_min, take_more, with_items_is}
+pub use Rattle.std.proofs.lemmas.List.{append-nil, append_assoc, ext_get_or, get_or-append-add, get_or-map, get_or-replicate, get_or-set_other, get_or-set_same, get_or_append_left, get_or_default, length-append, length-map, length-replicate, length-set, length-take, length-take-le, map-set, take_all, take_more, with_items_is}
 pub use Rattle.std.proofs.lemmas.List.Elements.{All-append, All-cons, All-contains, All-nil, All-push, All-weaker, Contains-append_left, Contains-append_right, Contains-get_or, Contains-push, Contains-push_cases}
 pub use Rattle.std.proofs.lemmas.List.Filters.{length-filter_both, length-filter_more}
 pub use Rattle.std.proofs.lemmas.List.Folds.{sum_by-replicate}
 pub use Rattle.std.proofs.lemmas.List.FromFn.{get_or-map-range_with_len, length-map-range_with_len}
-pub use Rattle.std.proofs.lemmas.List.Sums.{fold-append, get_or-le-sum_by, sum-map, sum_by-cons, sum_by-drop_more, sum_by-set, sum_by_more_le}
+pub use Rattle.std.proofs.lemmas.List.Sums.{get_or-le-sum_by, sum-map, sum_by-cons, sum_by-drop_more, sum_by-set, sum_by_more_le}
 pub use Rattle.std.proofs.lemmas.Map.Keys.{apart_from_distinct}
 pub use Rattle.std.proofs.lemmas.Nat.{div-add-mod', div-mul-add, mod-mul-add, mul-add-lt}
 pub use Rattle.std.proofs.lemmas.Option.{get_or_from_slice_get, slice_get-get_or, slice_get_within}
 pub use Rattle.std.proofs.lemmas.Result.{on_ok_weaker}
 pub use Rattle.std.specs.Cmp.Lexicographic.{pointwise, same_text}
 pub use Rattle.std.specs.Global.{Global}
-pub use Rattle.std.specs.List.{IsDistinct, fold, list_any, position, range_with_len}
+pub use Rattle.std.specs.List.{IsDistinct, list_any, position, range_with_len}
 pub use Rattle.std.specs.Result.{IsErrAnd}
 pub use Rattle.std.specs.Vec.{with_item, with_items}
 pub use Rattle.at_ledger.proofs.Calls.{IsCallOn-more}

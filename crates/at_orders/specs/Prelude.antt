@@ -1,5 +1,4 @@
 -- What this crate's contracts and definitions name of other crates, in one place.
-pub use Rattle.std.specs.Cmp.Rules.{hashing}
 pub use Rattle.std.specs.List.{range_with_len}
 pub use Rattle.at_ledger.specs.Account.{is_shared}
 pub use Rattle.at_ledger.specs.Book.{BookTerms, IsBook, account_of, is_owner, total_of}

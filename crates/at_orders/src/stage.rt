@@ -8,37 +8,14 @@ ghost use Rattle.at_orders.specs.Walk.{AreKept, HasNumbers, HasPlace, IsMadeTo, 
 use crate::ground::Ground;
 use at_ledger::{Call, Reply, Targets};
 use std::alloc::{AllocError, Global};
-use std::hash::{Hash, Hasher};
 
 /// How many calls each process has made, and the balances of the accounts that calls name first and the used own room then.
 /// The requests follow from the calls, and no reply depends on another balance.
-#[derive(PartialEq, Eq, Drop)]
+#[derive(PartialEq, Eq, Hash, Drop)]
 pub(crate) struct Stage {
     made: Vec<u32>,
     balances: Vec<u64>,
     sent: Vec<u16>,
-}
-
-/// The most balances that are hashed: of a thousand the hash would take longer than all else.
-const HASHED_MAX: usize = 256;
-
-/// The used room is left out: where it differs, how many calls were made or the balances mostly do too.
-impl Hash for Stage {
-    ghost use Rattle.std.specs.Prelude.{◌++◌, take};
-    ghost use Rattle.std.specs.Hash as fed;
-    ghost use Rattle.at_orders.specs.Prelude.{hashing};
-    ghost use Rattle.std.proofs.Common.{rules};
-
-    ghost hash_input = { λ x. fed.slice fed.u32 x.made.items ++ fed.slice fed.u64 (take 256 x.balances.items) };
-
-    ghost respects_eq = { Prim.search (hashing, rules) };
-
-    fn hash<H: Hasher>(&self, state: &mut H) {
-        self.made.hash(state);
-        let balances = self.balances.as_slice();
-        let hashed = HASHED_MAX.min(balances.len());
-        balances[..hashed].hash(state);
-    }
 }
 
 impl Stage {
