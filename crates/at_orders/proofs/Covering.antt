@@ -35,7 +35,7 @@ alone-next b p calls i c is =
 pub opening-at : (b : BookTerms) (a : ℕ) → a < length b.accounts → get_or (opening_state b).balances a 0 ≡ opening_of b a
 opening-at b a a_in = get_or-map (λ (t : AccountTerms). t.opening) b.accounts a no_account 0 a_in
 
-fit-opening : (b : BookTerms) → IsFit b (opening_state b)
+pub fit-opening : (b : BookTerms) → IsFit b (opening_state b)
 fit-opening b = record {
   book = refl;
   balances = length-map b.accounts (λ (t : AccountTerms). t.opening);
@@ -43,7 +43,7 @@ fit-opening b = record {
   asked = length-replicate (b.processes * length b.accounts) 0;
 }
 
-asked-drop : (b : BookTerms) (p a : ℕ) (calls : List Call) (i : ℕ) (c : Call) → slice_get calls i ≡ Some c
+pub asked-drop : (b : BookTerms) (p a : ℕ) (calls : List Call) (i : ℕ) (c : Call) → slice_get calls i ≡ Some c
     → asked_in_file b p a (drop i calls) ≡ asked_by_call b p a c + asked_in_file b p a (drop (i + 1) calls)
 asked-drop b p a calls i c is =
     let within = slice_get_within calls i c is in
@@ -98,7 +98,7 @@ file-along b files p i are p_in within =
     (are.playable p [] p_in).known within
 
 -- what the files still ask of the account
-abbrev asked_later : BookTerms → List (List Call) → List ℕ → ℕ → ℕ → ℕ
+abbrev pub asked_later : BookTerms → List (List Call) → List ℕ → ℕ → ℕ → ℕ
 asked_later b files made a q = asked_in_file b q a (drop (get_or made q 0) (get_or files q []))
 
 -- what a process has brought its file to by itself

@@ -1,4 +1,5 @@
 pub mod Prelude
+pub mod Laws
 pub mod Placing
 pub mod Keeping
 pub mod Counting

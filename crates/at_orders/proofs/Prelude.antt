@@ -7,7 +7,7 @@ pub use Rattle.std.proofs.lemmas.Bool.Decides.{Decides-eqb, Decides-ltb}
 pub use Rattle.std.proofs.lemmas.Cmp.{nat_list_eq_equiv}
 pub use Rattle.std.proofs.lemmas.Grind.{common_steps, get_or-set_at, get_or_default_zero}
 pub use Rattle.std.proofs.lemmas.List.{append-nil, append_assoc, ext_get_or, get_or-append-add, get_or-map, get_or-replicate, get_or-set_other, get_or-set_same, get_or_append_left, get_or_default, length-append, length-map, length-replicate, length-set, length-take, length-take-le, map-set, take_all, take_more, with_items_is}
-pub use Rattle.std.proofs.lemmas.List.Elements.{All-append, All-cons, All-contains, All-nil, All-push, All-weaker, Contains-append_left, Contains-append_right, Contains-get_or, Contains-push, Contains-push_cases}
+pub use Rattle.std.proofs.lemmas.List.Elements.{filter-append, All-append, All-cons, All-contains, All-nil, All-push, All-weaker, Contains-append_left, Contains-append_right, Contains-get_or, Contains-push, Contains-push_cases}
 pub use Rattle.std.proofs.lemmas.List.Filters.{length-filter_both, length-filter_more}
 pub use Rattle.std.proofs.lemmas.List.Folds.{sum_by-replicate}
 pub use Rattle.std.proofs.lemmas.List.FromFn.{get_or-map-range_with_len, length-map-range_with_len}
@@ -27,7 +27,7 @@ pub use Rattle.at_ledger.proofs.Credited.{amount_of-drop_more, credited-drop_all
 pub use Rattle.at_ledger.proofs.FileLists.{contents_of-pushed, get_or-contents_of, length-contents_of}
 pub use Rattle.at_ledger.proofs.Made.{AreWithinFiles-next, call_known, call_known-at, get_or-with_made, get_or-with_made_other, sum-with_made}
 pub use Rattle.at_ledger.proofs.Run.{last-take_more, run_from-cons, run_from-nil}
-pub use Rattle.at_ledger.specs.Account.{AccountTerms, is_shared, no_account, slots_of}
+pub use Rattle.at_ledger.specs.Account.{AccountTerms, is_shared, is_single, no_account, slots_of}
 pub use Rattle.at_ledger.specs.Book.{BookTerms, account_of, is_owner, total_of}
 pub use Rattle.at_ledger.specs.Call.{AreTargetsOn, IsCallOn, TargetPair, amount_of, first_account, payout_of}
 pub use Rattle.at_ledger.specs.Files.{IsPlayable, contents_of}
@@ -42,10 +42,11 @@ pub use Rattle.at_ledger.specs.declared.call.Reply.{Reply}
 pub use Rattle.at_ledger.specs.declared.call.Reply.TheVariants.{Balance, Done, Full, NotOwner, Short}
 pub use Rattle.at_orders.specs.Alone.{AreAlone, AreFilesAnswers, AreFirstAnswers, AreRangesOn, IsAlone, IsAloneTo, IsRangeTo, IsTarget, IsWidened, alone_balance, at_else, falls_of, range_in, ranges_of, rises_of}
 unfoldable pub use Rattle.at_orders.specs.Alone.{Names, alone_at}
-pub use Rattle.at_orders.specs.Covered.{AreShort, AreTaken, OpeningsCover, asked_by_call, asked_by_pay, asked_in_file, asked_in_files}
+pub use Rattle.at_orders.specs.Covered.{AreShort, OpeningCovers, AreTaken, OpeningsCover, asked_by_call, asked_by_pay, asked_in_file, asked_in_files}
 unfoldable pub use Rattle.at_orders.specs.Covered.{sum_below}
 pub use Rattle.at_orders.specs.Orders.{AreAnswers, Comes, IsOrder}
 pub use Rattle.at_orders.specs.Replies.{AreJust, IsListed, balances_with, no_replies, range_at, range_with, read_replies, replies_with}
+pub use Rattle.at_orders.specs.Settled.{HasOwnRoom, IsSettled, is_own_payment}
 pub use Rattle.at_orders.specs.Stages.{GroundTerms, HasMoreStages, IsStage, StageTerms, after_success, calls_made, first_stage, is_payment_from, ledger_at, payments_from, requests_at, requests_of, stage_after}
 pub use Rattle.at_orders.specs.Walk.{AreAllCountedBefore, AreAllHeard, AreAllStages, AreApart, AreCountedBefore, AreHeard, AreHeardInPart, AreKept, AreLevel, ArePlaces, Grows, HasAllNext, HasFirstPlace, HasMoreNext, HasNext, HasNumbers, HasPlace, HasStage, IsGround, IsHeard, IsMadeTo, IsNextCall, IsNextLevel, IsNextPayment, IsSeen, IsStanding, IsWalked, IsWalkedTo, KeepsPlaces, StandsFor}
 pub use Rattle.at_orders.specs.declared.alone.Alone.{Alone}

@@ -80,7 +80,7 @@ pub single-shared : (n : ℕ) → leb 2 n ≡ true → (n == 1) ≡ false
 single-shared n shared = ne_eqb n 1 (λ one. let two : 2 ≤ n = leb-true 2 n shared in omega arith)
 
 -- the room at a shared account is that of its requests
-full-shared : (s : LedgerState) (p a : ℕ) → is_shared (account_of s.book a) ≡ true → is_full s p a ≡ (asked_of s p a == s.book.request_room)
+pub full-shared : (s : LedgerState) (p a : ℕ) → is_shared (account_of s.book a) ≡ true → is_full s p a ≡ (asked_of s p a == s.book.request_room)
 full-shared s p a shared =
     let single = single-shared (length (account_of s.book a).owners) shared in
     λ t. (single t && (sent_of s p == s.book.own_room)) || (shared t && (asked_of s p a == s.book.request_room))
@@ -115,7 +115,7 @@ is_payment_from-payout account source targets (Read asked) is = absurd (cc is)
 is_payment_from-payout account source targets (Pay from amounts) is =
     let parts = same_payout (from, amounts) (source, targets) is in λ t. (parts t).0 == account
 
-step-payout : (s : LedgerState) (process source : ℕ) (targets : List TargetPair) (call : Call) → payout_of call ≡ Some (source, targets)
+pub step-payout : (s : LedgerState) (process source : ℕ) (targets : List TargetPair) (call : Call) → payout_of call ≡ Some (source, targets)
     → step s process call ≡ pay s process source targets
 step-payout s process source targets (Transfer from to amount) is =
     let parts = same_payout (from, (to, amount) ∷ []) (source, targets) is in λ t. pay s process (parts t).0 (parts t).1
@@ -156,7 +156,7 @@ done-left l p a targets = first_of_four (λ (x : Step). x.reply ≡ Done → IsL
     (λ owner is. absurd (cc is)) (λ owner full is. absurd (cc is)) (λ owner room less is. absurd (cc is))
     (λ owner room covered is. record { owner = owner; room = room })
 
-owned : (owners : List ℕ) (p : ℕ) → is_some (position (λ owner. owner == p) owners) ≡ true → 1 ≤ length owners
+pub owned : (owners : List ℕ) (p : ℕ) → is_some (position (λ owner. owner == p) owners) ≡ true → 1 ≤ length owners
 owned [] p is = absurd (true≢false (sym is))
 owned (owner ∷ owners) p is = omega arith
 
@@ -171,7 +171,7 @@ slots-single t none = by (cases_Bool (is_shared t))
         absurd (omega arith)
     by (inr single) = single
 
-not-shared : (n : ℕ) → leb 2 n ≡ false → n < 2
+pub not-shared : (n : ℕ) → leb 2 n ≡ false → n < 2
 not-shared n single = by (cases_lt n 2)
   where
     by : (n < 2) ⊎ (2 ≤ n) → n < 2

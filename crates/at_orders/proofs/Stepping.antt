@@ -1,7 +1,8 @@
--- What one step of the ledger changes where its payment isn't short.
-use Rattle.std.proofs.Common.{◌≡◌, ℕ, ◌+◌, ◌*◌, ◌<◌, ◌≤◌, ◌⊎◌, ⊎_elim, inl, Bool, true, false, List, [], ◌∷◌, length, get_or, set, sum, refl, sym, ap, subst, ◌∙◌, arith, eq-eqb}
+-- What one step of the ledger changes, at first where its payment isn't short.
+use Rattle.std.proofs.Common.{◌≡◌, ℕ, ◌+◌, ◌*◌, ◌<◌, ◌≤◌, ◌==◌, ◌&&◌, ◌||◌, ◌⊎◌, ⊎_elim, inl, Bool, true, false, cond, List, [], ◌∷◌, length, get_or, set, sum, refl, sym, ap, subst, ◌∙◌, arith, eq-eqb}
 use Rattle.std.specs.Prelude.{nat_lt}
-use Rattle.at_orders.proofs.Prelude.{cases_Bool, Decides-ltb, length-set, All-cons, All-nil, mul-le-mul_right, is_shared, BookTerms, account_of, is_owner, AreTargetsOn, IsCallOn, TargetPair, amount_of, LedgerState, Step, asked_position, is_full, pay, step, Call, Transfer, Read, Pay, Reply, Done, NotOwner, Full, Balance, asked_by_call, asked_by_pay, IsTarget, Names}
+use Rattle.at_orders.proofs.Prelude.{and_parts, cases_Bool, cases_lt, ne_eqb, Decides-ltb, length-set, All-cons, All-nil, mul-le-mul_right, is_shared, is_single, BookTerms, account_of, is_owner, AreTargetsOn, IsCallOn, TargetPair, amount_of, LedgerState, Step, asked_position, is_full, pay, step, Call, Transfer, Read, Pay, Reply, Done, NotOwner, Full, Short, Balance, is_own_payment, asked_by_call, asked_by_pay, IsTarget, Names}
+use Rattle.at_orders.proofs.Requests.{full-shared, not-shared, owned}
 use Rattle.at_orders.proofs.Moved.{at_or_off, length-moved, moved-at, moved-cross, moved-off, moved-touch, moved_in, set-at, set-off, sum-moved}
 
 -- a ledger of the book with these numbers
@@ -70,7 +71,7 @@ pub record AreSame (b : BookTerms) (p : ℕ) (s u : LedgerState) (x y : Step) : 
   pub cross : (a : ℕ) → get_or x.ledger.balances a 0 + get_or u.balances a 0 ≡ get_or s.balances a 0 + get_or y.ledger.balances a 0
   pub alike : AreAlike b p x.ledger y.ledger
 
-asked-at : (b : BookTerms) (p f : ℕ) (ts : List TargetPair) → is_owner b p f ≡ true → asked_by_pay b p f f ts ≡ amount_of ts
+pub asked-at : (b : BookTerms) (p f : ℕ) (ts : List TargetPair) → is_owner b p f ≡ true → asked_by_pay b p f f ts ≡ amount_of ts
 asked-at b p f ts own = rw (own, eq-eqb f f refl) refl
 
 fall-done : (b : BookTerms) (xs : List ℕ) (p f : ℕ) (ts : List TargetPair) (a : ℕ) → is_owner b p f ≡ true → f < length xs → AreTargetsOn (length xs) ts
@@ -308,3 +309,242 @@ step-touch b p (Transfer from to amount) s a on fit enough =
     pay-touch b p (Transfer from to amount) from ((to, amount) ∷ []) s a (pays-transfer b p from to amount s on fit enough)
 step-touch b p (Read d) s a on fit enough = inl refl
 step-touch b p (Pay from ts) s a on fit enough = pay-touch b p (Pay from ts) from ts s a (pays-pay b p from ts s (Pay from ts) refl on fit enough)
+
+-- what a pay-out of an owner does that is short
+unpaid : (full shared : Bool) → BookTerms → List ℕ → List ℕ → List ℕ → ℕ → ℕ → Step
+unpaid true shared b xs m k p f = record { ledger = ledger_of b xs m k; reply = Full }
+unpaid false true b xs m k p f = record { ledger = ledger_of b xs m (one_more k (asked_position b p f)); reply = Short }
+unpaid false false b xs m k p f = record { ledger = ledger_of b xs m k; reply = Short }
+
+pay-unpaid : (full shared : Bool) (b : BookTerms) (xs m k : List ℕ) (p f : ℕ) (ts : List TargetPair) → is_owner b p f ≡ true → is_full (ledger_of b xs m k) p f ≡ full
+    → is_shared (account_of b f) ≡ shared → nat_lt (get_or xs f 0) (amount_of ts) ≡ true → pay (ledger_of b xs m k) p f ts ≡ unpaid full shared b xs m k p f
+unfolding unpaid
+pay-unpaid true shared b xs m k p f ts own is_f is_s short = rw own (rw is_f refl)
+pay-unpaid false true b xs m k p f ts own is_f is_s short = rw own (rw is_f (rw short (rw is_s refl)))
+pay-unpaid false false b xs m k p f ts own is_f is_s short = rw own (rw is_f (rw short (rw is_s refl)))
+
+-- the requests after a pay-out, short or not
+requests_after : (own full shared : Bool) → List ℕ → ℕ → List ℕ
+requests_after false full shared k i = k
+requests_after true true shared k i = k
+requests_after true false true k i = one_more k i
+requests_after true false false k i = k
+
+-- what any pay-out changes: it takes no more than it asks, and counts what its process uses of its room
+record Uses (b : BookTerms) (p f : ℕ) (ts : List TargetPair) (s : LedgerState) (x : Step) : Type 0 where
+  fit : IsFit b x.ledger
+  fall : (a : ℕ) → get_or s.balances a 0 ≤ get_or x.ledger.balances a 0 + asked_by_pay b p a f ts
+  sent_off : (q : ℕ) → (q ≡ p → ⊥) → get_or x.ledger.sent q 0 ≡ get_or s.sent q 0
+  sent_at : get_or x.ledger.sent p 0 ≤ get_or s.sent p 0 + cond (is_owner b p f && is_single (account_of b f)) 1 0
+  asked : x.ledger.asked ≡ requests_after (is_owner b p f) (is_full (ledger_of b s.balances s.sent s.asked) p f) (is_shared (account_of b f)) s.asked (asked_position b p f)
+
+pub alone-single : (b : BookTerms) (p f : ℕ) → is_owner b p f ≡ true → is_shared (account_of b f) ≡ false → is_single (account_of b f) ≡ true
+alone-single b p f own alone =
+    let owners : List ℕ = (account_of b f).owners in
+    let some = owned owners p own in
+    let few : length owners < 2 = not-shared (length owners) alone in
+    eq-eqb (length owners) 1 (omega arith)
+
+outcome-sent : (own full shared : Bool) (b : BookTerms) (xs m k : List ℕ) (p f : ℕ) (ts : List TargetPair) → is_owner b p f ≡ own → is_shared (account_of b f) ≡ shared → p < length m
+    → get_or (outcome own full shared b xs m k p f ts).ledger.sent p 0 ≤ get_or m p 0 + cond (is_owner b p f && is_single (account_of b f)) 1 0
+unfolding outcome
+outcome-sent false full shared b xs m k p f ts own is_s within = omega arith
+outcome-sent true true shared b xs m k p f ts own is_s within = omega arith
+outcome-sent true false true b xs m k p f ts own is_s within = omega arith
+outcome-sent true false false b xs m k p f ts own is_s within =
+    let more = set-at m p (get_or m p 0 + 1) p within refl in
+    rw (own, alone-single b p f own is_s) (omega arith)
+
+outcome-asked : (own full shared : Bool) (b : BookTerms) (xs m k : List ℕ) (p f : ℕ) (ts : List TargetPair)
+    → (outcome own full shared b xs m k p f ts).ledger.asked ≡ requests_after own full shared k (asked_position b p f)
+unfolding outcome requests_after
+outcome-asked false full shared b xs m k p f ts = refl
+outcome-asked true true shared b xs m k p f ts = refl
+outcome-asked true false true b xs m k p f ts = refl
+outcome-asked true false false b xs m k p f ts = refl
+
+unpaid-uses : (full shared : Bool) (b : BookTerms) (xs m k : List ℕ) (p f : ℕ) (ts : List TargetPair) → is_owner b p f ≡ true → is_full (ledger_of b xs m k) p f ≡ full
+    → is_shared (account_of b f) ≡ shared → IsFit b (ledger_of b xs m k) → Uses b p f ts (ledger_of b xs m k) (unpaid full shared b xs m k p f)
+unfolding unpaid requests_after
+unpaid-uses true shared b xs m k p f ts own is_f is_s fit =
+    record { fit = fit; fall = λ a. omega arith; sent_off = λ q differ. refl; sent_at = omega arith; asked = rw (own, is_f) refl }
+unpaid-uses false true b xs m k p f ts own is_f is_s fit = record {
+  fit = fits-one b xs m (one_more k (asked_position b p f)) fit.balances fit.sent (length-set k (asked_position b p f) (get_or k (asked_position b p f) 0 + 1) ∙ fit.asked);
+  fall = λ a. omega arith;
+  sent_off = λ q differ. refl;
+  sent_at = omega arith;
+  asked = rw (own, is_f, is_s) refl;
+}
+unpaid-uses false false b xs m k p f ts own is_f is_s fit =
+    record { fit = fit; fall = λ a. omega arith; sent_off = λ q differ. refl; sent_at = omega arith; asked = rw (own, is_f, is_s) refl }
+
+pay-uses : (b : BookTerms) (p f : ℕ) (ts : List TargetPair) (s : LedgerState) → p < b.processes → f < length b.accounts → AreTargetsOn (length b.accounts) ts → IsFit b s
+    → Uses b p f ts s (pay s p f ts)
+pay-uses b p f ts s p_in f_in are fit = ⊎_elim is_short isnt_short (cases_Bool (is_owner b p f && nat_lt (get_or s.balances f 0) (amount_of ts)))
+  where
+    own : Bool
+    own = is_owner b p f
+
+    full : Bool
+    full = is_full (ledger_of b s.balances s.sent s.asked) p f
+
+    shared : Bool
+    shared = is_shared (account_of b f)
+
+    is : pay s p f ts ≡ pay (ledger_of b s.balances s.sent s.asked) p f ts
+    is = ap (λ (v : LedgerState). pay v p f ts) (ledger-is b s fit.book)
+
+    is_short : (own && nat_lt (get_or s.balances f 0) (amount_of ts)) ≡ true → Uses b p f ts s (pay s p f ts)
+    is_short both =
+        let parts = and_parts own (nat_lt (get_or s.balances f 0) (amount_of ts)) both in
+        let x = unpaid-uses full shared b s.balances s.sent s.asked p f ts parts.0 refl refl (fit-of b s fit) in
+        subst (Uses b p f ts s) (sym (is ∙ pay-unpaid full shared b s.balances s.sent s.asked p f ts parts.0 refl refl parts.1))
+        (record { fit = x.fit; fall = x.fall; sent_off = x.sent_off; sent_at = x.sent_at; asked = x.asked })
+
+    isnt_short : (own && nat_lt (get_or s.balances f 0) (amount_of ts)) ≡ false → Uses b p f ts s (pay s p f ts)
+    isnt_short none =
+        let not_short : own ≡ true → nat_lt (get_or s.balances f 0) (amount_of ts) ≡ false = λ o. sym (ap (λ (x : Bool). x && nat_lt (get_or s.balances f 0) (amount_of ts)) o) ∙ none in
+        let enough : own ≡ true → amount_of ts ≤ get_or s.balances f 0 = λ o. covers (not_short o) in
+        let kept = outcome-keeps own full shared b (Pay f ts) s.balances s.sent s.asked p f ts (λ a. refl) refl (fit-of b s fit) f_in are enough in
+        let size = fit.sent in
+        subst (Uses b p f ts s) (sym (is ∙ pay-is own full shared b s.balances s.sent s.asked p f ts refl refl refl not_short)) (record {
+          fit = kept.fit;
+          fall = kept.fall;
+          sent_off = kept.sent;
+          sent_at = outcome-sent own full shared b s.balances s.sent s.asked p f ts refl refl (omega arith);
+          asked = outcome-asked own full shared b s.balances s.sent s.asked p f ts;
+        })
+      where
+        covers : nat_lt (get_or s.balances f 0) (amount_of ts) ≡ false → amount_of ts ≤ get_or s.balances f 0
+        covers is = ⊎_elim (λ less. absurd (let wrong = (Decides-ltb (get_or s.balances f 0) (amount_of ts)).1 less in cc)) (λ more. more) (cases_lt (get_or s.balances f 0) (amount_of ts))
+
+-- what any call changes
+pub record Moves (b : BookTerms) (p : ℕ) (c : Call) (s : LedgerState) (x : Step) : Type 0 where
+  pub fit : IsFit b x.ledger
+  pub fall : (a : ℕ) → get_or s.balances a 0 ≤ get_or x.ledger.balances a 0 + asked_by_call b p a c
+  pub sent_off : (q : ℕ) → (q ≡ p → ⊥) → get_or x.ledger.sent q 0 ≡ get_or s.sent q 0
+  pub sent_at : get_or x.ledger.sent p 0 ≤ get_or s.sent p 0 + cond (is_own_payment b p c) 1 0
+
+pub step-moves : (b : BookTerms) (p : ℕ) (c : Call) (s : LedgerState) → p < b.processes → IsCallOn (length b.accounts) c → IsFit b s → Moves b p c s (step s p c)
+step-moves b p (Transfer from to amount) s p_in on fit =
+    let x = pay-uses b p from ((to, amount) ∷ []) s p_in on.0 (one-target (length b.accounts) to amount on.1) fit in
+    record { fit = x.fit; fall = x.fall; sent_off = x.sent_off; sent_at = x.sent_at }
+step-moves b p (Read a) s p_in on fit = record { fit = fit; fall = λ a. omega arith; sent_off = λ q differ. refl; sent_at = omega arith }
+step-moves b p (Pay from ts) s p_in on fit =
+    let x = pay-uses b p from ts s p_in on.0 on.1 fit in
+    record { fit = x.fit; fall = x.fall; sent_off = x.sent_off; sent_at = x.sent_at }
+
+-- the process has made the same requests in both
+abbrev pub AreAsked : BookTerms → ℕ → LedgerState → LedgerState → Type 0
+AreAsked b p s u = (a : ℕ) → a < length b.accounts → get_or s.asked (asked_position b p a) 0 ≡ get_or u.asked (asked_position b p a) 0
+
+requests-off : (own full shared : Bool) (k : List ℕ) (i j : ℕ) → (i ≡ j → ⊥) → get_or (requests_after own full shared k i) j 0 ≡ get_or k j 0
+unfolding requests_after
+requests-off false full shared k i j off = refl
+requests-off true true shared k i j off = refl
+requests-off true false true k i j off = set-off k i (get_or k i 0 + 1) j off
+requests-off true false false k i j off = refl
+
+requests-same : (own shared full other : Bool) (k l : List ℕ) (i j : ℕ) → (shared ≡ true → full ≡ other) → length k ≡ length l → i < length k → get_or k i 0 ≡ get_or l i 0
+    → get_or k j 0 ≡ get_or l j 0 → get_or (requests_after own full shared k i) j 0 ≡ get_or (requests_after own other shared l i) j 0
+unfolding requests_after
+requests-same false shared full other k l i j same size within here there = there
+requests-same true true true true k l i j same size within here there = there
+requests-same true true false false k l i j same size within here there = more-alike k l i j size within here there
+requests-same true true true false k l i j same size within here there = absurd (let wrong = same refl in cc)
+requests-same true true false true k l i j same size within here there = absurd (let wrong = same refl in cc)
+requests-same true false true true k l i j same size within here there = there
+requests-same true false true false k l i j same size within here there = there
+requests-same true false false true k l i j same size within here there = there
+requests-same true false false false k l i j same size within here there = there
+
+full-asked : (b : BookTerms) (p f : ℕ) (s : LedgerState) → is_shared (account_of b f) ≡ true
+    → is_full (ledger_of b s.balances s.sent s.asked) p f ≡ (get_or s.asked (asked_position b p f) 0 == b.request_room)
+full-asked b p f s shared = full-shared (ledger_of b s.balances s.sent s.asked) p f shared
+
+pub full-same : (b : BookTerms) (p f : ℕ) (s u : LedgerState) → f < length b.accounts → AreAsked b p s u → is_shared (account_of b f) ≡ true
+    → is_full (ledger_of b s.balances s.sent s.asked) p f ≡ is_full (ledger_of b u.balances u.sent u.asked) p f
+full-same b p f s u f_in alike shared =
+    full-asked b p f s shared ∙ (ap (λ (n : ℕ). n == b.request_room) (alike f f_in) ∙ sym (full-asked b p f u shared))
+
+pay-asked : (b : BookTerms) (p f : ℕ) (ts : List TargetPair) (s u : LedgerState) → p < b.processes → f < length b.accounts → AreTargetsOn (length b.accounts) ts → IsFit b s → IsFit b u
+    → AreAsked b p s u → AreAsked b p (pay s p f ts).ledger (pay u p f ts).ledger
+pay-asked b p f ts s u p_in f_in are fit other alike a a_in =
+    let x = pay-uses b p f ts s p_in f_in are fit in
+    let y = pay-uses b p f ts u p_in f_in are other in
+    let place = position-in (length b.accounts) b.processes p f p_in f_in in
+    let size = fit.asked in
+    ap (λ (k : List ℕ). get_or k (asked_position b p a) 0) x.asked
+    ∙ (requests-same (is_owner b p f) (is_shared (account_of b f)) (is_full (ledger_of b s.balances s.sent s.asked) p f) (is_full (ledger_of b u.balances u.sent u.asked) p f)
+    s.asked u.asked (asked_position b p f) (asked_position b p a) (full-same b p f s u f_in alike) (fit.asked ∙ sym other.asked) (omega arith) (alike f f_in) (alike a a_in)
+    ∙ sym (ap (λ (k : List ℕ). get_or k (asked_position b p a) 0) y.asked))
+
+pay-asked_off : (b : BookTerms) (p f : ℕ) (ts : List TargetPair) (s : LedgerState) (q a : ℕ) → p < b.processes → f < length b.accounts → AreTargetsOn (length b.accounts) ts → IsFit b s
+    → (q ≡ p → ⊥) → a < length b.accounts → get_or (pay s p f ts).ledger.asked (asked_position b q a) 0 ≡ get_or s.asked (asked_position b q a) 0
+pay-asked_off b p f ts s q a p_in f_in are fit differ a_in =
+    let x = pay-uses b p f ts s p_in f_in are fit in
+    ap (λ (k : List ℕ). get_or k (asked_position b q a) 0) x.asked
+    ∙ requests-off (is_owner b p f) (is_full (ledger_of b s.balances s.sent s.asked) p f) (is_shared (account_of b f)) s.asked (asked_position b p f) (asked_position b q a)
+    (position-other (length b.accounts) p q a f a_in f_in differ)
+
+-- so it has after the same call in both
+pub step-asked : (b : BookTerms) (p : ℕ) (c : Call) (s u : LedgerState) → p < b.processes → IsCallOn (length b.accounts) c → IsFit b s → IsFit b u → AreAsked b p s u
+    → AreAsked b p (step s p c).ledger (step u p c).ledger
+step-asked b p (Transfer from to amount) s u p_in on fit other alike =
+    pay-asked b p from ((to, amount) ∷ []) s u p_in on.0 (one-target (length b.accounts) to amount on.1) fit other alike
+step-asked b p (Read a) s u p_in on fit other alike = alike
+step-asked b p (Pay from ts) s u p_in on fit other alike = pay-asked b p from ts s u p_in on.0 on.1 fit other alike
+
+-- the requests of another process stay
+pub step-asked_off : (b : BookTerms) (p : ℕ) (c : Call) (s : LedgerState) (q a : ℕ) → p < b.processes → IsCallOn (length b.accounts) c → IsFit b s → (q ≡ p → ⊥) → a < length b.accounts
+    → get_or (step s p c).ledger.asked (asked_position b q a) 0 ≡ get_or s.asked (asked_position b q a) 0
+step-asked_off b p (Transfer from to amount) s q a p_in on fit differ a_in =
+    pay-asked_off b p from ((to, amount) ∷ []) s q a p_in on.0 (one-target (length b.accounts) to amount on.1) fit differ a_in
+step-asked_off b p (Read d) s q a p_in on fit differ a_in = refl
+step-asked_off b p (Pay from ts) s q a p_in on fit differ a_in = pay-asked_off b p from ts s q a p_in on.0 on.1 fit differ a_in
+
+-- the reply of a pay-out that the balance covers
+pub reply_by : (own full : Bool) → Reply
+reply_by false full = NotOwner
+reply_by true true = Full
+reply_by true false = Done
+
+pub reply_by-other : (full other : Bool) → reply_by false full ≡ reply_by false other
+unfolding reply_by
+reply_by-other full other = refl
+
+pub reply_by-short : (own full : Bool) → reply_by own full ≡ Short → ⊥
+unfolding reply_by
+reply_by-short false full is = cc
+reply_by-short true true is = cc
+reply_by-short true false is = cc
+
+outcome-reply_by : (own full shared : Bool) (b : BookTerms) (xs m k : List ℕ) (p f : ℕ) (ts : List TargetPair) → (outcome own full shared b xs m k p f ts).reply ≡ reply_by own full
+unfolding outcome reply_by
+outcome-reply_by false full shared b xs m k p f ts = refl
+outcome-reply_by true true shared b xs m k p f ts = refl
+outcome-reply_by true false true b xs m k p f ts = refl
+outcome-reply_by true false false b xs m k p f ts = refl
+
+pub pay-reply : (b : BookTerms) (p f : ℕ) (ts : List TargetPair) (s : LedgerState) → IsFit b s → (is_owner b p f ≡ true → amount_of ts ≤ get_or s.balances f 0)
+    → (pay s p f ts).reply ≡ reply_by (is_owner b p f) (is_full (ledger_of b s.balances s.sent s.asked) p f)
+pay-reply b p f ts s fit enough =
+    let own : Bool = is_owner b p f in
+    let full : Bool = is_full (ledger_of b s.balances s.sent s.asked) p f in
+    let shared : Bool = is_shared (account_of b f) in
+    ap (λ (v : LedgerState). (pay v p f ts).reply) (ledger-is b s fit.book)
+    ∙ (ap (λ (x : Step). x.reply) (pay-is own full shared b s.balances s.sent s.asked p f ts refl refl refl (λ o. not_short (enough o)))
+    ∙ outcome-reply_by own full shared b s.balances s.sent s.asked p f ts)
+  where
+    not_short : amount_of ts ≤ get_or s.balances f 0 → nat_lt (get_or s.balances f 0) (amount_of ts) ≡ false
+    not_short more = ⊎_elim (λ less. absurd (let lt = (Decides-ltb (get_or s.balances f 0) (amount_of ts)).0 less in omega arith)) (λ is. is)
+        (cases_Bool (nat_lt (get_or s.balances f 0) (amount_of ts)))
+
+-- a source that others don't share isn't full where own room is left
+pub full-own : (b : BookTerms) (p f : ℕ) (s : LedgerState) → is_shared (account_of b f) ≡ false → get_or s.sent p 0 < b.own_room
+    → is_full (ledger_of b s.balances s.sent s.asked) p f ≡ false
+full-own b p f s alone left = rw (alone, ne_eqb (get_or s.sent p 0) b.own_room (λ all. omega arith)) (off (is_single (account_of b f)))
+  where
+    off : (single : Bool) → ((single && false) || false) ≡ false
+    off true = refl
+    off false = refl

@@ -25,9 +25,13 @@ asked_in_file b process account calls = sum_by (asked_by_call b process account)
 abbrev pub asked_in_files : BookTerms → ℕ → List (List Call) → ℕ → ℕ
 asked_in_files b account files count = sum_below count (λ process. asked_in_file b process account (slice_index_or files process []))
 
--- each account opens with all that the files ask of it
+-- the account opens with all that the files ask of it
+abbrev pub OpeningCovers : BookTerms → List (List Call) → ℕ → Type 0
+OpeningCovers b files account = asked_in_files b account files (length files) ≤ (account_of b account).opening
+
+-- so does each account
 abbrev pub OpeningsCover : BookTerms → List (List Call) → Type 0
-OpeningsCover b files = (account : ℕ) → account < length b.accounts → asked_in_files b account files (length files) ≤ (account_of b account).opening
+OpeningsCover b files = (account : ℕ) → account < length b.accounts → OpeningCovers b files account
 
 -- what these calls of the process ask is taken from what the accounts had left
 pub record AreTaken (b : BookTerms) (process : ℕ) (calls : List Call) (old new : List ℕ) : Type 0 where

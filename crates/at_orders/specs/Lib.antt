@@ -4,4 +4,5 @@ pub mod Orders
 pub mod Stages
 pub mod Walk
 pub mod Covered
+pub mod Settled
 pub mod Alone

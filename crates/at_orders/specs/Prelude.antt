@@ -1,6 +1,6 @@
 -- What this crate's contracts and definitions name of other crates, in one place.
 pub use Rattle.std.specs.List.{range_with_len}
-pub use Rattle.at_ledger.specs.Account.{is_shared}
+pub use Rattle.at_ledger.specs.Account.{is_shared, is_single}
 pub use Rattle.at_ledger.specs.Book.{BookTerms, IsBook, account_of, is_owner, total_of}
 pub use Rattle.at_ledger.specs.Call.{AreTargetsOn, IsCallOn, TargetPair, amount_of, first_account, payout_of}
 pub use Rattle.at_ledger.specs.Files.{IsPlayable, contents_of}
