@@ -103,6 +103,8 @@ pub use Rattle.at_log.specs.declared.receipt.Receipt.{Receipt}
 pub use Rattle.at_object.proofs.Sharing.{pass_send}
 pub use Rattle.at_object.specs.Closings.{AreAccountedFor, ClosedTerms, IsAccountedFor}
 pub use Rattle.at_object.specs.Passes.{AreNewPasses, IsNewPass, PassTerms}
+pub use Rattle.at_orders.proofs.Laws.Owners.{owners-cover}
+pub use Rattle.at_orders.proofs.Laws.Settled.{covered-settled}
 pub use Rattle.at_pages.specs.PageText.{page_text}
 pub use Rattle.at_report.specs.Lines.{Word, lines_text}
 pub use Rattle.at_report.specs.Pieces.{joined}

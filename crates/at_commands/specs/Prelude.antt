@@ -52,6 +52,7 @@ pub use Rattle.at_object.specs.Closings.{AreAccountedFor, ClosedTerms}
 pub use Rattle.at_object.specs.Passes.{AreNewPasses, IsNewPass, PassTerms, Stands}
 pub use Rattle.at_orders.specs.Covered.{OpeningsCover}
 pub use Rattle.at_orders.specs.Orders.{AreAnswers}
+pub use Rattle.at_orders.specs.Settled.{IsSettled}
 pub use Rattle.at_orders.specs.Stages.{HasMoreStages}
 pub use Rattle.at_orders.specs.declared.replies.Replies.{Replies}
 pub use Rattle.at_orders.specs.declared.walk.TheConstants.{STAGES_MAX}
@@ -71,7 +72,7 @@ pub use Rattle.at_tables.specs.Bounds.{AreCostsWithin}
 pub use Rattle.at_tables.specs.CostsText.{costs_text}
 pub use Rattle.at_tables.specs.Groups.{AreGroups, groups_of}
 pub use Rattle.at_tables.specs.KindsText.{kinds_text}
-pub use Rattle.at_tables.specs.NeedsText.{needs_text}
+pub use Rattle.at_tables.specs.NeedsText.{needs_text, owner_asks}
 pub use Rattle.at_tables.specs.LedgerText.{ledger_text}
 pub use Rattle.at_tables.specs.OrdersText.{orders_text}
 pub use Rattle.at_tables.specs.TraceText.{trace_text}

@@ -1,6 +1,6 @@
 -- What each command shows of a book and payments.
-use Rattle.std.specs.Prelude.{◌≡◌, ℕ, ◌<◌, List, [], slice_index_or}
-use Rattle.at_commands.specs.Prelude.{AreCostsWithin, costs_text, ledger_text, AreGroups, groups_of, kinds_text, needs_text, Line, Call, receipts_of, ClosedTerms, AreAnswers, Replies, orders_text, CostTerms, OpeningsCover, HasMoreStages, STAGES_MAX, Status, TooManyOrders}
+use Rattle.std.specs.Prelude.{◌≡◌, ℕ, ◌<◌, ◌≤◌, List, [], length, slice_index_or, sum_by}
+use Rattle.at_commands.specs.Prelude.{AreCostsWithin, costs_text, ledger_text, AreGroups, groups_of, kinds_text, needs_text, owner_asks, account_of, Line, Call, receipts_of, ClosedTerms, AreAnswers, Replies, orders_text, CostTerms, OpeningsCover, IsSettled, HasMoreStages, STAGES_MAX, Status, TooManyOrders}
 use Rattle.at_commands.specs.Commands.{KeepingClosed, KeepingNone, Never}
 use Rattle.at_commands.specs.Forms.{FormTerms}
 use Rattle.at_commands.specs.Loading.{Loaded}
@@ -11,8 +11,11 @@ pub record ShowsKinds (l : Loaded) (text : List ℕ) : Type 0 where
   pub groups : AreGroups l.book l.files (groups_of l.book l.files)
   pub printed : text ≡ kinds_text l.book l.names l.files
 
--- `needs`: the text is that of what the payments of each account's owners ask of it
+-- `needs`: the text is that of what the payments of each account's owners ask of it. Those from an account that lacks nothing need no
+-- agreement
 pub record ShowsNeeds (l : Loaded) (text : List ℕ) : Type 0 where
+  pub settled : (a : ℕ) → a < length l.book.accounts → sum_by (owner_asks l.book l.files a) (account_of l.book a).owners ≤ (account_of l.book a).opening
+      → IsSettled l.book l.files a
   pub printed : text ≡ needs_text l.book l.names l.files
 
 -- `costs`: the text has a record for each call that was made on a closed ledger, the files' calls and no others, whose journal is one legal

@@ -71,7 +71,7 @@ alone-first b p calls covers = record {
 alone-more : (b : BookTerms) (p : ℕ) (calls : List Call) (i : ℕ) (c : Call) → slice_get calls i ≡ Some c → IsCallOn (length b.accounts) c → IsAloneAt b p calls i → IsAloneAt b p calls (i + 1)
 alone-more b p calls i c is on alone =
     let after = alone-next b p calls i c is in
-    let kept = step-keeps b p c (alone_at b p calls i) on alone.fit (alone-enough b p calls i c is alone) in
+    let kept = step-keeps b p c (alone_at b p calls i) on alone.fit in
     record {
       fit = subst (IsFit b) (sym after) kept.fit;
       left = λ a a_in.
@@ -206,7 +206,7 @@ along-next b files s made l are within along next = record {
     after = alone-next b p calls i c next.call
 
     kept : Keeps b p c s (step s p c)
-    kept = step-keeps b p c s known along.fit (along-enough b files s made l along next)
+    kept = step-keeps b p c s known along.fit
 
     both : AreSame b p s (alone_at b p calls i) (step s p c) (step (alone_at b p calls i) p c)
     both = step-same b p c s (alone_at b p calls i) (let h = next.process in let n = are.count in omega arith) known along.fit (along-enough b files s made l along next)

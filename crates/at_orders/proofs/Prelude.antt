@@ -11,7 +11,8 @@ pub use Rattle.std.proofs.lemmas.List.Elements.{filter-append, All-append, All-c
 pub use Rattle.std.proofs.lemmas.List.Filters.{length-filter_both, length-filter_more}
 pub use Rattle.std.proofs.lemmas.List.Folds.{sum_by-replicate}
 pub use Rattle.std.proofs.lemmas.List.FromFn.{get_or-map-range_with_len, length-map-range_with_len}
-pub use Rattle.std.proofs.lemmas.List.Sums.{get_or-le-sum_by, sum-map, sum_by-cons, sum_by-drop_more, sum_by-set, sum_by_more_le}
+pub use Rattle.std.proofs.lemmas.List.Quantifiers.{position-Some}
+pub use Rattle.std.proofs.lemmas.List.Sums.{sum_by-le-sum_by, get_or-le-sum_by, sum-map, sum_by-cons, sum_by-drop_more, sum_by-set, sum_by_more_le}
 pub use Rattle.std.proofs.lemmas.Map.Keys.{apart_from_distinct}
 pub use Rattle.std.proofs.lemmas.Nat.{div-add-mod', div-mul-add, mod-mul-add, mul-add-lt}
 pub use Rattle.std.proofs.lemmas.Option.{get_or_from_slice_get, slice_get-get_or, slice_get_within}
@@ -27,7 +28,7 @@ pub use Rattle.at_ledger.proofs.Credited.{amount_of-drop_more, credited-drop_all
 pub use Rattle.at_ledger.proofs.FileLists.{contents_of-pushed, get_or-contents_of, length-contents_of}
 pub use Rattle.at_ledger.proofs.Made.{AreWithinFiles-next, call_known, call_known-at, get_or-with_made, get_or-with_made_other, sum-with_made}
 pub use Rattle.at_ledger.proofs.Run.{last-take_more, run_from-cons, run_from-nil}
-pub use Rattle.at_ledger.specs.Account.{AccountTerms, is_shared, is_single, no_account, slots_of}
+pub use Rattle.at_ledger.specs.Account.{AccountTerms, is_shared, is_single, no_account, slot_in, slots_of}
 pub use Rattle.at_ledger.specs.Book.{BookTerms, account_of, is_owner, total_of}
 pub use Rattle.at_ledger.specs.Call.{AreTargetsOn, IsCallOn, TargetPair, amount_of, first_account, payout_of}
 pub use Rattle.at_ledger.specs.Files.{IsPlayable, contents_of}

@@ -1,4 +1,4 @@
--- What one step of the ledger changes, at first where its payment isn't short.
+-- What one step of the ledger changes: where its payment isn't short, and then of any.
 use Rattle.std.proofs.Common.{◌≡◌, ℕ, ◌+◌, ◌*◌, ◌<◌, ◌≤◌, ◌==◌, ◌&&◌, ◌||◌, ◌⊎◌, ⊎_elim, inl, Bool, true, false, cond, List, [], ◌∷◌, length, get_or, set, sum, refl, sym, ap, subst, ◌∙◌, arith, eq-eqb}
 use Rattle.std.specs.Prelude.{nat_lt}
 use Rattle.at_orders.proofs.Prelude.{and_parts, cases_Bool, cases_lt, ne_eqb, Decides-ltb, length-set, All-cons, All-nil, mul-le-mul_right, is_shared, is_single, BookTerms, account_of, is_owner, AreTargetsOn, IsCallOn, TargetPair, amount_of, LedgerState, Step, asked_position, is_full, pay, step, Call, Transfer, Read, Pay, Reply, Done, NotOwner, Full, Short, Balance, is_own_payment, asked_by_call, asked_by_pay, IsTarget, Names}
@@ -214,13 +214,6 @@ pays-is b p c f ts s pays =
 fit-of : (b : BookTerms) (s : LedgerState) → IsFit b s → IsFit b (ledger_of b s.balances s.sent s.asked)
 fit-of b s fit = record { book = refl; balances = fit.balances; sent = fit.sent; asked = fit.asked }
 
-pay-keeps : (b : BookTerms) (p : ℕ) (c : Call) (f : ℕ) (ts : List TargetPair) (s : LedgerState) → Pays b p c f ts s → Keeps b p c s (pay s p f ts)
-pay-keeps b p c f ts s pays =
-    let kept = outcome-keeps (is_owner b p f) (is_full (ledger_of b s.balances s.sent s.asked) p f) (is_shared (account_of b f)) b c s.balances s.sent s.asked p f ts pays.asks refl
-    (fit-of b s pays.fit) pays.source pays.targets (pays-enough b p c f ts s pays) in
-    subst (Keeps b p c s) (sym (pays-is b p c f ts s pays))
-    (record { fit = kept.fit; total = kept.total; fall = kept.fall; sent = kept.sent; asked = kept.asked })
-
 full-alike : (b : BookTerms) (p f : ℕ) (s u : LedgerState) → f < length b.accounts → AreAlike b p s u
     → is_full (ledger_of b s.balances s.sent s.asked) p f ≡ is_full (ledger_of b u.balances u.sent u.asked) p f
 full-alike b p f s u f_in alike = rw (alike.sent, alike.asked f f_in) refl
@@ -267,13 +260,6 @@ pays-pay : (b : BookTerms) (p from : ℕ) (ts : List TargetPair) (s : LedgerStat
 pays-pay b p from ts s c is on fit enough =
     let on_pay : IsCallOn (length b.accounts) (Pay from ts) = subst (IsCallOn (length b.accounts)) is on in
     record { asks = λ a. ap (λ (d : Call). asked_by_call b p a d) is; source = on_pay.0; targets = on_pay.1; fit = fit; enough = enough }
-
--- a step that isn't short
-pub step-keeps : (b : BookTerms) (p : ℕ) (c : Call) (s : LedgerState) → IsCallOn (length b.accounts) c → IsFit b s → IsEnough b p c s → Keeps b p c s (step s p c)
-step-keeps b p (Transfer from to amount) s on fit enough =
-    pay-keeps b p (Transfer from to amount) from ((to, amount) ∷ []) s (pays-transfer b p from to amount s on fit enough)
-step-keeps b p (Read a) s on fit enough = record { fit = fit; total = refl; fall = λ a. omega arith; sent = λ q differ. refl; asked = λ q a differ a_in. refl }
-step-keeps b p (Pay from ts) s on fit enough = pay-keeps b p (Pay from ts) from ts s (pays-pay b p from ts s (Pay from ts) refl on fit enough)
 
 -- it does the same at two ledgers where the process has used the same room
 pub step-same : (b : BookTerms) (p : ℕ) (c : Call) (s u : LedgerState) → p < b.processes → IsCallOn (length b.accounts) c → IsFit b s → IsEnough b p c s → IsFit b u → IsEnough b p c u
@@ -330,12 +316,9 @@ requests_after true true shared k i = k
 requests_after true false true k i = one_more k i
 requests_after true false false k i = k
 
--- what any pay-out changes: it takes no more than it asks, and counts what its process uses of its room
-record Uses (b : BookTerms) (p f : ℕ) (ts : List TargetPair) (s : LedgerState) (x : Step) : Type 0 where
-  fit : IsFit b x.ledger
-  fall : (a : ℕ) → get_or s.balances a 0 ≤ get_or x.ledger.balances a 0 + asked_by_pay b p a f ts
-  sent_off : (q : ℕ) → (q ≡ p → ⊥) → get_or x.ledger.sent q 0 ≡ get_or s.sent q 0
-  sent_at : get_or x.ledger.sent p 0 ≤ get_or s.sent p 0 + cond (is_owner b p f && is_single (account_of b f)) 1 0
+-- what any pay-out of the process counts of its room
+record Counts (b : BookTerms) (p f : ℕ) (s : LedgerState) (x : Step) : Type 0 where
+  sent : get_or x.ledger.sent p 0 ≤ get_or s.sent p 0 + cond (is_owner b p f && is_single (account_of b f)) 1 0
   asked : x.ledger.asked ≡ requests_after (is_owner b p f) (is_full (ledger_of b s.balances s.sent s.asked) p f) (is_shared (account_of b f)) s.asked (asked_position b p f)
 
 pub alone-single : (b : BookTerms) (p f : ℕ) → is_owner b p f ≡ true → is_shared (account_of b f) ≡ false → is_single (account_of b f) ≡ true
@@ -363,87 +346,94 @@ outcome-asked true true shared b xs m k p f ts = refl
 outcome-asked true false true b xs m k p f ts = refl
 outcome-asked true false false b xs m k p f ts = refl
 
-unpaid-uses : (full shared : Bool) (b : BookTerms) (xs m k : List ℕ) (p f : ℕ) (ts : List TargetPair) → is_owner b p f ≡ true → is_full (ledger_of b xs m k) p f ≡ full
-    → is_shared (account_of b f) ≡ shared → IsFit b (ledger_of b xs m k) → Uses b p f ts (ledger_of b xs m k) (unpaid full shared b xs m k p f)
+unpaid-counts : (full shared : Bool) (b : BookTerms) (s : LedgerState) (p f : ℕ) → is_owner b p f ≡ true → is_full (ledger_of b s.balances s.sent s.asked) p f ≡ full
+    → is_shared (account_of b f) ≡ shared → Counts b p f s (unpaid full shared b s.balances s.sent s.asked p f)
 unfolding unpaid requests_after
-unpaid-uses true shared b xs m k p f ts own is_f is_s fit =
-    record { fit = fit; fall = λ a. omega arith; sent_off = λ q differ. refl; sent_at = omega arith; asked = rw (own, is_f) refl }
-unpaid-uses false true b xs m k p f ts own is_f is_s fit = record {
-  fit = fits-one b xs m (one_more k (asked_position b p f)) fit.balances fit.sent (length-set k (asked_position b p f) (get_or k (asked_position b p f) 0 + 1) ∙ fit.asked);
-  fall = λ a. omega arith;
-  sent_off = λ q differ. refl;
-  sent_at = omega arith;
-  asked = rw (own, is_f, is_s) refl;
-}
-unpaid-uses false false b xs m k p f ts own is_f is_s fit =
-    record { fit = fit; fall = λ a. omega arith; sent_off = λ q differ. refl; sent_at = omega arith; asked = rw (own, is_f, is_s) refl }
+unpaid-counts true shared b s p f own is_f is_s = record { sent = omega arith; asked = rw (own, is_f) refl }
+unpaid-counts false true b s p f own is_f is_s = record { sent = omega arith; asked = rw (own, is_f, is_s) refl }
+unpaid-counts false false b s p f own is_f is_s = record { sent = omega arith; asked = rw (own, is_f, is_s) refl }
 
-pay-uses : (b : BookTerms) (p f : ℕ) (ts : List TargetPair) (s : LedgerState) → p < b.processes → f < length b.accounts → AreTargetsOn (length b.accounts) ts → IsFit b s
-    → Uses b p f ts s (pay s p f ts)
-pay-uses b p f ts s p_in f_in are fit = ⊎_elim is_short isnt_short (cases_Bool (is_owner b p f && nat_lt (get_or s.balances f 0) (amount_of ts)))
+unpaid-keeps : (full shared : Bool) (b : BookTerms) (c : Call) (xs m k : List ℕ) (p f : ℕ) → IsFit b (ledger_of b xs m k) → f < length b.accounts
+    → Keeps b p c (ledger_of b xs m k) (unpaid full shared b xs m k p f)
+unfolding unpaid
+unpaid-keeps true shared b c xs m k p f fit f_in = record { fit = fit; total = refl; fall = λ a. omega arith; sent = λ q differ. refl; asked = λ q a differ a_in. refl }
+unpaid-keeps false true b c xs m k p f fit f_in = record {
+  fit = fits-one b xs m (one_more k (asked_position b p f)) fit.balances fit.sent (length-set k (asked_position b p f) (get_or k (asked_position b p f) 0 + 1) ∙ fit.asked);
+  total = refl;
+  fall = λ a. omega arith;
+  sent = λ q differ. refl;
+  asked = λ q a differ a_in. set-off k (asked_position b p f) (get_or k (asked_position b p f) 0 + 1) (asked_position b q a) (position-other (length b.accounts) p q a f a_in f_in differ);
+}
+unpaid-keeps false false b c xs m k p f fit f_in = record { fit = fit; total = refl; fall = λ a. omega arith; sent = λ q differ. refl; asked = λ q a differ a_in. refl }
+
+abbrev unpaid_at : BookTerms → LedgerState → ℕ → ℕ → Step
+unpaid_at b s p f = unpaid (is_full (ledger_of b s.balances s.sent s.asked) p f) (is_shared (account_of b f)) b s.balances s.sent s.asked p f
+
+-- an owner's pay-out is short, or it is what it is where the balance covers it
+pay-cases : (P : Step → Type 0) (b : BookTerms) (p f : ℕ) (ts : List TargetPair) (s : LedgerState) → IsFit b s → (is_owner b p f ≡ true → P (unpaid_at b s p f))
+    → ((is_owner b p f ≡ true → amount_of ts ≤ get_or s.balances f 0) → P (outcome_at b s p f ts)) → P (pay s p f ts)
+pay-cases P b p f ts s fit short covered = ⊎_elim is_short isnt_short (cases_Bool (own && less))
   where
     own : Bool
     own = is_owner b p f
 
-    full : Bool
-    full = is_full (ledger_of b s.balances s.sent s.asked) p f
-
-    shared : Bool
-    shared = is_shared (account_of b f)
+    less : Bool
+    less = nat_lt (get_or s.balances f 0) (amount_of ts)
 
     is : pay s p f ts ≡ pay (ledger_of b s.balances s.sent s.asked) p f ts
     is = ap (λ (v : LedgerState). pay v p f ts) (ledger-is b s fit.book)
 
-    is_short : (own && nat_lt (get_or s.balances f 0) (amount_of ts)) ≡ true → Uses b p f ts s (pay s p f ts)
+    is_short : (own && less) ≡ true → P (pay s p f ts)
     is_short both =
-        let parts = and_parts own (nat_lt (get_or s.balances f 0) (amount_of ts)) both in
-        let x = unpaid-uses full shared b s.balances s.sent s.asked p f ts parts.0 refl refl (fit-of b s fit) in
-        subst (Uses b p f ts s) (sym (is ∙ pay-unpaid full shared b s.balances s.sent s.asked p f ts parts.0 refl refl parts.1))
-        (record { fit = x.fit; fall = x.fall; sent_off = x.sent_off; sent_at = x.sent_at; asked = x.asked })
+        let parts = and_parts own less both in
+        subst P (sym (is ∙ pay-unpaid (is_full (ledger_of b s.balances s.sent s.asked) p f) (is_shared (account_of b f)) b s.balances s.sent s.asked p f ts parts.0 refl refl parts.1))
+        (short parts.0)
 
-    isnt_short : (own && nat_lt (get_or s.balances f 0) (amount_of ts)) ≡ false → Uses b p f ts s (pay s p f ts)
+    isnt_short : (own && less) ≡ false → P (pay s p f ts)
     isnt_short none =
-        let not_short : own ≡ true → nat_lt (get_or s.balances f 0) (amount_of ts) ≡ false = λ o. sym (ap (λ (x : Bool). x && nat_lt (get_or s.balances f 0) (amount_of ts)) o) ∙ none in
-        let enough : own ≡ true → amount_of ts ≤ get_or s.balances f 0 = λ o. covers (not_short o) in
-        let kept = outcome-keeps own full shared b (Pay f ts) s.balances s.sent s.asked p f ts (λ a. refl) refl (fit-of b s fit) f_in are enough in
-        let size = fit.sent in
-        subst (Uses b p f ts s) (sym (is ∙ pay-is own full shared b s.balances s.sent s.asked p f ts refl refl refl not_short)) (record {
-          fit = kept.fit;
-          fall = kept.fall;
-          sent_off = kept.sent;
-          sent_at = outcome-sent own full shared b s.balances s.sent s.asked p f ts refl refl (omega arith);
-          asked = outcome-asked own full shared b s.balances s.sent s.asked p f ts;
-        })
+        let enough : own ≡ true → less ≡ false = λ o. sym (ap (λ (x : Bool). x && less) o) ∙ none in
+        subst P (sym (is ∙ pay-is own (is_full (ledger_of b s.balances s.sent s.asked) p f) (is_shared (account_of b f)) b s.balances s.sent s.asked p f ts refl refl refl enough))
+        (covered (λ o. covers (enough o)))
       where
-        covers : nat_lt (get_or s.balances f 0) (amount_of ts) ≡ false → amount_of ts ≤ get_or s.balances f 0
-        covers is = ⊎_elim (λ less. absurd (let wrong = (Decides-ltb (get_or s.balances f 0) (amount_of ts)).1 less in cc)) (λ more. more) (cases_lt (get_or s.balances f 0) (amount_of ts))
+        covers : less ≡ false → amount_of ts ≤ get_or s.balances f 0
+        covers not_less = ⊎_elim (λ lt. absurd (let wrong = (Decides-ltb (get_or s.balances f 0) (amount_of ts)).1 lt in cc)) (λ more. more) (cases_lt (get_or s.balances f 0) (amount_of ts))
 
--- what any call changes
-pub record Moves (b : BookTerms) (p : ℕ) (c : Call) (s : LedgerState) (x : Step) : Type 0 where
-  pub fit : IsFit b x.ledger
-  pub fall : (a : ℕ) → get_or s.balances a 0 ≤ get_or x.ledger.balances a 0 + asked_by_call b p a c
-  pub sent_off : (q : ℕ) → (q ≡ p → ⊥) → get_or x.ledger.sent q 0 ≡ get_or s.sent q 0
-  pub sent_at : get_or x.ledger.sent p 0 ≤ get_or s.sent p 0 + cond (is_own_payment b p c) 1 0
+pay-counts : (b : BookTerms) (p f : ℕ) (ts : List TargetPair) (s : LedgerState) → p < b.processes → IsFit b s → Counts b p f s (pay s p f ts)
+pay-counts b p f ts s p_in fit = pay-cases (Counts b p f s) b p f ts s fit
+    (λ own. unpaid-counts (is_full (ledger_of b s.balances s.sent s.asked) p f) (is_shared (account_of b f)) b s p f own refl refl)
+    (λ enough. record {
+      sent = outcome-sent (is_owner b p f) (is_full (ledger_of b s.balances s.sent s.asked) p f) (is_shared (account_of b f)) b s.balances s.sent s.asked p f ts refl refl
+          (let size = fit.sent in omega arith);
+      asked = outcome-asked (is_owner b p f) (is_full (ledger_of b s.balances s.sent s.asked) p f) (is_shared (account_of b f)) b s.balances s.sent s.asked p f ts;
+    })
 
-pub step-moves : (b : BookTerms) (p : ℕ) (c : Call) (s : LedgerState) → p < b.processes → IsCallOn (length b.accounts) c → IsFit b s → Moves b p c s (step s p c)
-step-moves b p (Transfer from to amount) s p_in on fit =
-    let x = pay-uses b p from ((to, amount) ∷ []) s p_in on.0 (one-target (length b.accounts) to amount on.1) fit in
-    record { fit = x.fit; fall = x.fall; sent_off = x.sent_off; sent_at = x.sent_at }
-step-moves b p (Read a) s p_in on fit = record { fit = fit; fall = λ a. omega arith; sent_off = λ q differ. refl; sent_at = omega arith }
-step-moves b p (Pay from ts) s p_in on fit =
-    let x = pay-uses b p from ts s p_in on.0 on.1 fit in
-    record { fit = x.fit; fall = x.fall; sent_off = x.sent_off; sent_at = x.sent_at }
+pay-keeps : (b : BookTerms) (p f : ℕ) (ts : List TargetPair) (c : Call) (s : LedgerState) → ((a : ℕ) → asked_by_call b p a c ≡ asked_by_pay b p a f ts) → f < length b.accounts
+    → AreTargetsOn (length b.accounts) ts → IsFit b s → Keeps b p c s (pay s p f ts)
+pay-keeps b p f ts c s asks f_in are fit = pay-cases (Keeps b p c s) b p f ts s fit
+    (λ own. of (unpaid_at b s p f) (unpaid-keeps (is_full (ledger_of b s.balances s.sent s.asked) p f) (is_shared (account_of b f)) b c s.balances s.sent s.asked p f (fit-of b s fit) f_in))
+    (λ enough. of (outcome_at b s p f ts) (outcome-keeps (is_owner b p f) (is_full (ledger_of b s.balances s.sent s.asked) p f) (is_shared (account_of b f)) b c s.balances s.sent s.asked
+    p f ts asks refl (fit-of b s fit) f_in are enough))
+  where
+    of : (x : Step) → Keeps b p c (ledger_of b s.balances s.sent s.asked) x → Keeps b p c s x
+    of x k = record { fit = k.fit; total = k.total; fall = k.fall; sent = k.sent; asked = k.asked }
+
+-- any step leaves these alone, and takes no more than its call asks
+pub step-keeps : (b : BookTerms) (p : ℕ) (c : Call) (s : LedgerState) → IsCallOn (length b.accounts) c → IsFit b s → Keeps b p c s (step s p c)
+step-keeps b p (Transfer from to amount) s on fit =
+    pay-keeps b p from ((to, amount) ∷ []) (Transfer from to amount) s (λ a. refl) on.0 (one-target (length b.accounts) to amount on.1) fit
+step-keeps b p (Read a) s on fit = record { fit = fit; total = refl; fall = λ a. omega arith; sent = λ q differ. refl; asked = λ q a differ a_in. refl }
+step-keeps b p (Pay from ts) s on fit = pay-keeps b p from ts (Pay from ts) s (λ a. refl) on.0 on.1 fit
+
+-- own room is used by a payment from an account of the process alone
+pub step-sent : (b : BookTerms) (p : ℕ) (c : Call) (s : LedgerState) → p < b.processes → IsFit b s
+    → get_or (step s p c).ledger.sent p 0 ≤ get_or s.sent p 0 + cond (is_own_payment b p c) 1 0
+step-sent b p (Transfer from to amount) s p_in fit = (pay-counts b p from ((to, amount) ∷ []) s p_in fit).sent
+step-sent b p (Read a) s p_in fit = omega arith
+step-sent b p (Pay from ts) s p_in fit = (pay-counts b p from ts s p_in fit).sent
 
 -- the process has made the same requests in both
 abbrev pub AreAsked : BookTerms → ℕ → LedgerState → LedgerState → Type 0
 AreAsked b p s u = (a : ℕ) → a < length b.accounts → get_or s.asked (asked_position b p a) 0 ≡ get_or u.asked (asked_position b p a) 0
-
-requests-off : (own full shared : Bool) (k : List ℕ) (i j : ℕ) → (i ≡ j → ⊥) → get_or (requests_after own full shared k i) j 0 ≡ get_or k j 0
-unfolding requests_after
-requests-off false full shared k i j off = refl
-requests-off true true shared k i j off = refl
-requests-off true false true k i j off = set-off k i (get_or k i 0 + 1) j off
-requests-off true false false k i j off = refl
 
 requests-same : (own shared full other : Bool) (k l : List ℕ) (i j : ℕ) → (shared ≡ true → full ≡ other) → length k ≡ length l → i < length k → get_or k i 0 ≡ get_or l i 0
     → get_or k j 0 ≡ get_or l j 0 → get_or (requests_after own full shared k i) j 0 ≡ get_or (requests_after own other shared l i) j 0
@@ -467,11 +457,11 @@ pub full-same : (b : BookTerms) (p f : ℕ) (s u : LedgerState) → f < length b
 full-same b p f s u f_in alike shared =
     full-asked b p f s shared ∙ (ap (λ (n : ℕ). n == b.request_room) (alike f f_in) ∙ sym (full-asked b p f u shared))
 
-pay-asked : (b : BookTerms) (p f : ℕ) (ts : List TargetPair) (s u : LedgerState) → p < b.processes → f < length b.accounts → AreTargetsOn (length b.accounts) ts → IsFit b s → IsFit b u
+pay-asked : (b : BookTerms) (p f : ℕ) (ts : List TargetPair) (s u : LedgerState) → p < b.processes → f < length b.accounts → IsFit b s → IsFit b u
     → AreAsked b p s u → AreAsked b p (pay s p f ts).ledger (pay u p f ts).ledger
-pay-asked b p f ts s u p_in f_in are fit other alike a a_in =
-    let x = pay-uses b p f ts s p_in f_in are fit in
-    let y = pay-uses b p f ts u p_in f_in are other in
+pay-asked b p f ts s u p_in f_in fit other alike a a_in =
+    let x = pay-counts b p f ts s p_in fit in
+    let y = pay-counts b p f ts u p_in other in
     let place = position-in (length b.accounts) b.processes p f p_in f_in in
     let size = fit.asked in
     ap (λ (k : List ℕ). get_or k (asked_position b p a) 0) x.asked
@@ -479,29 +469,13 @@ pay-asked b p f ts s u p_in f_in are fit other alike a a_in =
     s.asked u.asked (asked_position b p f) (asked_position b p a) (full-same b p f s u f_in alike) (fit.asked ∙ sym other.asked) (omega arith) (alike f f_in) (alike a a_in)
     ∙ sym (ap (λ (k : List ℕ). get_or k (asked_position b p a) 0) y.asked))
 
-pay-asked_off : (b : BookTerms) (p f : ℕ) (ts : List TargetPair) (s : LedgerState) (q a : ℕ) → p < b.processes → f < length b.accounts → AreTargetsOn (length b.accounts) ts → IsFit b s
-    → (q ≡ p → ⊥) → a < length b.accounts → get_or (pay s p f ts).ledger.asked (asked_position b q a) 0 ≡ get_or s.asked (asked_position b q a) 0
-pay-asked_off b p f ts s q a p_in f_in are fit differ a_in =
-    let x = pay-uses b p f ts s p_in f_in are fit in
-    ap (λ (k : List ℕ). get_or k (asked_position b q a) 0) x.asked
-    ∙ requests-off (is_owner b p f) (is_full (ledger_of b s.balances s.sent s.asked) p f) (is_shared (account_of b f)) s.asked (asked_position b p f) (asked_position b q a)
-    (position-other (length b.accounts) p q a f a_in f_in differ)
-
 -- so it has after the same call in both
 pub step-asked : (b : BookTerms) (p : ℕ) (c : Call) (s u : LedgerState) → p < b.processes → IsCallOn (length b.accounts) c → IsFit b s → IsFit b u → AreAsked b p s u
     → AreAsked b p (step s p c).ledger (step u p c).ledger
 step-asked b p (Transfer from to amount) s u p_in on fit other alike =
-    pay-asked b p from ((to, amount) ∷ []) s u p_in on.0 (one-target (length b.accounts) to amount on.1) fit other alike
+    pay-asked b p from ((to, amount) ∷ []) s u p_in on.0 fit other alike
 step-asked b p (Read a) s u p_in on fit other alike = alike
-step-asked b p (Pay from ts) s u p_in on fit other alike = pay-asked b p from ts s u p_in on.0 on.1 fit other alike
-
--- the requests of another process stay
-pub step-asked_off : (b : BookTerms) (p : ℕ) (c : Call) (s : LedgerState) (q a : ℕ) → p < b.processes → IsCallOn (length b.accounts) c → IsFit b s → (q ≡ p → ⊥) → a < length b.accounts
-    → get_or (step s p c).ledger.asked (asked_position b q a) 0 ≡ get_or s.asked (asked_position b q a) 0
-step-asked_off b p (Transfer from to amount) s q a p_in on fit differ a_in =
-    pay-asked_off b p from ((to, amount) ∷ []) s q a p_in on.0 (one-target (length b.accounts) to amount on.1) fit differ a_in
-step-asked_off b p (Read d) s q a p_in on fit differ a_in = refl
-step-asked_off b p (Pay from ts) s q a p_in on fit differ a_in = pay-asked_off b p from ts s q a p_in on.0 on.1 fit differ a_in
+step-asked b p (Pay from ts) s u p_in on fit other alike = pay-asked b p from ts s u p_in on.0 fit other alike
 
 -- the reply of a pay-out that the balance covers
 pub reply_by : (own full : Bool) → Reply

@@ -6,7 +6,7 @@ use Rattle.at_orders.proofs.Placing.{same_payout}
 use Rattle.at_orders.proofs.Moved.{at_or_off}
 use Rattle.at_orders.proofs.Requests.{first_account-payout, step-payout}
 use Rattle.at_orders.proofs.Reaching.{Leads, leads-cons, leads-nil, order-next, stage-reached}
-use Rattle.at_orders.proofs.Stepping.{AreAsked, IsFit, Moves, alone-single, asked-at, full-own, full-same, ledger_of, pay-reply, reply_by, reply_by-other, reply_by-short, step-asked, step-asked_off, step-moves}
+use Rattle.at_orders.proofs.Stepping.{AreAsked, IsFit, Keeps, alone-single, asked-at, full-own, full-same, ledger_of, pay-reply, reply_by, reply_by-other, reply_by-short, step-asked, step-keeps, step-sent}
 use Rattle.at_orders.proofs.Sums.{sum-one, sum-same, term-up}
 use Rattle.at_orders.proofs.Covering.{alone-next, alone-none, asked-drop, asked_later, fit-opening, opening-at}
 
@@ -25,14 +25,14 @@ record IsOnTheWay (b : BookTerms) (files : List (List Call)) (s : LedgerState) (
   sent : (q : ℕ) → q < length files → get_or s.sent q 0 ≤ own_payments b q (take (get_or made q 0) (get_or files q []))
   asked : (q : ℕ) → q < length files → AreAsked b q s (alone_at b q (get_or files q []) (get_or made q 0))
 
-alone-fit : (b : BookTerms) (p : ℕ) (calls : List Call) (i : ℕ) → p < b.processes → All (IsCallOn (length b.accounts)) calls → i ≤ length calls → IsFit b (alone_at b p calls i)
-alone-fit b p calls zero p_in on within = subst (IsFit b) (sym (alone-none b p calls)) (fit-opening b)
-alone-fit b p calls (suc i) p_in on within =
-    let before = alone-fit b p calls i p_in on (omega arith) in
+alone-fit : (b : BookTerms) (p : ℕ) (calls : List Call) (i : ℕ) → All (IsCallOn (length b.accounts)) calls → i ≤ length calls → IsFit b (alone_at b p calls i)
+alone-fit b p calls zero on within = subst (IsFit b) (sym (alone-none b p calls)) (fit-opening b)
+alone-fit b p calls (suc i) on within =
+    let before = alone-fit b p calls i on (omega arith) in
     let c : Call = get_or calls i (Read 0) in
     let is : slice_get calls i ≡ Some c = slice_get-get_or calls i (Read 0) (omega arith) in
-    let moved = step-moves b p c (alone_at b p calls i) p_in (on i (Read 0) (omega arith)) before in
-    subst (λ (n : ℕ). IsFit b (alone_at b p calls n)) (add-one i) (subst (IsFit b) (sym (alone-next b p calls i c is)) moved.fit)
+    let kept = step-keeps b p c (alone_at b p calls i) (on i (Read 0) (omega arith)) before in
+    subst (λ (n : ℕ). IsFit b (alone_at b p calls n)) (add-one i) (subst (IsFit b) (sym (alone-next b p calls i c is)) kept.fit)
 
 way-first : (b : BookTerms) (files : List (List Call)) → AreFiles b files → IsOnTheWay b files (opening_state b) (none_made files)
 way-first b files are = record {
@@ -52,14 +52,14 @@ way-first b files are = record {
 way-next : (b : BookTerms) (files : List (List Call)) (s : LedgerState) (made : List ℕ) (l : Line) → AreFiles b files → AreWithinFiles files made → IsOnTheWay b files s made
     → IsNextOfProcess files s made l → IsOnTheWay b files (step s l.process l.call).ledger (with_made made l.process)
 way-next b files s made l are within way next = record {
-  fit = moves.fit;
+  fit = kept.fit;
   left = λ a a_in covered.
       let one = sum-one (length files) p (asked_later b files made a) (asked_later b files (with_made made p) a) next.process
       (λ q q_in differ. ap (λ (n : ℕ). asked_in_file b q a (drop n (get_or files q []))) (sym (count_off q differ))) in
       let here : asked_later b files (with_made made p) a p ≡ asked_in_file b p a (drop (i + 1) calls) = ap (λ (n : ℕ). asked_in_file b p a (drop n calls)) count_at in
       let asks = asked-drop b p a calls i c next.call in
       let left = way.left a a_in covered in
-      let fall = moves.fall a in
+      let fall = kept.fall a in
       omega arith;
   sent = λ q q_in. at_or_off p q
       (λ same. subst (λ (n : ℕ). get_or after.sent n 0 ≤ own_payments b n (take (get_or (with_made made p) n 0) (get_or files n []))) same (
@@ -68,20 +68,20 @@ way-next b files s made l are within way next = record {
       ∙ ap (λ (d : Call). own_payments b p (take i calls) + cond (is_own_payment b p d) 1 0) (get_or_from_slice_get calls i c c next.call) in
       let now : own_payments b p (take (get_or (with_made made p) p 0) calls) ≡ own_payments b p (take (i + 1) calls) = ap (λ (n : ℕ). own_payments b p (take n calls)) count_at in
       let old = way.sent p next.process in
-      let used = moves.sent_at in
+      let used = step-sent b p c s p_in way.fit in
       omega arith))
       (λ differ.
       let old = way.sent q q_in in
-      let still = moves.sent_off q (λ e. differ (sym e)) in
+      let still = kept.sent q (λ e. differ (sym e)) in
       let now : own_payments b q (take (get_or (with_made made p) q 0) (get_or files q [])) ≡ own_payments b q (take (get_or made q 0) (get_or files q [])) =
       ap (λ (n : ℕ). own_payments b q (take n (get_or files q []))) (count_off q differ) in
       omega arith);
   asked = λ q q_in. at_or_off p q
       (λ same. subst (λ (n : ℕ). AreAsked b n after (alone_at b n (get_or files n []) (get_or (with_made made p) n 0))) same
       (subst (λ (n : ℕ). AreAsked b p after (alone_at b p calls n)) (sym count_at) (subst (AreAsked b p after) (sym (alone-next b p calls i c next.call))
-      (step-asked b p c s (alone_at b p calls i) p_in known way.fit (alone-fit b p calls i p_in (are.playable p [] next.process).known (within.within p next.process)) (way.asked p next.process)))))
+      (step-asked b p c s (alone_at b p calls i) p_in known way.fit (alone-fit b p calls i (are.playable p [] next.process).known (within.within p next.process)) (way.asked p next.process)))))
       (λ differ. subst (λ (n : ℕ). AreAsked b q after (alone_at b q (get_or files q []) n)) (sym (count_off q differ))
-      (λ a a_in. step-asked_off b p c s q a p_in known way.fit (λ e. differ (sym e)) a_in ∙ way.asked q q_in a a_in));
+      (λ a a_in. kept.asked q a (λ e. differ (sym e)) a_in ∙ way.asked q q_in a a_in));
 }
   where
     p : ℕ
@@ -105,8 +105,8 @@ way-next b files s made l are within way next = record {
     known : IsCallOn (length b.accounts) c
     known = call_known (length b.accounts) files s made l are.playable next
 
-    moves : Moves b p c s (step s p c)
-    moves = step-moves b p c s p_in known way.fit
+    kept : Keeps b p c s (step s p c)
+    kept = step-keeps b p c s known way.fit
 
     count_at : get_or (with_made made p) p 0 ≡ i + 1
     count_at = get_or-with_made made p (let each = within.each in let h = next.process in omega arith)
