@@ -18,7 +18,7 @@ no_tail logs = record { entries = 0; messages = 0; deps = replicate logs 0; hash
 abbrev pub tail_of : ReadingState → ℕ → Tail
 tail_of s log = slice_index_or s.tails log (no_tail 0)
 
--- just the first so many messages of the log were read, and its `deps` are zeros before the first of them, and later no more than those
+-- no message of the log beyond the tail was read, and its `deps` are zeros before the first message, and later no more than those
 -- of the last one
 pub record IsTail (n : NodeState) (p : ℕ) (t : Tail) : Type 0 where
   pub counted : length t.deps ≡ n.book.logs
