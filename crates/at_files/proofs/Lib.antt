@@ -23,3 +23,4 @@ pub mod SpelledLaws
 pub mod DeliveryLaws
 pub mod ScheduleLaws
 pub mod MessageLaws
+mod LocationLaws

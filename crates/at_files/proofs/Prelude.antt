@@ -1,7 +1,7 @@
 -- What this crate's proofs name of other crates and of its definitions, in one place.
 pub use Rattle.std.proofs.Math.Seq.{get_or-append_seam}
 pub use Rattle.std.proofs.lemmas.Bool.{eq-eqb, eqb-true, le-leb, leb-true, lt-ltb, ltb-true, not-false, not-true}
-pub use Rattle.std.proofs.lemmas.Bool.Decides.{nat_tests}
+pub use Rattle.std.proofs.lemmas.Bool.Decides.{Decides-eqb, nat_tests}
 pub use Rattle.std.proofs.lemmas.Cmp.{nat_list_eq_equiv}
 pub use Rattle.std.proofs.lemmas.Fmt.{decimal_digit, decimal_nonempty, digits_decimal, length-decimal-le}
 pub use Rattle.std.proofs.lemmas.Grind.{common_steps}
@@ -18,7 +18,7 @@ pub use Rattle.std.proofs.lemmas.List.Sums.{AllPass-from_list_all, position_or_l
 pub use Rattle.std.proofs.lemmas.Map.Keys.{IsDistinct-push, apart_from_distinct}
 pub use Rattle.std.proofs.lemmas.Option.{slice_get-get_or}
 pub use Rattle.std.proofs.lemmas.Slice.{between_is, between_to_end}
-pub use Rattle.std.proofs.lemmas.Slice.Eq.{bytes_eq-Decides}
+pub use Rattle.std.proofs.lemmas.Slice.Eq.{bytes_eq-Decides, strip_prefix_is}
 pub use Rattle.std.specs.Borrow.{Bor}
 pub use Rattle.std.specs.Char.{is_ascii_digit, is_ascii_lowercase}
 pub use Rattle.std.specs.Global.{Global}
@@ -33,6 +33,8 @@ pub use Rattle.at_files.specs.BookRecords.{NamedBook, book_begun, book_with_room
 unfoldable pub use Rattle.at_files.specs.BookRecords.{numbers_of, owners_named, with_processes}
 pub use Rattle.at_files.specs.Deliveries.{Delivers, IsDelivery, deliveries_of, delivery_of, delivery_read, fields_of_delivery}
 pub use Rattle.at_files.specs.Limits.{most_deliveries, most_messages, most_name_bytes, most_replay_calls, most_scheduled_turns}
+pub use Rattle.at_files.specs.Locations.{begins_line, ends_line, is_line_end}
+unfoldable pub use Rattle.at_files.specs.Locations.{line_from}
 pub use Rattle.at_files.specs.Messages.{IsSent, Sends, are_counts, fields_of_message, message_read, message_spelled, messages_spelled}
 pub use Rattle.at_files.specs.NameSet.{IsNameSet}
 pub use Rattle.at_files.specs.Names.{AreFormed, AreNames, AreNamesOf, NameList, account_name, decimals_below, has_name, is_name, is_name_byte, plain_names, position_of}

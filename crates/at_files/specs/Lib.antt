@@ -13,3 +13,4 @@ pub mod Spelled
 pub mod Messages
 pub mod Deliveries
 pub mod Schedule
+pub mod Locations

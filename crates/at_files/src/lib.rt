@@ -13,6 +13,7 @@ mod fields;
 mod files;
 mod first_records;
 mod lines;
+mod location;
 mod messages;
 mod name_set;
 mod names;
@@ -31,6 +32,7 @@ pub use crate::deliveries::{
     BadOrder, DELIVERIES_MAX, Delivery, OrderWhy, ReadOrderFault, read_deliveries,
 };
 pub use crate::files::count_calls;
+pub use crate::location::{Location, location_of};
 pub use crate::messages::{BadMessages, MessagesWhy, ReadMessagesFault, read_messages};
 pub use crate::names::Names;
 pub use crate::payments::read_payments;
