@@ -16,7 +16,7 @@ pub use Rattle.at_broadcast.proofs.ReachedLaws.{IsCounted, IsCounted-Reached, ge
 pub use Rattle.at_broadcast.proofs.NodeLaws.{AgreesWithAll-IsNode, IsClosed-IsNode, IsSolvent-IsNode, ShowsBalances-IsNode}
 pub use Rattle.at_broadcast.proofs.StartLaws.{none-start}
 pub use Rattle.at_broadcast.proofs.TwoNodes.{IsFinal-IsNode, KeepsUp-IsNode, SharesBalances-IsNode, SharesPrefixes-IsNode}
-pub use Rattle.at_broadcast.specs.LogBook.{LogTerms, most_logs}
+pub use Rattle.at_broadcast.specs.LogBook.{LogTerms, account_on_logs, most_logs}
 pub use Rattle.at_broadcast.specs.Messages.{IsMessageOn, IsUndelivered, MessageList, message_of, no_messages, with_messages}
 pub use Rattle.at_broadcast.specs.Node.{IsNode, NodeState, starting_state}
 pub use Rattle.at_broadcast.specs.Validated.{Reached, one_more_of}
@@ -24,10 +24,10 @@ pub use Rattle.at_broadcast.specs.Validated.Reached.{raise, zeros}
 pub use Rattle.at_broadcast.specs.declared.log_book.LogAccount.{LogAccount}
 pub use Rattle.at_broadcast.specs.declared.message.Message.{Message}
 pub use Rattle.at_ledger.specs.Account.{AccountTerms, is_shared, no_account}
-pub use Rattle.at_ledger.specs.Book.{BookTerms, account_of}
+pub use Rattle.at_ledger.specs.Book.{BookTerms, account_of, is_owner}
 pub use Rattle.at_ledger.specs.Call.{AreTargetsOn, TargetPair}
-pub use Rattle.at_logs.specs.Draft.{CanPay, IsDraft, payment_entry}
-pub use Rattle.at_logs.specs.Answers.{ComesNext, IsAnswerAt, IsOneAnswer, IsSource, tail_after}
+pub use Rattle.at_logs.specs.Draft.{CanPay, IsDraft, IsFinalAt, payment_entry}
+pub use Rattle.at_logs.specs.Answers.{ComesNext, HasTaken, IsAnswerAt, IsOneAnswer, IsSource, LeavesAfter, SpellsEntry, tail_after}
 pub use Rattle.at_logs.specs.Logs.{log_account, logs_of, shared_among}
 pub use Rattle.at_logs.specs.Reading.{IsReading, IsTail, ReadingState, no_tail, opened_node, tail_of}
 pub use Rattle.at_logs.specs.declared.node.Answer.{Answer}

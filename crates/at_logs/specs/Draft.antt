@@ -1,6 +1,6 @@
 -- A payment that was made and isn't in its log yet.
-use Rattle.std.specs.Prelude.{◌≡◌, ℕ, ◌<◌, ◌≤◌, List, [], ◌∷◌, slice_index}
-use Rattle.at_logs.specs.Prelude.{TargetPair, amount_of, IsMadeAt, MESSAGES_MAX}
+use Rattle.std.specs.Prelude.{◌≡◌, ℕ, ◌+◌, ◌<◌, ◌≤◌, List, [], ◌∷◌, slice_index}
+use Rattle.at_logs.specs.Prelude.{TargetPair, amount_of, Follows, IsMadeAt, MESSAGES_MAX}
 use Rattle.at_logs.specs.Answers.{Fits, IsSource}
 use Rattle.at_logs.specs.Entry.{EntryTerms, message_in_log}
 use Rattle.at_logs.specs.Reading.{ReadingState, tail_of}
@@ -33,3 +33,8 @@ pub record IsDraft (s : ReadingState) (writer from : ℕ) (paid : List TargetPai
   pub can : CanPay s d.log writer from paid
   pub fits : Fits s d.log d.place d.bytes.items (payment_entry s d.log writer from paid name)
   pub made : IsMadeAt s.node d.log (message_in_log (payment_entry s d.log writer from paid name) d.log 0)
+
+-- a node of this book that was given as much as the draft's maker, and the draft at its place, has validated its payment
+abbrev pub IsFinalAt : ReadingState → Draft → Type 0
+IsFinalAt s d = (maker : ReadingState) (writer from : ℕ) (paid : List TargetPair) (name : List ℕ) → IsDraft maker writer from paid name d → maker.book ≡ s.book
+    → maker.hash ≡ s.hash → Follows maker.node s.node → slice_index maker.node.validated d.log + 1 ≤ slice_index s.node.validated d.log

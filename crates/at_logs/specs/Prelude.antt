@@ -4,7 +4,7 @@ pub use Rattle.at_base.specs.Counts.{Covers}
 pub use Rattle.at_broadcast.specs.LogBook.{LogTerms, account_on_logs, most_logs, single_log, total_on_logs}
 pub use Rattle.at_broadcast.specs.Messages.{IsMessageOn, message_of, with_messages}
 pub use Rattle.at_broadcast.specs.Node.{AgreesWithAll, IsNode, IsSolvent, NodeState, ShowsBalances, starting_state}
-pub use Rattle.at_broadcast.specs.TwoNodes.{IsFinal, IsMadeAt, KeepsUp, SharesBalances, SharesPrefixes}
+pub use Rattle.at_broadcast.specs.TwoNodes.{Follows, IsFinal, IsMadeAt, KeepsUp, SharesBalances, SharesPrefixes}
 pub use Rattle.at_broadcast.specs.Validated.{IsClosed}
 pub use Rattle.at_broadcast.specs.declared.log_book.LogAccount.{LogAccount}
 pub use Rattle.at_broadcast.specs.declared.message.Message.{Message}

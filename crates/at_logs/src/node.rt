@@ -1,6 +1,6 @@
 //! A node over logs.
 
-ghost use Rattle.std.specs.Prelude.{◌≡◌, ◌≢◌, ◌<◌, ◌≤◌, ◌↔◌, ℕ, All, Some, length, replicate, slice_index, sum, IsTrue, IfOk, IfErr, IfSome, IfNone, OnOk, OnErr, nat_le, None, if◌then◌else◌};
+ghost use Rattle.std.specs.Prelude.{◌≡◌, ◌≢◌, ◌<◌, ◌≤◌, ◌↔◌, ℕ, All, Some, length, replicate, slice_index, sum, Ok, IsTrue, IfOk, IfErr, IfSome, IfNone, OnOk, OnErr, nat_le, None, if◌then◌else◌};
 ghost use Rattle.at_logs.specs.Prelude.{AreTargetsOn, most_logs};
 ghost use Rattle.at_logs.specs.Entry.{EntryTerms, IsEntryOn};
 ghost use Rattle.at_logs.specs.Logs.{logs_of};
@@ -63,7 +63,7 @@ pub struct Draft {
 
 impl Node {
     ghost use Rattle.at_logs.specs.Answers.{ComesNext, Fits, HasTaken, IsAnswerAt, IsOneAnswer, IsSource, LeavesAfter, SpellsEntry, passed_over};
-    ghost use Rattle.at_logs.specs.Draft.{CanPay, IsDraft};
+    ghost use Rattle.at_logs.specs.Draft.{CanPay, IsDraft, IsFinalAt};
     ghost use Rattle.at_logs.specs.Prelude.{AgreesWithAll, IsClosed, IsFinal, IsSolvent, KeepsUp, SharesBalances, SharesPrefixes, ShowsBalances, total_on_logs};
     ghost use Rattle.at_logs.specs.declared.node.Answer.{Answer};
 
@@ -281,15 +281,19 @@ impl Node {
             && targets.sum() <= u128::from(self.core.balance(from))
     }
 
-    /// Counts a draft whose append was answered, by reading it at its place.
+    /// Counts a draft whose append was answered, by reading it at its place. Then its payment is validated, here and wherever as much was read.
     pub fn appended(&mut self, alloc: Global, draft: &Draft) -> Result<Answer, AllocError>
         requires log_in { draft.now.log < self.old.node.book.logs }
         requires place_in { draft.now.place < ENTRIES_MAX }
         ensures answer { IfOk result (IsOneAnswer self.old draft.now.log draft.now.place draft.now.bytes.items) }
         ensures left { IfOk result (LeavesAfter self.old draft.now.log draft.now.bytes.items self.new) }
+        ensures is_final { result ≡ Ok Answer.Taken → IsFinalAt self.new draft.now }
         ensures err { OnErr result (self.new ≡ self.old) }
     {
-        self.take(alloc, draft.log, draft.place, draft.bytes.as_slice())
+        self.known();
+        let answer = self.take(alloc, draft.log, draft.place, draft.bytes.as_slice())?;
+        self.known();
+        Ok(answer)
     }
 
     /// Tells a proof what holds of the node, alone and beside any other of the same logs. It does nothing when it runs.
