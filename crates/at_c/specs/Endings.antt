@@ -29,10 +29,11 @@ pub record IsEnded (e : EndedTerms) : Type 0 where
 -- this very ledger was closed, with these passes and the receipts of all their calls
 pub record EndsAs (g : GatheredTerms) (e : EndedTerms) : Type 0 where
   pub accounted : AreAccountedFor g.ledger g.passes g.receipts
-  pub board_is : e.closed.id ≡ g.ledger.id
+  pub ledger_is : e.closed.ledger ≡ g.ledger
   pub book_is : e.closed.book ≡ g.ledger.book
   pub names_are : e.names ≡ g.names
   pub receipts_are : e.closed.closing.receipts ≡ g.receipts
+  pub passes_are : e.closed.passes ≡ g.passes
   pub logs : HasAllLogs g.passes e.closed
   pub coherent : Coherent e.closed.book e.closed.closing
 

@@ -108,6 +108,7 @@ pub StaysWithin-MakesWithin : (b : BookTerms) (before after : PassTerms) (call :
     → StaysWithin b before after call r
 StaysWithin-MakesWithin b before after call steps exchanges r makes made exchanged = record {
   few = omega (arith, makes.few, made);
+  risen = omega (arith, made);
   refused = λ refused. omega (arith, makes.refused refused, made);
   decided = exchanged ∙ ap (raised before.exchanges) makes.decided;
   none = λ no. omega (arith, exchanged, makes.none no);

@@ -1,6 +1,6 @@
 -- Jobs that were run: their passes are accounted for by their receipts, which are of the calls of the jobs.
 use Rattle.std.proofs.Common.{◌≡◌, ℕ, ◌^◌, ◌<◌, All, Bool, List, [], ◌∷◌, length, get_or, map, refl, sym, ap, subst, ◌∙◌, arith, Result, Ok, Err, None}
-use Rattle.at_commands.proofs.Prelude.{AllocError, IfOk, get_or-map, length-map, AllZip-get_or, AllZip-long, AllZip, contents_of, IsPlayable, BoardTerms, calls_in, BookTerms, Legal, Whole, Call, Line, ClosingTerms, calls_of, Receipt, AreAccountedFor, ClosedTerms, IsAccountedFor, AreCosts, AreJobsFor, IsClosedAfter, IsPlayed, costs_in, journal_of, Left, JobTerms, Ran}
+use Rattle.at_commands.proofs.Prelude.{AllocError, IfOk, get_or-map, length-map, AllZip-get_or, AllZip-long, AllZip, contents_of, IsPlayable, BoardTerms, calls_in, BookTerms, Legal, Whole, Call, Line, ClosingTerms, calls_of, Receipt, AreAccountedFor, ClosedTerms, IsAccountedFor, AreJobsFor, HaveCosted, IsClosedAfter, IsPlayed, costs_in, journal_of, Left, JobTerms, Ran}
 use Rattle.at_commands.proofs.JobsMade.{files_of, passes_in}
 use Rattle.at_commands.proofs.Laws.RunTotals.{IsLineOn-Whole, sum-last_state}
 
@@ -59,11 +59,12 @@ pub IfOk-receipts : (after : List JobTerms) (files : List (List Call)) (left : L
 IfOk-receipts after files (Ok left) are receipts = rw receipts are
 IfOk-receipts after files (Err refusal) are receipts = tt
 
-pub IfOk-costs : (b : BookTerms) (after : List JobTerms) (left : LeftOrNone) → AreCosts b (receipts_in after) (costs_in after)
+pub IfOk-costed : (ledger : BoardTerms) (notes : Bool) (after : List JobTerms) (left : LeftOrNone)
+    → HaveCosted ledger notes (passes_in after) (receipts_in after) (costs_in after) → IfOk left (λ r. r.passes.items ≡ passes_in after)
     → IfOk left (λ r. contents_of r.receipts.items ≡ receipts_in after) → IfOk left (λ r. contents_of r.costs.items ≡ costs_in after)
-    → IfOk left (λ r. AreCosts b (contents_of r.receipts.items) (contents_of r.costs.items))
-IfOk-costs b after (Ok left) costed receipts costs = rw (receipts, costs) costed
-IfOk-costs b after (Err refusal) costed receipts costs = tt
+    → IfOk left (λ r. HaveCosted ledger notes r.passes.items (contents_of r.receipts.items) (contents_of r.costs.items))
+IfOk-costed ledger notes after (Ok left) costed passes receipts costs = rw (passes, receipts, costs) costed
+IfOk-costed ledger notes after (Err refusal) costed passes receipts costs = tt
 
 -- the receipts of a closing are as few as the calls of the files
 pub few-calls_in : (accounts : ℕ) (c : ClosingTerms) → All (IsPlayable accounts) (calls_in c) → All (λ receipts. length receipts < 2 ^ 32) c.receipts

@@ -1,15 +1,6 @@
 -- The costs of calls that were made on a closed ledger.
-use Rattle.std.proofs.Common.{◌≡◌, ℕ, suc, ◌<◌, All, List, [], ◌∷◌, length, get_or, refl, sym, ap, subst, ◌∙◌, arith}
-use Rattle.at_commands.proofs.Prelude.{get_or-map, length-map, IsPlayable, BookTerms, IsCallOn, Call, calls_of, Receipt, ClosedTerms, PassTerms, IsPlayedNoting, HaveCosts, CostTerms, TakeCalls}
-
--- there is a cost for each receipt
-length-TakeCalls : (b : BookTerms) (before after : PassTerms) (receipts : List Receipt) (costs : List CostTerms) → TakeCalls b before receipts costs after
-    → length costs ≡ length receipts
-unfolding TakeCalls
-length-TakeCalls b before after [] [] taken = refl
-length-TakeCalls b before after [] (c ∷ costs) taken = absurd taken
-length-TakeCalls b before after (r ∷ receipts) [] taken = absurd taken
-length-TakeCalls b before after (r ∷ receipts) (c ∷ costs) (middle, takes, rest) = ap suc (length-TakeCalls b middle after receipts costs rest)
+use Rattle.std.proofs.Common.{◌≡◌, ℕ, ◌<◌, All, List, [], length, get_or, sym, ap, subst, ◌∙◌, arith}
+use Rattle.at_commands.proofs.Prelude.{get_or-map, length-map, IsPlayable, BoardTerms, BookTerms, IsCallOn, Call, calls_of, Receipt, ClosedTerms, PassTerms, IsPlayedNoting, HaveCosts, CostTerms, TakeCalls, length-TakeCalls}
 
 -- receipts of calls on these accounts
 known-calls_of : (accounts : ℕ) (receipts : List Receipt) → All (IsCallOn accounts) (calls_of receipts) → All (λ (r : Receipt). IsCallOn accounts r.call) receipts
@@ -29,13 +20,20 @@ module _ (b : BookTerms) (files : List (List Call)) (closed : ClosedTerms) (cost
       known-calls_of (length b.accounts) (get_or closed.closing.receipts p [])
       (subst (All (IsCallOn (length b.accounts))) file (known p [] (omega (arith, below, count))).known)
 
+  processes : closed.ledger.book.processes ≡ b.processes
+  processes = ap (λ (t : BookTerms). t.processes) played.ledger_is
+
+  taken-at : (p : ℕ) → p < b.processes → (ledger : BoardTerms) × (before : PassTerms) × (after : PassTerms) × (ledger.book ≡ b)
+      × TakeCalls ledger before (get_or closed.closing.receipts p []) (get_or costs p []) after
+  taken-at p below =
+      let taken = played.costed.each p (omega (arith, below, processes)) in
+      (closed.ledger, taken.before, taken.after, played.ledger_is, taken.taken)
+
   pub HaveCosts-played : HaveCosts b closed.closing.receipts costs
   HaveCosts-played = record {
     receipts_count = sym (length-map closed.closing.receipts calls_of) ∙ (ap (λ (fs : List (List Call)). length fs) played.played.run.calls_are ∙ count);
-    costs_count = played.costed.count;
+    costs_count = played.costed.count ∙ processes;
     known = known-at;
-    same = λ p below.
-        let taken = played.costed.each p below in
-        length-TakeCalls b taken.before taken.after (get_or closed.closing.receipts p []) (get_or costs p []) taken.taken;
-    taken = λ p below. let taken = played.costed.each p below in (taken.before, taken.after, taken.taken);
+    same = λ p below. let taken = taken-at p below in length-TakeCalls taken.0 taken.1 taken.2 (get_or closed.closing.receipts p []) (get_or costs p []) taken.4;
+    taken = taken-at;
   }

@@ -44,7 +44,7 @@ unfoldable pub use Rattle.at_commands.specs.Made.{made}
 pub use Rattle.at_commands.specs.Nodes.{AreNodesOf, AreSent, IsNodeOf, all_sent, counts_of, gives, message_given}
 pub use Rattle.at_commands.specs.Outcome.{Found, Outcome}
 pub use Rattle.at_commands.specs.Replaying.{ReportsReplay}
-pub use Rattle.at_commands.specs.Running.{AreCosts, AreJobsFor, IsClosedAfter, IsPlayed, IsPlayedNoting, costs_in, journal_of}
+pub use Rattle.at_commands.specs.Running.{AreCosts, AreJobsFor, HaveCosted, IsClosedAfter, IsClosedNoting, IsPlayed, IsPlayedNoting, TakesNewPass, costs_in, journal_of}
 pub use Rattle.at_commands.specs.Words.{Form, before_values, form_shown, small, values_named, words_of}
 pub use Rattle.at_commands.specs.Writing.{Ends, Wrote}
 pub use Rattle.at_commands.specs.declared.ending.Printed.{Printed}
@@ -82,7 +82,7 @@ pub use Rattle.at_ledger.proofs.FileLists.{contents_of-nil, contents_of-push, co
 pub use Rattle.at_ledger.proofs.Run.{book-run_from, run_from-cons, run_from-nil}
 pub use Rattle.at_ledger.proofs.Slots.{slot_in-owner}
 pub use Rattle.at_ledger.specs.Account.{AccountTerms, is_shared, no_account, rounds_room}
-pub use Rattle.at_ledger.specs.Book.{BookTerms, IsBegun, account_of, is_owner, rounds_of, total_of}
+pub use Rattle.at_ledger.specs.Book.{BookTerms, IsBegun, account_of, has_single, is_owner, rounds_of, total_of, with_usable_room}
 pub use Rattle.at_ledger.specs.Call.{AreTargetsOn, IsCallOn, IsLineOn, TargetPair, amount_of}
 pub use Rattle.at_ledger.specs.Draft.{account_fault, owner_fault, with_account}
 unfoldable pub use Rattle.at_ledger.specs.Draft.{owners_fault}
@@ -98,11 +98,12 @@ pub use Rattle.at_ledger.specs.declared.call.Line.{Line}
 pub use Rattle.at_ledger.specs.declared.call.Reply.TheVariants.{Full, NotOwner, Short}
 pub use Rattle.at_log.proofs.Sharing.{call_send}
 pub use Rattle.at_log.specs.ClosingTerms.{ClosingTerms}
+pub use Rattle.at_log.specs.Coherent.{Coherent}
 pub use Rattle.at_log.specs.Receipts.{calls_of}
 pub use Rattle.at_log.specs.declared.receipt.Receipt.{Receipt}
 pub use Rattle.at_object.proofs.Sharing.{pass_send}
 pub use Rattle.at_object.specs.Closings.{AreAccountedFor, ClosedTerms, IsAccountedFor}
-pub use Rattle.at_object.specs.Passes.{AreNewPasses, IsNewPass, PassTerms}
+pub use Rattle.at_object.specs.Passes.{AreNewPasses, IsNewPass, PassTerms, others_counted}
 pub use Rattle.at_orders.proofs.Laws.Owners.{owners-cover}
 pub use Rattle.at_orders.proofs.Laws.Settled.{covered-settled}
 pub use Rattle.at_pages.specs.PageText.{page_text}
@@ -119,7 +120,7 @@ pub use Rattle.at_stepper.specs.InTurns.{IsReplayBy}
 pub use Rattle.at_stepper.specs.declared.replaying.Replayed.{Replayed}
 pub use Rattle.at_tables.specs.CostsText.{HaveCosts}
 pub use Rattle.at_workers.proofs.Sharing.{job_send}
-pub use Rattle.at_workers.specs.Costs.{CostTerms}
-unfoldable pub use Rattle.at_workers.specs.Costs.{TakeCalls}
+pub use Rattle.at_workers.proofs.CostLaws.{AddUp, AddUp-TakeCalls, length-TakeCalls}
+pub use Rattle.at_workers.specs.Costs.{CostTerms, TakeCalls, cost_so_far, sum_of_costs}
 pub use Rattle.at_workers.specs.Jobs.{JobTerms, Ran}
 pub use Rattle.at_workers.specs.declared.job.JobRefused.{JobRefused}

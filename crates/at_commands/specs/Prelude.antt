@@ -77,5 +77,5 @@ pub use Rattle.at_tables.specs.LedgerText.{ledger_text}
 pub use Rattle.at_tables.specs.OrdersText.{orders_text}
 pub use Rattle.at_tables.specs.TraceText.{trace_text}
 pub use Rattle.at_verify.specs.Right.{IsFirstWrong, IsReport, IsReportOf}
-pub use Rattle.at_workers.specs.Costs.{CostTerms, TakeCalls}
+pub use Rattle.at_workers.specs.Costs.{CostTerms, TakeCalls, cost_so_far, sum_of_costs}
 pub use Rattle.at_workers.specs.Jobs.{IsReady, JobTerms}

@@ -3,7 +3,7 @@
 ghost use Rattle.std.specs.Prelude.{◌≡◌, ◌<◌, ◌^◌, ◌++◌, [], length, map, true, All, IfOk, None, Ok, OnOk, Some, if◌then◌else◌};
 ghost use Rattle.at_commands.specs.Asking.{AreAsked, MayBeAsked, job_asked};
 ghost use Rattle.at_commands.specs.Prelude.{option_map, option_to_list, IsPlayable, contents_of, IsCallOn, calls_of, AreAccountedFor, AreNewPasses, Stands, AreCallsOf, line_at, JobTerms};
-ghost use Rattle.at_commands.specs.Running.{AreCosts, AreJobsFor, HasNewPasses, IsClosedAfter, IsPlayed, IsPlayedInOrder, IsPlayedNoting, costs_in, journal_of};
+ghost use Rattle.at_commands.specs.Running.{AreJobsFor, HasNewPasses, HaveCosted, IsClosedAfter, IsClosedNoting, IsPlayed, IsPlayedInOrder, IsPlayedNoting, costs_in, journal_of};
 
 use at_files::count_calls;
 use at_journal::{CallAt, journal, journal_calls, journal_calls_by_threads};
@@ -169,8 +169,8 @@ fn make_calls<R: Threads + Sync, G: Gate + Sync>(
         (λ r. AreAccountedFor ledger.now r.passes.items (contents_of r.receipts.items)) }
     ensures calls { IfOk result
         (λ r. map calls_of (contents_of r.receipts.items) ≡ contents_of files.items) }
-    ensures costs { notes ≡ true → IfOk result
-        (λ r. AreCosts ledger.now.book (contents_of r.receipts.items) (contents_of r.costs.items)) }
+    ensures costs { IfOk result (λ r. HaveCosted ledger.now notes r.passes.items
+        (contents_of r.receipts.items) (contents_of r.costs.items)) }
 {
     let mut jobs = jobs_for(rt, alloc, ledger, passes, files, notes)?;
     run_all(rt, ledger, jobs.as_mut_slice(), gate);
@@ -190,10 +190,8 @@ fn closed_on<R: Threads + Sync, G: Gate + Sync>(
     requires passes { AreNewPasses opened.0 opened.1.items }
     requires count { length files.items ≡ opened.0.book.processes }
     requires known { All (IsPlayable (length opened.0.book.accounts)) (contents_of files.items) }
-    ensures closed { IfOk result (λ r. IsClosedAfter opened.0.book (contents_of files.items) r.0) }
-    ensures costs { notes ≡ true
-        → IfOk result
-        (λ r. AreCosts opened.0.book r.0.closing.receipts (contents_of r.1.items)) }
+    ensures { IfOk result (λ r. IsClosedNoting opened.0.book (contents_of files.items) notes r.0
+        (contents_of r.1.items)) }
 {
     let (ledger, passes) = opened;
     let left = make_calls(rt, alloc, &ledger, passes, files, notes, gate)?;
@@ -220,9 +218,8 @@ fn closed_after<R: Threads + Sync, G: Gate + Sync>(
 ) -> Result<(Closed, Vec<Vec<CallCost>>), AllocError>
     requires count { length files.items ≡ book.now.processes }
     requires known { All (IsPlayable (length book.now.accounts)) (contents_of files.items) }
-    ensures closed { IfOk result (λ r. IsClosedAfter book.now (contents_of files.items) r.0) }
-    ensures costs { notes ≡ true
-        → IfOk result (λ r. AreCosts book.now r.0.closing.receipts (contents_of r.1.items)) }
+    ensures { IfOk result (λ r. IsClosedNoting book.now (contents_of files.items) notes r.0
+        (contents_of r.1.items)) }
 {
     let opened = Ledger::new(alloc, book)?;
     closed_on(rt, alloc, opened, files, notes, gate)

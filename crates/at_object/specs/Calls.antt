@@ -56,10 +56,11 @@ may_exchange b (Call.Transfer from to amount) = is_shared (account_of b from)
 may_exchange b (Call.Read account) = false
 may_exchange b (Call.Pay from targets) = is_shared (account_of b from)
 
--- the pass has made few steps, and none where the call is refused. Its exchanges are those that its process has decided on the account
+-- the pass has made few steps, and none where the call is refused; its count of them doesn't fall. Its exchanges are those that its process has decided on the account
 -- that the call names first, at most one for each owner; on other accounts there are none, and none at all where the call may make none
 pub record StaysWithin (b : BookTerms) (before after : PassTerms) (call : Call) (r : Receipt) : Type 0 where
   pub few : after.steps ≤ before.steps + call_steps b call + RECORD_WORDS * counted_anew before after
+  pub risen : before.steps ≤ after.steps
   pub refused : IsRefused r → after.steps ≡ before.steps
   pub decided : after.exchanges ≡ raised before.exchanges (decides_made (first_account call) before.knows after.knows)
   pub none : may_exchange b call ≡ false → after.exchanges ≡ before.exchanges

@@ -1,6 +1,6 @@
 -- The closing of a ledger.
 use Rattle.std.specs.Prelude.{◌≡◌, ℕ, ◌<◌, List, [], length, slice_index_or, All, None}
-use Rattle.at_object.specs.Prelude.{TableId, BoardState, IsHistory, IsPrefix, count_of, publications_of, Sound, BookTerms, BoardTerms, ClosingTerms, log_published, KeepsTime, Receipt}
+use Rattle.at_object.specs.Prelude.{BoardState, IsHistory, IsPrefix, count_of, publications_of, Sound, BookTerms, BoardTerms, ClosingTerms, log_published, KeepsTime, Receipt}
 use Rattle.at_object.specs.Passes.{IsPassOf, PassTerms, Stands}
 
 -- the pass is the ledger's for the process, these receipts stand with it, and they are as many as the calls that were made with it
@@ -17,11 +17,12 @@ pub record AreAccountedFor (ledger : BoardTerms) (passes : List PassTerms) (rece
   pub each : (p : ℕ) (d : PassTerms) → p < ledger.book.processes →
       IsAccountedFor ledger p (slice_index_or passes p d) (slice_index_or receipts p [])
 
--- a closed ledger by the board that it had, its book and its closing
+-- a closed ledger by the ledger that it was, its book and its closing, and each process's pass at its end
 pub record ClosedTerms : Type 0 where
-  pub id : TableId
+  pub ledger : BoardTerms
   pub book : BookTerms
   pub closing : ClosingTerms
+  pub passes : List PassTerms
 
 -- the logs are the publications of the board's last state, which is sound and in which no cell is held, divided by process. All that each
 -- pass had seen is a prefix of that one list, which has no more of its process, and the journal's order keeps its time

@@ -33,10 +33,11 @@ impl Ledger {
         receipts: Vec<Vec<Receipt>>,
     ) -> Result<Closed, CloseRefused>
         requires { AreAccountedFor self passes.items (map (λ v. v.items) receipts.items) }
-        ensures id { IfOk result (λ c. c.id ≡ self.id) }
+        ensures ledger { IfOk result (λ c. c.ledger ≡ self) }
         ensures book { IfOk result (λ c. c.book ≡ self.book) }
         ensures receipts { IfOk result (λ c. c.closing.receipts
             ≡ map (λ v. v.items) receipts.items) }
+        ensures passes { IfOk result (λ c. c.passes ≡ passes.items) }
         ensures logs { IfOk result (HasAllLogs passes.items) }
         ensures coherent { IfOk result (λ c. Coherent c.book c.closing) }
         ensures refused { IfErr result (λ r. (r.ledger ≡ self) × (r.passes.items ≡ passes.items)
@@ -51,11 +52,13 @@ impl Ledger {
         };
         let Memory { book, rooms, seats } = memory;
         let ledger = Snapshot::of(&self);
+        let last = Snapshot::of(&passes);
         let end = self.board.close(seats_of(passes, seats));
         Ok(Closed {
             book,
             closing: closing_of(&end, rooms, receipts),
             ledger,
+            passes: last,
         })
     }
 }

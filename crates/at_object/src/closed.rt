@@ -4,6 +4,7 @@ ghost use Rattle.std.specs.Prelude.{◌≡◌};
 ghost use Rattle.at_object.specs.Prelude.{with_usable_room, Coherent};
 
 use crate::ledger::Ledger;
+use crate::pass::Pass;
 use at_ledger::Book;
 use at_log::Closing;
 use std::marker::Model;
@@ -15,8 +16,9 @@ use std::snapshot::Snapshot;
 pub struct Closed {
     pub(crate) book: Book,
     pub(crate) closing: Closing,
-    /// The ledger that it was, for clauses alone: it has no bytes.
+    /// The ledger that it was, and its passes at their end, for clauses alone: they have no bytes.
     pub(crate) ledger: Snapshot<Ledger>,
+    pub(crate) passes: Snapshot<Vec<Pass>>,
 }
 
 impl Model for Closed {
@@ -25,7 +27,12 @@ impl Model for Closed {
 
     ghost Value = { ClosedTerms };
 
-    ghost view = { λ c. record { id = c.ledger.value.id; book = c.book; closing = c.closing } };
+    ghost view = { λ c. record {
+      ledger = c.ledger.value;
+      book = c.book;
+      closing = c.closing;
+      passes = c.passes.value.items;
+    } };
 
     ghost invariant = { λ c. Coherent c.book c.closing };
 }
@@ -43,21 +50,21 @@ impl Closed {
     /// answered the same.
     pub fn of_whole_book(self, book: Book) -> Closed
         requires { self.book ≡ with_usable_room book }
-        ensures id { result.id ≡ self.id }
-        ensures book { result.book ≡ book }
-        ensures closing { result.closing ≡ self.closing }
+        ensures closed { result ≡ record self { book = book } }
         ensures coherent { Coherent result.book result.closing }
     {
         let Closed {
             book: _,
             closing,
             ledger,
+            passes,
         } = self;
         book.known();
         Closed {
             book,
             closing,
             ledger,
+            passes,
         }
     }
 

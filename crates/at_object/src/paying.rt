@@ -26,6 +26,7 @@ impl Ledger {
         ensures calls { pass.new.calls ≡ one_more_call pass.old.calls }
         ensures steps { pass.new.steps ≤ pass.old.steps + payment_steps self.now.book source
             + RECORD_WORDS * counted_anew pass.old pass.new }
+        ensures risen { pass.old.steps ≤ pass.new.steps }
         ensures exchanges { pass.new.exchanges
             ≡ raised pass.old.exchanges (decides_made source pass.old.knows pass.new.knows) }
         ensures exchanges_single { is_shared (account_of self.now.book source) ≡ false
@@ -59,6 +60,7 @@ impl Ledger {
         ensures calls { pass.new.calls ≡ one_more_call pass.old.calls }
         ensures steps { pass.new.steps ≤ pass.old.steps + single_steps self.now.book.processes
             + RECORD_WORDS * counted_anew pass.old pass.new }
+        ensures risen { pass.old.steps ≤ pass.new.steps }
         ensures exchanges { pass.new.exchanges ≡ pass.old.exchanges }
         ensures decides { (a : ℕ) → decides_on pass.new.knows a ≡ decides_on pass.old.knows a }
     {
@@ -92,6 +94,7 @@ impl Ledger {
         ensures steps { pass.new.steps ≤ pass.old.steps + shared_steps self.now.book.processes
             (slots_of (account_of self.now.book source))
             + RECORD_WORDS * counted_anew pass.old pass.new }
+        ensures risen { pass.old.steps ≤ pass.new.steps }
         ensures exchanges { pass.new.exchanges
             ≡ raised pass.old.exchanges (decides_made source pass.old.knows pass.new.knows) }
         ensures decides { decides_made source pass.old.knows pass.new.knows

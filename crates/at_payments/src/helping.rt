@@ -121,6 +121,7 @@ impl Helping {
         ensures steps { seat.new.steps ≤ seat.old.steps + snapshot_steps board.now.book.processes
             + asking_steps (slots_of (account_of board.now.book account))
             + RECORD_WORDS * newly_counted seat.old.knows seat.new.knows totals.old totals.new }
+        ensures risen { seat.old.steps ≤ seat.new.steps }
         ensures exchanges { seat.new.exchanges ≡ seat.old.exchanges }
     {
         seat.known();
@@ -194,6 +195,7 @@ impl Helping {
             + round_steps board.now.book.processes
             * decides_made self.old.account seat.old.knows seat.new.knows
             + RECORD_WORDS * newly_counted seat.old.knows seat.new.knows totals.old totals.new }
+        ensures risen { seat.old.steps ≤ seat.new.steps }
         ensures exchanges { seat.new.exchanges
             ≡ raised seat.old.exchanges (decides_made self.old.account seat.old.knows seat.new.knows) }
     {

@@ -20,6 +20,7 @@ pub fn look(board: &Board, seat: &mut BoardSeat, totals: &mut Totals) -> Counts
     ensures board { IsOf seat.new board.now }
     ensures steps { seat.new.steps ≤ seat.old.steps + snapshot_steps board.now.book.processes
         + RECORD_WORDS * (sum result - sum totals.old.upto) }
+    ensures risen { seat.old.steps ≤ seat.new.steps }
     ensures exchanges { seat.new.exchanges ≡ seat.old.exchanges }
 {
     let cut = snapshot(board, seat);

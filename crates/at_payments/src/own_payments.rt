@@ -53,6 +53,7 @@ pub fn pay_single(
     ensures steps_short { result.0 ≡ Reply.Short →
         seat.new.steps ≤ seat.old.steps + snapshot_steps board.now.book.processes
         + RECORD_WORDS * newly_counted seat.old.knows seat.new.knows totals.old totals.new }
+    ensures risen { seat.old.steps ≤ seat.new.steps }
     ensures exchanges { seat.new.exchanges ≡ seat.old.exchanges }
 {
     seat.known();

@@ -58,6 +58,7 @@ pub fn pay_shared(
         + slots_of (account_of board.now.book account)
         * (snapshot_steps board.now.book.processes + round_steps board.now.book.processes)
         + RECORD_WORDS * newly_counted seat.old.knows seat.new.knows totals.old totals.new }
+    ensures risen { seat.old.steps ≤ seat.new.steps }
     ensures exchanges { seat.new.exchanges
         ≡ raised seat.old.exchanges (decides_made account seat.old.knows seat.new.knows) }
 {

@@ -19,6 +19,7 @@ pub fn snapshot(board: &Board, seat: &mut BoardSeat) -> Counts
         (board.now.book.processes + 1) }
     ensures board { IsOf seat.new board.now }
     ensures steps { seat.new.steps ≤ seat.old.steps + snapshot_steps board.now.book.processes }
+    ensures risen { seat.old.steps ≤ seat.new.steps }
     ensures exchanges { seat.new.exchanges ≡ seat.old.exchanges }
 {
     seat.known();

@@ -21,6 +21,7 @@ pub use Rattle.std.specs.declared.cmp.Ordering.{Ordering}
 pub use Rattle.std.specs.declared.cmp.Ordering.TheVariants.{Equal, Greater, Less}
 pub use Rattle.std.specs.Vec.{with_items}
 pub use Rattle.at_board.specs.Counting.{raised}
+pub use Rattle.at_board.specs.Knowledge.Seats.{BoardTerms}
 pub use Rattle.at_files.specs.Names.{NameList, account_name}
 pub use Rattle.at_ledger.proofs.FileLists.{contents_of-pushed, get_or-contents_of, length-contents_of}
 pub use Rattle.at_ledger.specs.Account.{AccountTerms, is_owner_in, is_shared, no_account}

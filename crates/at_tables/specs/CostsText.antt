@@ -1,6 +1,6 @@
 -- The text of `costs`: a record for each call, by process and then in file order.
 use Rattle.std.specs.Prelude.{◌≡◌, ℕ, ◌+◌, ◌<◌, List, [], ◌∷◌, ◌++◌, All, codes, decimal, flat_map, length, map, slice_index_or}
-use Rattle.at_tables.specs.Prelude.{range_with_len, BookTerms, IsCallOn, NameList, process_name, receipt_at, Receipt, Words, reply_word, record_text, records_text, PassTerms, CostTerms, TakeCalls}
+use Rattle.at_tables.specs.Prelude.{range_with_len, BoardTerms, BookTerms, IsCallOn, NameList, process_name, receipt_at, Receipt, Words, reply_word, record_text, records_text, PassTerms, CostTerms, TakeCalls}
 use Rattle.at_tables.specs.CallFields.{call_fields}
 use Rattle.at_tables.specs.Bounds.{most_exchanges, most_steps}
 
@@ -35,11 +35,12 @@ costs_records b names receipts costs processes =
 abbrev pub costs_text : BookTerms → NameList → List (List Receipt) → List (List CostTerms) → List ℕ
 costs_text b names receipts costs = record_text costs_head ++ records_text (costs_records b names receipts costs b.processes)
 
--- there are the receipts of each process of the book, and a cost for each, by calls that took its pass one after another
+-- there are the receipts of each process of the book, and a cost for each, by calls that took its pass on a ledger one after another
 pub record HaveCosts (b : BookTerms) (receipts : List (List Receipt)) (costs : List (List CostTerms)) : Type 0 where
   pub receipts_count : length receipts ≡ b.processes
   pub costs_count : length costs ≡ b.processes
   pub known : (p : ℕ) → p < b.processes → All (λ (r : Receipt). IsCallOn (length b.accounts) r.call) (slice_index_or receipts p [])
   pub same : (p : ℕ) → p < b.processes → length (slice_index_or costs p []) ≡ length (slice_index_or receipts p [])
   pub taken : (p : ℕ) → p < b.processes
-      → (before : PassTerms) × (after : PassTerms) × TakeCalls b before (slice_index_or receipts p []) (slice_index_or costs p []) after
+      → (ledger : BoardTerms) × (before : PassTerms) × (after : PassTerms) × (ledger.book ≡ b)
+      × TakeCalls ledger before (slice_index_or receipts p []) (slice_index_or costs p []) after

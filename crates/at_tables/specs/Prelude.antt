@@ -7,6 +7,7 @@ pub use Rattle.std.specs.List.{join_with_byte, range_with_len}
 pub use Rattle.std.specs.List.Sorted.{IsStrictlySortedBy}
 pub use Rattle.std.specs.Ordering.{nat_cmp, ordering_then}
 pub use Rattle.std.specs.declared.cmp.Ordering.{Ordering}
+pub use Rattle.at_board.specs.Knowledge.Seats.{BoardTerms}
 pub use Rattle.at_board.specs.declared.step.BoardStep.{BoardStep}
 pub use Rattle.at_board.specs.declared.step.BoardStep.TheVariants.{Exchange, Load, Store}
 pub use Rattle.at_board.specs.declared.step.BoardWord.{BoardWord}

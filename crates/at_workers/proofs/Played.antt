@@ -1,8 +1,8 @@
 -- A job whose first calls were made: how one call more keeps it, and what stands when all were made.
 use Rattle.std.proofs.Common.{◌≡◌, ℕ, ◌+◌, ◌<◌, List, ◌∷◌, [], ◌++◌, length, get_or, set, take, refl, sym, ap, subst, ◌∙◌, arith, length-append, Option, Vec}
-use Rattle.at_workers.proofs.Prelude.{get_or-map, length-map, length-take, map-append, take_all, take_more, take_more_set, Global, is_some, map-set_same, vec_capacity, BookTerms, IsCallOn, Call, Read, IsPrefix-refl, IsPrefix-trans, IsPrefix, BoardTerms, calls_of, Receipt, begins-CallMade, call-CallMade, process-CallMade, stands-CallMade, CallMade, StaysWithin, IsPassOf, PassTerms, Stands, CostTerms, IsCalled, TakesCall, cost_of, costs_with, HasCosts, IsJob, IsReady, JobTerms, MakesNext, Ran}
+use Rattle.at_workers.proofs.Prelude.{get_or-map, length-map, length-take, map-append, take_all, take_more, take_more_set, Global, is_some, map-set_same, vec_capacity, BookTerms, IsCallOn, Call, Read, IsPrefix-refl, IsPrefix-trans, IsPrefix, BoardTerms, calls_of, Receipt, begins-CallMade, call-CallMade, process-CallMade, stands-CallMade, IsPassOf, PassTerms, Stands, CostTerms, IsCalled, TakeCalls, TakesCall, cost_of, costs_with, HasCosts, IsJob, IsReady, JobTerms, MakesNext, Ran}
 use Rattle.std.specs.Prelude.{◌^◌, slice_index_or, All, IfSome}
-use Rattle.at_workers.proofs.CostLaws.{AreCosted, AreCosted-more, AreCosted-none, is_some-costs_with}
+use Rattle.at_workers.proofs.CostLaws.{AreNoted, AreNoted-more, AreNoted-none, TakeCalls-more, TakeCalls-none, is_some-costs_with}
 
 -- the receipts stand with the pass still, with that of one more call
 pub Stands-made : (before after : PassTerms) (earlier receipts : List Receipt) (r : Receipt) → Stands before earlier
@@ -97,12 +97,10 @@ module _ (ledger : BoardTerms) (before after : PassTerms) (list : List Receipt) 
     call_is = λ d. same ∙ ap (λ (x : Receipt). x.call) is
         ∙ sym (get_or-map (λ (x : Receipt). x.call) list n waits d within)
         ∙ ap (λ m. slice_index_or (calls_of list) m d) (omega (arith, length-take n list, within));
-    made = subst (λ c. CallMade ledger.book before after c r) (sym same) called.made;
-    within = subst (λ c. StaysWithin ledger.book before after c r) (sym same) called.within;
+    called = subst (λ c. IsCalled ledger before after c r) (sym same) called;
     receipts_are = one_more;
     costs_are = noted;
     calls_are = unmoved;
-    of_ledger = called.pass;
     counted = omega (arith, called.calls, counted, count, few, long, length-take n list, within);
   }
 
@@ -117,7 +115,9 @@ pub record HasPlayed (ledger : BoardTerms) (before after : JobTerms) (number : �
   pub of_ledger : IsPassOf after.pass ledger
   pub begins : IsPrefix before.pass.knows.seen after.pass.knows.seen
   pub notes : is_some after.costs ≡ is_some before.costs
-  pub costed : AreCosted ledger.book before.pass after.pass after.receipts after.costs
+  pub costs : List CostTerms
+  pub taken : TakeCalls ledger before.pass after.receipts costs after.pass
+  pub noted : AreNoted after.costs costs
 
 pub HasPlayed-none : (ledger : BoardTerms) (job : JobTerms) → IsReady ledger job → Stands job.pass job.receipts
     → job.pass.calls ≡ length job.receipts → IfSome job.costs (λ list. length list ≡ length job.receipts) → HasPlayed ledger job job 0
@@ -131,7 +131,9 @@ HasPlayed-none ledger job ready stands counted costed = record {
   of_ledger = ready.of_ledger;
   begins = IsPrefix-refl job.pass.knows.seen;
   notes = refl;
-  costed = AreCosted-none ledger.book job.pass job.receipts job.costs ready.unmade costed;
+  costs = [];
+  taken = TakeCalls-none ledger job.pass job.receipts ready.unmade;
+  noted = AreNoted-none job.costs job.receipts ready.unmade costed;
 }
 
 -- one more call is made
@@ -142,26 +144,26 @@ HasPlayed-more ledger before middle after number played more next =
     let d : Call = Read 0 in
     let last : slice_index_or middle.calls (length middle.receipts) d ≡ slice_index_or before.calls number d =
     ap (λ xs. slice_index_or xs (length middle.receipts) d) played.calls_are ∙ ap (λ n. slice_index_or before.calls n d) played.count_is in
-    let with_one : List Receipt = middle.receipts ++ r ∷ [] in
-    let takes : TakesCall ledger.book middle.pass after.pass r (cost_of middle.pass after.pass) =
-    record { made = next.made; within = next.within; cost_is = refl } in
-    let costed : AreCosted ledger.book before.pass after.pass with_one (costs_with (cost_of middle.pass after.pass) middle.costs) =
-    AreCosted-more ledger.book before.pass middle.pass after.pass middle.receipts r middle.costs played.costed takes in
+    let made = next.called.made in
+    let cost : CostTerms = cost_of middle.pass after.pass in
+    let takes : TakesCall ledger middle.pass after.pass r cost = record { called = next.called; cost_is = refl } in
     record {
-      process_is = process-CallMade ledger.book middle.pass after.pass r.call r next.made ∙ played.process_is;
+      process_is = process-CallMade ledger.book middle.pass after.pass r.call r made ∙ played.process_is;
       calls_are = next.calls_are ∙ played.calls_are;
       count_is = ap length next.receipts_are ∙ (length-append middle.receipts (r ∷ []) ∙ ap (λ n. n + 1) played.count_is);
       made = ap calls_of next.receipts_are ∙ (map-append (λ (x : Receipt). x.call) middle.receipts (r ∷ [])
           ∙ (ap (λ xs. xs ++ r.call ∷ []) played.made
           ∙ (ap (λ c. take number before.calls ++ c ∷ []) (next.call_is d ∙ last) ∙ sym (take_more before.calls number d more))));
       stands = Stands-made middle.pass after.pass middle.receipts after.receipts r played.stands
-          (stands-CallMade ledger.book middle.pass after.pass r.call r next.made) next.receipts_are;
+          (stands-CallMade ledger.book middle.pass after.pass r.call r made) next.receipts_are;
       counted = next.counted;
-      of_ledger = next.of_ledger;
+      of_ledger = next.called.pass;
       begins = IsPrefix-trans before.pass.knows.seen middle.pass.knows.seen after.pass.knows.seen played.begins
-          (begins-CallMade ledger.book middle.pass after.pass r.call r next.made);
+          (begins-CallMade ledger.book middle.pass after.pass r.call r made);
       notes = ap is_some next.costs_are ∙ (is_some-costs_with (cost_of middle.pass after.pass) middle.costs ∙ played.notes);
-      costed = rw (next.receipts_are, next.costs_are) costed;
+      costs = played.costs ++ cost ∷ [];
+      taken = rw next.receipts_are (TakeCalls-more ledger before.pass middle.pass after.pass middle.receipts played.costs r cost played.taken takes);
+      noted = rw next.costs_are (AreNoted-more middle.costs played.costs cost played.noted);
     }
 
 -- all calls were made
@@ -176,5 +178,7 @@ HasPlayed-all ledger before after number played all = record {
   of_ledger = played.of_ledger;
   begins = played.begins;
   notes = played.notes;
-  costed = played.costed;
+  costs = played.costs;
+  taken = played.taken;
+  noted = played.noted;
 }

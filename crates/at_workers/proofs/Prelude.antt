@@ -2,6 +2,7 @@
 pub use Rattle.std.proofs.Crossing.{crosses}
 pub use Rattle.std.proofs.Math.Seq.{map-set_same}
 pub use Rattle.std.proofs.lemmas.List.{get_or-map, length-map, length-take, map-append, take_all, take_more, take_more_set}
+pub use Rattle.std.proofs.lemmas.List.Sums.{sum_by-cons}
 pub use Rattle.std.specs.Global.{Global}
 pub use Rattle.std.specs.List.{AllZip}
 pub use Rattle.std.specs.Option.{is_some, option_map}
@@ -18,10 +19,9 @@ pub use Rattle.at_ledger.specs.declared.call.Call.TheVariants.{Read}
 pub use Rattle.at_log.proofs.Sharing.{receipt_send}
 pub use Rattle.at_log.specs.Receipts.{calls_of}
 pub use Rattle.at_log.specs.declared.receipt.Receipt.{Receipt}
-pub use Rattle.at_object.proofs.Laws.Calls.{begins-CallMade, call-CallMade, process-CallMade, stands-CallMade}
+pub use Rattle.at_object.proofs.Laws.Calls.{begins-CallMade, call-CallMade, counted-CallMade, process-CallMade, stands-CallMade}
 pub use Rattle.at_object.proofs.Sharing.{pass_send}
-pub use Rattle.at_object.specs.Calls.{CallMade, StaysWithin}
-pub use Rattle.at_object.specs.Passes.{IsPassOf, PassTerms, Stands}
+pub use Rattle.at_object.specs.Passes.{IsPassOf, PassTerms, Stands, others_counted}
 pub use Rattle.at_workers.specs.Costs.{CostTerms, IsCalled, TakesCall, cost_of, costs_with}
 unfoldable pub use Rattle.at_workers.specs.Costs.{TakeCalls}
 pub use Rattle.at_workers.specs.Jobs.{HasCosts, IsJob, IsReady, JobTerms, MakesNext, Ran}

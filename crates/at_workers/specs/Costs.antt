@@ -1,6 +1,6 @@
 -- What calls cost, and the way that they take a pass.
-use Rattle.std.specs.Prelude.{◌≡◌, ℕ, ◌-◌, ◌++◌, List, [], ◌∷◌, Option}
-use Rattle.at_workers.specs.Prelude.{option_map, BookTerms, Call, BoardTerms, Receipt, CallMade, StaysWithin, IsPassOf, PassTerms, one_more_call, others_counted}
+use Rattle.std.specs.Prelude.{◌≡◌, ℕ, ◌-◌, ◌++◌, List, [], ◌∷◌, Option, sum_by}
+use Rattle.at_workers.specs.Prelude.{option_map, Call, BoardTerms, Receipt, CallMade, StaysWithin, IsPassOf, PassTerms, one_more_call, others_counted}
 
 -- steps, how many of them were exchanges, and records of others that were counted anew
 pub record CostTerms : Type 0 where
@@ -32,15 +32,23 @@ pub record IsCalled (ledger : BoardTerms) (before after : PassTerms) (call : Cal
   pub pass : IsPassOf after ledger
   pub calls : after.calls ≡ one_more_call before.calls
 
--- a call with this receipt and this cost took the pass from one to the other
-pub record TakesCall (b : BookTerms) (before after : PassTerms) (r : Receipt) (cost : CostTerms) : Type 0 where
-  pub made : CallMade b before after r.call r
-  pub within : StaysWithin b before after r.call r
+-- a call with this receipt and this cost took the ledger's pass from one to the other
+pub record TakesCall (ledger : BoardTerms) (before after : PassTerms) (r : Receipt) (cost : CostTerms) : Type 0 where
+  pub called : IsCalled ledger before after r.call r
   pub cost_is : cost ≡ cost_of before after
 
 -- calls with these receipts and these costs, one after another, took it so
-unfoldable pub TakeCalls : BookTerms → PassTerms → List Receipt → List CostTerms → PassTerms → Type 0
-TakeCalls b before [] [] after = before ≡ after
-TakeCalls b before [] (c ∷ cs) after = ⊥
-TakeCalls b before (r ∷ rs) [] after = ⊥
-TakeCalls b before (r ∷ rs) (c ∷ cs) after = (middle : PassTerms) × TakesCall b before middle r c × TakeCalls b middle rs cs after
+unfoldable pub TakeCalls : BoardTerms → PassTerms → List Receipt → List CostTerms → PassTerms → Type 0
+TakeCalls ledger before [] [] after = before ≡ after
+TakeCalls ledger before [] (c ∷ cs) after = ⊥
+TakeCalls ledger before (r ∷ rs) [] after = ⊥
+TakeCalls ledger before (r ∷ rs) (c ∷ cs) after =
+    (middle : PassTerms) × TakesCall ledger before middle r c × TakeCalls ledger middle rs cs after
+
+-- what the costs add up to
+abbrev pub sum_of_costs : List CostTerms → CostTerms
+sum_of_costs costs = record {
+  steps = sum_by (λ (c : CostTerms). c.steps) costs;
+  exchanges = sum_by (λ (c : CostTerms). c.exchanges) costs;
+  new_records = sum_by (λ (c : CostTerms). c.new_records) costs;
+}

@@ -1,7 +1,7 @@
 -- Jobs as callers see them, what the type of a job keeps, and what running it leaves.
 use Rattle.std.specs.Prelude.{◌≡◌, ℕ, ◌^◌, ◌<◌, ◌≤◌, ◌++◌, List, [], ◌∷◌, length, slice_index_or, All, IfSome, Option, Vec}
-use Rattle.at_workers.specs.Prelude.{Global, is_some, vec_capacity, IsCallOn, Call, IsPrefix, BoardTerms, calls_of, Receipt, CallMade, StaysWithin, IsPassOf, PassTerms, Stands}
-use Rattle.at_workers.specs.Costs.{CostTerms, TakeCalls, cost_of, costs_with}
+use Rattle.at_workers.specs.Prelude.{Global, is_some, vec_capacity, IsCallOn, Call, IsPrefix, BoardTerms, calls_of, Receipt, IsPassOf, PassTerms, Stands}
+use Rattle.at_workers.specs.Costs.{CostTerms, IsCalled, TakeCalls, cost_of, costs_with}
 
 -- a job by its pass, its calls, the receipts of those that were made, and what these cost, where that is noted
 pub record JobTerms : Type 0 where
@@ -35,16 +35,14 @@ pub record IsReady (ledger : BoardTerms) (job : JobTerms) : Type 0 where
 pub record MakesNext (ledger : BoardTerms) (before after : JobTerms) : Type 0 where
   pub receipt : Receipt
   pub call_is : (d : Call) → receipt.call ≡ slice_index_or before.calls (length before.receipts) d
-  pub made : CallMade ledger.book before.pass after.pass receipt.call receipt
-  pub within : StaysWithin ledger.book before.pass after.pass receipt.call receipt
+  pub called : IsCalled ledger before.pass after.pass receipt.call receipt
   pub receipts_are : after.receipts ≡ before.receipts ++ receipt ∷ []
   pub costs_are : after.costs ≡ costs_with (cost_of before.pass after.pass) before.costs
   pub calls_are : after.calls ≡ before.calls
-  pub of_ledger : IsPassOf after.pass ledger
   pub counted : after.pass.calls ≡ length after.receipts
 
 -- the job was run on the ledger: it has one receipt for each of its calls, in order. These stand with its pass, which has counted
--- as many calls. Where costs are noted, each is what its call cost
+-- as many calls, and these calls took it there, one after another. Where costs are noted, they are theirs
 pub record Ran (ledger : BoardTerms) (before after : JobTerms) : Type 0 where
   pub process_is : after.pass.knows.first ≡ before.pass.knows.first
   pub calls_are : after.calls ≡ before.calls
@@ -54,4 +52,6 @@ pub record Ran (ledger : BoardTerms) (before after : JobTerms) : Type 0 where
   pub of_ledger : IsPassOf after.pass ledger
   pub begins : IsPrefix before.pass.knows.seen after.pass.knows.seen
   pub notes : is_some after.costs ≡ is_some before.costs
-  pub costed : IfSome after.costs (λ costs. TakeCalls ledger.book before.pass after.receipts costs after.pass)
+  pub costs : List CostTerms
+  pub taken : TakeCalls ledger before.pass after.receipts costs after.pass
+  pub noted : IfSome after.costs (λ list. list ≡ costs)

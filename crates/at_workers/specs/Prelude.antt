@@ -5,7 +5,6 @@ pub use Rattle.std.specs.Option.{is_some, option_map}
 pub use Rattle.std.specs.Vec.{vec_capacity}
 pub use Rattle.at_board.specs.Knowledge.Seats.{BoardTerms}
 pub use Rattle.at_history.specs.Publications.{IsPrefix}
-pub use Rattle.at_ledger.specs.Book.{BookTerms}
 pub use Rattle.at_ledger.specs.Call.{IsCallOn}
 pub use Rattle.at_ledger.specs.declared.call.Call.{Call}
 pub use Rattle.at_log.specs.Receipts.{calls_of}

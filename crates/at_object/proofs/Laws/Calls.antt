@@ -1,6 +1,6 @@
 -- What a call leaves of its pass, whichever call it is: the fields that payments and reads have alike.
-use Rattle.std.proofs.Common.{◌≡◌, ◌++◌, List, [], ◌∷◌}
-use Rattle.at_object.proofs.Prelude.{BookTerms, Call, Pay, Read, Transfer, IsPrefix, IsPlaced, Receipt, CallMade, PassTerms, Stands}
+use Rattle.std.proofs.Common.{◌≡◌, ◌≤◌, ◌++◌, List, [], ◌∷◌}
+use Rattle.at_object.proofs.Prelude.{BookTerms, Call, Pay, Read, Transfer, IsPrefix, IsPlaced, Receipt, CallMade, PassTerms, Stands, others_counted}
 
 module _ (b : BookTerms) (before after : PassTerms) where
   -- the receipt has the call
@@ -32,3 +32,9 @@ module _ (b : BookTerms) (before after : PassTerms) where
   process-CallMade (Transfer from to amount) r made = made.process_is
   process-CallMade (Read account) r made = made.process_is
   process-CallMade (Pay from targets) r made = made.process_is
+
+  -- and no record that was counted is lost
+  pub counted-CallMade : (call : Call) (r : Receipt) → CallMade b before after call r → others_counted before ≤ others_counted after
+  counted-CallMade (Transfer from to amount) r made = made.counted
+  counted-CallMade (Read account) r made = made.counted
+  counted-CallMade (Pay from targets) r made = made.counted

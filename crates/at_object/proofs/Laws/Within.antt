@@ -26,15 +26,17 @@ may_exchange-payout b source targets (Pay from amounts) is =
 pub StaysWithin-payment : (b : BookTerms) (before after : PassTerms) (source : ℕ) (targets : List TargetPair) (call : Call) (r : Receipt)
     → payout_of call ≡ Some (source, targets) → PaymentMade b before after source targets call r
     → after.steps ≤ before.steps + payment_steps b source + RECORD_WORDS * counted_anew before after
+    → before.steps ≤ after.steps
     → after.exchanges ≡ raised before.exchanges (decides_made source before.knows after.knows)
     → (is_shared (account_of b source) ≡ false → after.exchanges ≡ before.exchanges)
     → decides_made source before.knows after.knows ≤ slots_of (account_of b source)
     → ((a : ℕ) → a ≢ source → decides_on after.knows a ≡ decides_on before.knows a)
     → StaysWithin b before after call r
-StaysWithin-payment b before after source targets call r payout made few decided none most elsewhere =
+StaysWithin-payment b before after source targets call r payout made few risen decided none most elsewhere =
     let first : first_account call ≡ source = first_account-payout source targets call payout in
     record {
       few = omega (arith, few, call_steps-payout b source targets call payout);
+      risen = risen;
       refused = λ refused. ap (λ (t : PassTerms). t.steps) (made.refused refused);
       decided = subst (λ a. after.exchanges ≡ raised before.exchanges (decides_made a before.knows after.knows)) (sym first) decided;
       none = λ no. none (sym (may_exchange-payout b source targets call payout) ∙ no);

@@ -1,7 +1,7 @@
 use Rattle.std.proofs.Common.{◌≡◌, ◌∙◌, ℕ, List, ◌++◌, drop, length, subst, take}
-use Rattle.at_commands.proofs.Prelude.{take-append_seam, contents_of, AreJobsFor, JobTerms}
-use Rattle.at_commands.proofs.JobsRun.{AreAccountedFor-ran, IfOk-accounted, IfOk-costs, IfOk-receipts, files_of-ran}
-use Rattle.at_commands.proofs.JobsNoting.{AreCosts-ran}
+use Rattle.at_commands.proofs.Prelude.{take-append_seam, contents_of, JobTerms}
+use Rattle.at_commands.proofs.JobsRun.{AreAccountedFor-ran, IfOk-accounted, IfOk-costed, IfOk-receipts, files_of-ran}
+use Rattle.at_commands.proofs.JobsNoting.{HaveCosted-ran}
 use Rattle.at_commands.proofs.playing.make_calls.Goals as goal
 
 -- a list that was changed as a slice, in each of its places
@@ -27,11 +27,10 @@ returns-clause-calls g c =
     (rw all at c.taken_apart.ensures.receipts)
 
 pub returns-clause-costs : goal.returns-clause-costs
-returns-clause-costs g c notes =
+returns-clause-costs g c =
     let ledger = c.args.ledger.now in
     let ran = rw c.as_mut_slice.ensures.value at c.run_all.ensures in
     let all = written c.in_ok-jobs.jobs.len c.in_ok-jobs.jobs.items c.run_all.new.jobs (c.run_all.auto.jobs ∙ c.as_mut_slice.ensures.len) in
-    let noting = subst (λ x. AreJobsFor ledger (contents_of c.args.files.items) x c.in_ok-jobs.jobs.items) notes c.in_ok-jobs.ensures in
-    IfOk-costs ledger.book c.run_all.new.jobs c.taken_apart.result
-    (AreCosts-ran ledger (contents_of c.args.files.items) c.in_ok-jobs.jobs.items c.run_all.new.jobs noting ran)
-    (rw all at c.taken_apart.ensures.receipts) (rw all at c.taken_apart.ensures.costs)
+    IfOk-costed ledger c.args.notes c.run_all.new.jobs c.taken_apart.result
+    (HaveCosted-ran ledger (contents_of c.args.files.items) c.args.notes c.in_ok-jobs.jobs.items c.run_all.new.jobs c.in_ok-jobs.ensures ran)
+    (rw all at c.taken_apart.ensures.passes) (rw all at c.taken_apart.ensures.receipts) (rw all at c.taken_apart.ensures.costs)

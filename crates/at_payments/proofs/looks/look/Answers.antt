@@ -38,5 +38,9 @@ pub returns-clause-steps : goal.returns-clause-steps
 returns-clause-steps c =
     omega (arith, c.snapshot-cut.ensures.steps, ap (λ (s : SeatTerms). s.steps) c.catch_up.ensures.same)
 
+pub returns-clause-risen : goal.returns-clause-risen
+returns-clause-risen c =
+    omega (arith, c.snapshot-cut.ensures.risen, ap (λ (s : SeatTerms). s.steps) c.catch_up.ensures.same)
+
 pub returns-clause-exchanges : goal.returns-clause-exchanges
 returns-clause-exchanges c = ap (λ (s : SeatTerms). s.exchanges) c.catch_up.ensures.same ∙ c.snapshot-cut.ensures.exchanges

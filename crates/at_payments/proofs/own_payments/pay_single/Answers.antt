@@ -170,3 +170,9 @@ returns-clause-snapshot c =
     let before : After-append = (goal.at.returns-clause-snapshot c).After-append in
     subst (IsSnapshot b v x) (sym (behind before))
     (IsSnapshot-IsPaid b v c.look-view.new.seat.knows x c.look-view.result c.args.from c.args.targets.now (paid before))
+
+pub returns-then-not-covers-clause-risen : goal.returns-then-not-covers-clause-risen
+returns-then-not-covers-clause-risen c = c.look-view.ensures.risen
+
+pub returns-clause-risen : goal.returns-clause-risen
+returns-clause-risen c = omega (arith, c.look-view.ensures.risen, c.append.ensures.steps)

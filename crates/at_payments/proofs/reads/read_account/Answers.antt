@@ -43,3 +43,6 @@ pub returns-clause-counted : goal.returns-clause-counted
 returns-clause-counted c =
     HasCounted-HasLooked c.args.board.now.book c.args.seat.now.knows c.look-cut.new.seat.knows c.args.totals.now c.look-cut.new.totals c.look-cut.result
     c.look-cut.ensures.looked
+
+pub returns-clause-risen : goal.returns-clause-risen
+returns-clause-risen c = c.look-cut.ensures.risen

@@ -48,6 +48,7 @@ loop-answer-init c =
       more = omega (arith, told.published, told.more);
       counted = told.counted;
       steps = omega (arith, told.steps, ap (λ k. k * (snapshot_steps b.processes + round_steps b.processes)) made);
+      risen = told.risen;
       exchanges = omega (arith, told.exchanges, made);
     }
 
@@ -156,6 +157,7 @@ loop-answer-preserved c =
           (newly_counted y z c.loop-answer.totals c.turn.new.totals) (newly_counted v z c.args.totals.now c.turn.new.totals) c.loop-answer.seat.steps c.turn.new.seat.steps
           (omega (arith, more)) (omega (arith, so_far.decides, more, on_y, on_z)) so_far.steps told.steps
           (omega (arith, so_far.more, told.more, so_far.published, told.published));
+      risen = omega (arith, so_far.risen, told.risen);
       exchanges = omega (arith, so_far.exchanges, told.exchanges, so_far.decides, more, on_y, on_z);
     }
 
@@ -313,3 +315,6 @@ returns-in-Settled-clause-exchanges c =
     let told = c.turn.ensures in
     let so_far = c.loop-answer.invariant in
     omega (arith, so_far.exchanges, so_far.decides, told.exchanges, told.decides_few, on_y, on_z)
+
+pub returns-in-Settled-clause-risen : goal.returns-in-Settled-clause-risen
+returns-in-Settled-clause-risen c = omega (arith, c.loop-answer.invariant.risen, c.turn.ensures.risen)

@@ -23,6 +23,7 @@ invariant-loop-answer l = record {
   steps : l.seat.steps ≤ l.fn.seat.steps + snapshot_steps l.board.book.processes + asking_steps (slots_of (account_of l.board.book l.account))
       + decides_made l.account l.fn.seat.knows l.seat.knows * (snapshot_steps l.board.book.processes + round_steps l.board.book.processes)
       + RECORD_WORDS * newly_counted l.fn.seat.knows l.seat.knows l.fn.totals l.totals;
+  risen : l.fn.seat.steps ≤ l.seat.steps;
   exchanges : l.seat.exchanges ≡ raised l.fn.seat.exchanges (decides_made l.account l.fn.seat.knows l.seat.knows);
 }
 

@@ -60,3 +60,6 @@ returns-in-Clean-clause-collects c = (snapped c).collects
 
 pub returns-in-Clean-clause-steps : goal.returns-in-Clean-clause-steps
 returns-in-Clean-clause-steps c = omega (arith, c.turn.ensures.steps, c.loop-counts.invariant.0.3, (snapped c).few)
+
+pub returns-in-Clean-clause-risen : goal.returns-in-Clean-clause-risen
+returns-in-Clean-clause-risen c = omega (arith, c.turn.ensures.steps, c.loop-counts.invariant.0.3)

@@ -41,6 +41,6 @@ returns-clause-logs c =
     let seats = c.seats_of.result.items in
     let accounted = subst (λ (b : BoardTerms). AreAccountedFor b passes receipts) (sym c.self.view_is) c.requires in
     HasAllLogs-seats board passes receipts seats accounted c.seats_of.ensures.seats c.seats_of.ensures.at_rest
-    c.close-end.result (record { id = c.of-ledger.result.value.id; book = c.in-Ok.memory.book; closing = c.closing_of.result }) c.close-end.ensures.book
+    c.close-end.result (record { ledger = c.of-ledger.result.value; book = c.in-Ok.memory.book; closing = c.closing_of.result; passes = c.of-last.result.value.items }) c.close-end.ensures.book
     (c.in-Ok.ensures.book ∙ (c.book.ensures ∙ sym (ap (λ (b : BoardTerms). b.book) c.self.view_is))) c.close-end.ensures.end (c.closing_of.ensures.logs seats c.close-end.ensures.end)
     c.closing_of.ensures.receipts (c.closing_of.ensures.in_time seats c.close-end.ensures.end)

@@ -11,5 +11,5 @@ returns-clause-within c =
     let told = c.pay_out-reply.ensures in
     let call = Pay c.args.from c.args.targets in
     StaysWithin-payment c.args.self.now.book c.args.pass.now c.pay_out-reply.new.pass c.args.from c.args.targets call
-    (record { call = call; reply = c.pay_out-reply.result.0; at = c.pay_out-reply.result.1 }) refl (told.made call refl) told.steps told.exchanges told.exchanges_single
+    (record { call = call; reply = c.pay_out-reply.result.0; at = c.pay_out-reply.result.1 }) refl (told.made call refl) told.steps told.risen told.exchanges told.exchanges_single
     told.decides told.decides_elsewhere

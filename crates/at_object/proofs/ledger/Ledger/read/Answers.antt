@@ -141,6 +141,7 @@ returns-clause-within c =
     let told = c.read_account-receipt.ensures in
     record {
       few = few d;
+      risen = omega (arith, told.risen, ap (λ (t : PassTerms). t.steps) c.pass.view_is);
       refused = λ refused. absurd (read_or_refused c.read_account-receipt.result _ told.reply refused);
       decided = omega (arith, told.exchanges, ap (λ (t : PassTerms). t.exchanges) c.pass.view_is, decides d c.args.account);
       none = λ _. told.exchanges ∙ ap (λ (t : PassTerms). t.exchanges) c.pass.view_is;

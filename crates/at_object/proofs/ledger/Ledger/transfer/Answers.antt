@@ -27,4 +27,4 @@ returns-clause-within c =
     let call = Transfer c.args.from c.args.to c.args.amount in
     StaysWithin-payment c.args.self.now.book c.args.pass.now c.pay_out-reply.new.pass c.args.from ((c.args.to, c.args.amount) ∷ []) call
     (record { call = call; reply = c.pay_out-reply.result.0; at = c.pay_out-reply.result.1 }) refl (made (goal.at.returns-clause-within c).After-pay_out-reply)
-    told.steps told.exchanges told.exchanges_single told.decides told.decides_elsewhere
+    told.steps told.risen told.exchanges told.exchanges_single told.decides told.decides_elsewhere

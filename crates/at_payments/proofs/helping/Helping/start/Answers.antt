@@ -208,3 +208,6 @@ returns-clause-steps c =
       all.published,
       slot,
     )
+
+pub returns-clause-risen : goal.returns-clause-risen
+returns-clause-risen c = omega (arith, c.look-cut.ensures.risen, c.ask-number.ensures.steps, c.collect_rows-asked.ensures.steps)

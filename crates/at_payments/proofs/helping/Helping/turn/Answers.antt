@@ -134,6 +134,9 @@ returns-in-Some-clause-steps c =
       ap sum c.look-cut.ensures.looked.upto,
     )
 
+pub returns-in-Some-clause-risen : goal.returns-in-Some-clause-risen
+returns-in-Some-clause-risen c = c.look-cut.ensures.risen
+
 pub returns-in-Some-clause-exchanges : goal.returns-in-Some-clause-exchanges
 returns-in-Some-clause-exchanges c = omega (arith, c.look-cut.ensures.exchanges, (turned_found c).decides)
 
@@ -267,6 +270,9 @@ returns-clause-steps c =
       counted_more c,
       c.look-cut.ensures.looked.more,
     )
+
+pub returns-clause-risen : goal.returns-clause-risen
+returns-clause-risen c = omega (arith, c.look-cut.ensures.risen, c.decide_next-turn.ensures.steps)
 
 pub returns-clause-exchanges : goal.returns-clause-exchanges
 returns-clause-exchanges c = omega (arith, c.look-cut.ensures.exchanges, c.decide_next-turn.ensures.exchanges, (turned c).decides)
