@@ -47,7 +47,7 @@ def calls_of(folder, words, number, **grain):
     """The first and the last of the calls that open and read the file of this number."""
 
     def fails(call):
-        return over(folder, *words, FAIL=call, **grain).err == b"read fault: file %d\n" % number
+        return over(folder, *words, FAIL=call, **grain).err.startswith(b"read fault: file %d\n" % number)
 
     first = next(call for call in range(1, 100) if fails(call))
     low, high = first, first + 1

@@ -38,6 +38,6 @@ def cases():
     given += [(f"the first {n} bytes of a book, which are one", ONE[:n], 0, f"checked 1 {accounts} 0") for n, accounts in WHOLE]
     most = ONE[: ONE.index("account")] + "".join(f"account,{a},1,0\n" for a in range(1025))
     given.append(("a book of 1,024 accounts", most.removesuffix("account,1024,1,0\n"), 0, "checked 1 1024 0"))
-    given.append(("a book of 1,025 accounts", most, 3, "book: line 1028: too many accounts"))
+    given.append(("a book of 1,025 accounts", most, 3, "book: line 1028: too many accounts\n  book, line 1028: a book has at most 1024 accounts"))
     for name, *rest in given:
         yield Case(name, reads, *rest)

@@ -1,6 +1,7 @@
 """What a case is, and how it runs the built programs in a folder of its own."""
 
 import os
+import re
 import resource
 import subprocess
 from collections import namedtuple
@@ -15,6 +16,9 @@ TYPED = b"read,0\n"
 
 # How long a command may take. None takes a tenth of that.
 SECONDS = 300
+
+# The statuses of files that are refused.
+OF_A_FILE = {3, 4, 5, 8, 9, 10, 11, 12}
 
 # The programs, where the runner has no other words, and the library of `shim.py`, once that is built.
 PATHS = {name: ROOT / "crates" / name / "out" / name for name in ("at_program", "at_example")}
@@ -129,9 +133,16 @@ def same(found, wanted):
     printed(Answer(0, bytes_of(found), b""), wanted)
 
 
-def refused(answer, status, line):
-    """It was refused with this status and line, and nothing was printed."""
-    expect(answer, status, b"", bytes_of(line) + b"\n")
+def refused(answer, status, text):
+    """It was refused with this status, and nothing was printed. The text is what was told; where it has one line, and a file was refused, some
+    second line of that file was told too."""
+    said = bytes_of(text) + b"\n"
+    if status in OF_A_FILE and said.count(b"\n") == 1:
+        second = answer.err.removeprefix(said)
+        place = rb": " if status in (5, 8) else rb", line [1-9][0-9]*: "
+        is_true(re.fullmatch(rb"  [^\n]*" + place + rb"[^\n]+\n", second), f"the second line is {second!r:.200}")
+        said += second
+    expect(answer, status, b"", said)
 
 
 def verified(folder, answer, words):

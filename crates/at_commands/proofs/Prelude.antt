@@ -67,9 +67,9 @@ pub use Rattle.at_files.specs.Payments.{payments_of}
 pub use Rattle.at_files.specs.Records.{file_records}
 pub use Rattle.at_files.specs.ReplayPayments.{replay_payments_of}
 pub use Rattle.at_files.specs.Results.{and_then}
+pub use Rattle.at_files.specs.declared.book_fault.BookWhy.{BookWhy}
 pub use Rattle.at_files.specs.declared.deliveries.Delivery.{Delivery}
-pub use Rattle.at_files.specs.declared.deliveries.OrderWhy.{OrderWhy}
-pub use Rattle.at_files.specs.declared.schedule.ScheduleWhy.{ScheduleWhy}
+pub use Rattle.at_files.specs.declared.location.Location.{Location}
 pub use Rattle.at_history.proofs.Laws.Payments.{length-credited, sum-credited}
 pub use Rattle.at_io.specs.Faults.{Rose}
 pub use Rattle.at_io.specs.Limits.{most_file_bytes}

@@ -23,13 +23,13 @@ abbrev pub MayRefuseOf : {A : Type 0} → Kind → Bool → Result A Status → 
 MayRefuseOf kind tells expected before now NoMemory = ⊤
 MayRefuseOf kind tells expected before now (ReadFault file) = IsUnread tells expected before now (ReadFault file)
 MayRefuseOf kind tells expected before now (Usage (usage.Files wanted given)) = IsBrought tells expected before now (Usage (usage.Files wanted given))
-MayRefuseOf kind tells expected before now (BadBook bad) = IsBrought tells expected before now (BadBook bad)
+MayRefuseOf kind tells expected before now (BadBook at why) = IsBrought tells expected before now (BadBook at why)
 MayRefuseOf kind tells expected before now (TooLong file) = IsBrought tells expected before now (TooLong file)
-MayRefuseOf payments tells expected before now (BadPayments process bad) = IsBrought tells expected before now (BadPayments process bad)
-MayRefuseOf scheduled tells expected before now (BadPayments process bad) = IsBrought tells expected before now (BadPayments process bad)
-MayRefuseOf scheduled tells expected before now (BadSchedule line why) = IsBrought tells expected before now (BadSchedule line why)
-MayRefuseOf messages tells expected before now (BadMessages process line why) = IsBrought tells expected before now (BadMessages process line why)
-MayRefuseOf messages tells expected before now (BadOrder line why) = IsBrought tells expected before now (BadOrder line why)
+MayRefuseOf payments tells expected before now (BadPayments process at why) = IsBrought tells expected before now (BadPayments process at why)
+MayRefuseOf scheduled tells expected before now (BadPayments process at why) = IsBrought tells expected before now (BadPayments process at why)
+MayRefuseOf scheduled tells expected before now (BadSchedule at why) = IsBrought tells expected before now (BadSchedule at why)
+MayRefuseOf messages tells expected before now (BadMessages process at why) = IsBrought tells expected before now (BadMessages process at why)
+MayRefuseOf messages tells expected before now (BadOrder at why) = IsBrought tells expected before now (BadOrder at why)
 MayRefuseOf _ tells expected before now _ = ⊥
 
 -- the same of a book and payments
@@ -39,16 +39,16 @@ MayRefuse tells expected before now refusal = MayRefuseOf payments tells expecte
 -- what a process's file that was fetched may be refused as, where its bytes lead to what is expected
 abbrev pub RefusesFile : {A : Type 0} → Kind → Result A Status → ℕ → Status → Type 0
 RefusesFile kind expected process NoMemory = ⊤
-RefusesFile payments expected process (BadPayments p bad) = (p ≡ process) × (expected ≡ Err (BadPayments p bad))
-RefusesFile scheduled expected process (BadPayments p bad) = (p ≡ process) × (expected ≡ Err (BadPayments p bad))
-RefusesFile messages expected process (BadMessages p line why) = (p ≡ process) × (expected ≡ Err (BadMessages p line why))
+RefusesFile payments expected process (BadPayments p at why) = (p ≡ process) × (expected ≡ Err (BadPayments p at why))
+RefusesFile scheduled expected process (BadPayments p at why) = (p ≡ process) × (expected ≡ Err (BadPayments p at why))
+RefusesFile messages expected process (BadMessages p at why) = (p ≡ process) × (expected ≡ Err (BadMessages p at why))
 RefusesFile _ expected process _ = ⊥
 
 -- the numbers that a refusal carries are those of a form with this many files of processes
 abbrev pub HasFileNumbers : ℕ → Status → Type 0
 HasFileNumbers files (Usage (usage.Files wanted given)) = (given ≡ files) × (wanted ≢ given)
-HasFileNumbers files (BadPayments process bad) = process < files
-HasFileNumbers files (BadMessages process line why) = process < files
+HasFileNumbers files (BadPayments process at why) = process < files
+HasFileNumbers files (BadMessages process at why) = process < files
 HasFileNumbers files (ReadFault file) = file ≤ files
 HasFileNumbers files (TooLong file) = file ≤ files
 HasFileNumbers files _ = ⊤

@@ -6,6 +6,7 @@ pub mod Faults
 pub mod Counting
 pub mod Outcome
 pub mod Writing
+pub mod Refused
 pub mod Commands
 pub mod Forms
 pub mod Commanding

@@ -1,6 +1,6 @@
 -- What the files that the words name give, or why they are refused.
 use Rattle.std.specs.Prelude.{◌≡◌, ℕ, ◌+◌, Bool, true, ◌<◌, ◌≤◌, ◌==◌, ⊤, List, [], ◌∷◌, zero, suc, length, take, nat_lt, slice_index_or, Option, Some, None, Result, Ok, Err, if◌then◌else◌}
-use Rattle.at_commands.specs.Prelude.{Message, BookTerms, Call, contents_of, file_records, and_then, AreNamesOf, NameList, NamedBook, book_of_records, Spells, Sends, messages_spelled, payments_of, Pays, replay_payments_of, PaysReplay, MessagesWhy, BadRecord, most_file_bytes, Status, Word}
+use Rattle.at_commands.specs.Prelude.{Message, BookTerms, Call, contents_of, file_records, location_of, and_then, AreNamesOf, NameList, NamedBook, book_of_records, Spells, Sends, messages_spelled, payments_of, Pays, replay_payments_of, PaysReplay, MessagesWhy, BadRecord, most_file_bytes, Status, Word}
 use Rattle.at_files.specs.declared.book_fault.BadBook.{BadBook}
 use Rattle.at_files.specs.declared.payments_fault.BadPayments.{BadPayments}
 use Rattle.at_report.specs.declared.status.Status.TheVariants as status
@@ -18,13 +18,13 @@ fetched None number = Err (status.ReadFault number)
 fetched (Some bytes) number = if nat_lt most_file_bytes (length bytes) then Err (status.TooLong number) else Ok bytes
 
 -- the book of a file's bytes, with its names
-abbrev pub book_read : Result NamedBook BadBook → Result NamedBook Status
-book_read (Ok b) = Ok b
-book_read (Err bad) = Err (status.BadBook bad)
+abbrev pub book_read : List ℕ → Result NamedBook BadBook → Result NamedBook Status
+book_read bytes (Ok b) = Ok b
+book_read bytes (Err bad) = Err (status.BadBook (location_of bytes bad.line) bad.why)
 
 -- the book of file 0, with its names
 abbrev pub book_loaded : Files → Word → Result NamedBook Status
-book_loaded files name = and_then (fetched (files name) 0) (λ bytes. book_read (book_of_records (file_records bytes)))
+book_loaded files name = and_then (fetched (files name) 0) (λ bytes. book_read bytes (book_of_records (file_records bytes)))
 
 -- a book beside its names
 abbrev pub named_book : BookTerms → NameList → NamedBook
@@ -73,16 +73,16 @@ abbrev pub all_loaded : {T : Type 0} → (NamedBook → Giving T) → Files → 
 all_loaded given files book words = and_then (book_loaded files book) (λ b. files_beside given files words b)
 
 -- the calls of a payment file's bytes
-abbrev pub calls_read : ℕ → Result (List Call) BadPayments → Result (List Call) Status
-calls_read process (Ok calls) = Ok calls
-calls_read process (Err bad) = Err (status.BadPayments process bad)
+abbrev pub calls_read : ℕ → List ℕ → Result (List Call) BadPayments → Result (List Call) Status
+calls_read process bytes (Ok calls) = Ok calls
+calls_read process bytes (Err bad) = Err (status.BadPayments process (location_of bytes bad.line) bad.why)
 
 abbrev pub calls_given : NamedBook → Giving Call
-calls_given b process bytes = calls_read process (payments_of b.names (file_records bytes))
+calls_given b process bytes = calls_read process bytes (payments_of b.names (file_records bytes))
 
 -- the same of a payment file for a replay, which makes fewer calls
 abbrev pub replay_calls_given : NamedBook → Giving Call
-replay_calls_given b process bytes = calls_read process (replay_payments_of b.names (file_records bytes))
+replay_calls_given b process bytes = calls_read process bytes (replay_payments_of b.names (file_records bytes))
 
 -- a book with its names, and the calls of each process
 abbrev pub Loaded : Type 0
@@ -93,12 +93,12 @@ abbrev pub loaded : Files → Form → Result Loaded Status
 loaded files form = all_loaded calls_given files form.book form.files
 
 -- the messages of a message file's bytes
-abbrev pub messages_read : ℕ → Result (List Message) (BadRecord MessagesWhy) → Result (List Message) Status
-messages_read process (Ok messages) = Ok messages
-messages_read process (Err bad) = Err (status.BadMessages process bad.line bad.why)
+abbrev pub messages_read : ℕ → List ℕ → Result (List Message) (BadRecord MessagesWhy) → Result (List Message) Status
+messages_read process bytes (Ok messages) = Ok messages
+messages_read process bytes (Err bad) = Err (status.BadMessages process (location_of bytes bad.line) bad.why)
 
 abbrev pub messages_given : NamedBook → Giving Message
-messages_given b process bytes = messages_read process (messages_spelled b.book (file_records bytes))
+messages_given b process bytes = messages_read process bytes (messages_spelled b.book (file_records bytes))
 
 -- the files before that of this process are good
 pub record AreGoodBefore {T : Type 0} (given : Giving T) (files : Files) (words : List Word) (process : ℕ) : Type 0 where

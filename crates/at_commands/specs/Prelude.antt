@@ -14,6 +14,7 @@ pub use Rattle.at_files.specs.BookFile.{Spells, book_of_records}
 pub use Rattle.at_files.specs.BookRecords.{NamedBook}
 pub use Rattle.at_files.specs.Deliveries.{Delivers, IsDelivery, deliveries_of}
 pub use Rattle.at_files.specs.Limits.{most_messages}
+pub use Rattle.at_files.specs.Locations.{location_of}
 pub use Rattle.at_files.specs.Messages.{Sends, messages_spelled}
 pub use Rattle.at_files.specs.Names.{AreNamesOf, NameList}
 pub use Rattle.at_files.specs.Payments.{Pays, payments_of}
@@ -57,7 +58,7 @@ pub use Rattle.at_orders.specs.Stages.{HasMoreStages}
 pub use Rattle.at_orders.specs.declared.replies.Replies.{Replies}
 pub use Rattle.at_orders.specs.declared.walk.TheConstants.{STAGES_MAX}
 pub use Rattle.at_pages.specs.PageText.{page_text}
-pub use Rattle.at_report.specs.FaultText.{fault_line}
+pub use Rattle.at_report.specs.FaultText.{fault_lines}
 pub use Rattle.at_report.specs.Lines.{Word, line_shown}
 pub use Rattle.at_report.specs.Nodes.{nodes_text}
 pub use Rattle.at_report.specs.Pieces.{joined}

@@ -1,6 +1,6 @@
 -- What the files of the commands hold that play a schedule, and what `replay` prints of them.
 use Rattle.std.specs.Prelude.{◌≡◌, ℕ, List, sum, Result, Ok, Err}
-use Rattle.at_commands.specs.Prelude.{Call, total_of, Legal, Whole, last_state, file_records, Schedules, schedule_of, ScheduleWhy, BadRecord, report_text, Status, IsReplayBy, Replayed}
+use Rattle.at_commands.specs.Prelude.{Call, total_of, Legal, Whole, last_state, file_records, location_of, Schedules, schedule_of, ScheduleWhy, BadRecord, report_text, Status, IsReplayBy, Replayed}
 use Rattle.at_report.specs.declared.status.Status.TheVariants as status
 use Rattle.at_commands.specs.Commands.{KeepingNone, Never}
 use Rattle.at_commands.specs.Forms.{FurtherOf, FurtherTerms}
@@ -20,9 +20,9 @@ pub record ReportsReplay (r : Replay) (text : List ℕ) : Type 0 where
   pub printed : text ≡ report_text r.what.book r.what.names made.lines.items
 
 -- the schedule of a file's bytes
-abbrev pub schedule_read : Result (List ℕ) (BadRecord ScheduleWhy) → Result (List ℕ) Status
-schedule_read (Ok schedule) = Ok schedule
-schedule_read (Err bad) = Err (status.BadSchedule bad.line bad.why)
+abbrev pub schedule_read : List ℕ → Result (List ℕ) (BadRecord ScheduleWhy) → Result (List ℕ) Status
+schedule_read bytes (Ok schedule) = Ok schedule
+schedule_read bytes (Err bad) = Err (status.BadSchedule (location_of bytes bad.line) bad.why)
 
 -- what a command prints of a run by a schedule
 abbrev pub Printing : Type 1
@@ -31,7 +31,7 @@ Printing = Replay → List ℕ → Type 0
 -- a command that plays a schedule
 abbrev pub turns_terms : Printing → FurtherTerms Call ℕ
 turns_terms prints = record {
-  given = λ l bytes. schedule_read (schedule_of l.book.processes (file_records bytes));
+  given = λ l bytes. schedule_read bytes (schedule_of l.book.processes (file_records bytes));
   spells = λ l bytes schedule. Schedules l.book.processes (file_records bytes) schedule;
   refuses = Never;
   prints = KeepingNone prints;

@@ -1,8 +1,7 @@
 -- What writing a text comes to.
 use Rattle.std.specs.Prelude.{◌≡◌, ℕ, ◌⊎◌, Bool, true, List, ◌++◌, Result, Ok, Err}
-use Rattle.at_commands.specs.Prelude.{Rose, TakesPrefix, fault_line, Status, Done, WriteFault}
+use Rattle.at_commands.specs.Prelude.{Rose, TakesPrefix, Status, Done, WriteFault}
 use Rattle.at_commands.specs.Outcome.{Outcome}
-use Rattle.at_commands.specs.Words.{usage}
 
 -- the sink has taken the text and counted no fault, or it has counted one and taken a prefix
 pub record Wrote (tells : Bool) (text before after : List ℕ) (faults faults_now : ℕ) (answer : Status) : Type 0 where
@@ -16,8 +15,3 @@ pub record Wrote (tells : Bool) (text before after : List ℕ) (faults faults_no
 abbrev pub Ends : {A : Type 0} → (A → List ℕ) → Result A Status → Outcome → Type 0
 Ends text (Ok a) o = Wrote o.tells (text a) o.before o.after o.faults o.faults_now o.answer
 Ends text (Err refusal) o = o.answer ≡ refusal
-
--- a sink has taken the line of a refusal, or a prefix of it where a fault of the sink was counted
-abbrev pub TookLine : Status → ℕ → ℕ → List ℕ → List ℕ → Type 0
-TookLine refusal faults faults_now before after =
-    (after ≡ before ++ fault_line usage refusal) ⊎ (Rose faults faults_now × TakesPrefix before after (fault_line usage refusal))

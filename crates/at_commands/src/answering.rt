@@ -1,12 +1,11 @@
-//! What is answered of what the words ask, and the line of a refusal.
+//! What is answered of what the words ask.
 
-ghost use Rattle.std.specs.Prelude.{◌≡◌, ◌≢◌, ◌≤◌, true, None, option_map, IfSome};
+ghost use Rattle.std.specs.Prelude.{◌≡◌, ◌≢◌, ◌≤◌, None, option_map, IfSome};
 ghost use Rattle.at_commands.specs.Commanding.{Does};
 ghost use Rattle.at_commands.specs.Outcome.{found, outcome};
 ghost use Rattle.at_commands.specs.Prelude.{Rose, SameFiles};
 ghost use Rattle.at_commands.specs.Table.{Leaves, LeavesNoLedger, ReadsNothing, promised};
 ghost use Rattle.at_commands.specs.Words.{IsWithinLimits, Wanted, asked_shown, form_shown, further_shown};
-ghost use Rattle.at_commands.specs.Writing.{TookLine};
 
 use crate::agreeing::answer_agree;
 use crate::asked::Asked;
@@ -22,26 +21,14 @@ use crate::running::answer_run;
 use crate::tracing::Trace;
 use crate::verifying::Verifying;
 use crate::views::{Kinds, Needs, Orders, answer_costs, answer_ledger};
-use crate::words::{Form, FormCommand, FurtherCommand, FurtherForm, USAGE};
-use at_io::{Shelf, Sink, put_all};
+use crate::words::{Form, FormCommand, FurtherCommand, FurtherForm};
+use at_io::{Shelf, Sink};
 use at_object::Closed;
-use at_report::{Status, UsageFault, fault_text};
+use at_report::{Status, UsageFault};
 use at_workers::Gate;
 use std::alloc::Global;
 use std::marker::PhantomData;
 use std::thread::Threads;
-
-/// Writes the line of a refusal. A fault of the sink changes nothing: there is nobody left to tell.
-pub fn tell<E: Sink>(err: &mut E, status: &Status)
-    requires { status.now ≢ Status.Done }
-    ensures later { E.faults err.old ≤ E.faults err.new }
-    ensures as_told { E.tells err.new ≡ E.tells err.old }
-    ensures told { E.tells err.old ≡ true
-        → TookLine status.now (E.faults err.old) (E.faults err.new) (E.taken err.old)
-        (E.taken err.new) }
-{
-    let _ = put_all(err, fault_text(USAGE, status).as_slice());
-}
 
 /// Does what the words of a command ask that reads a book and payments.
 fn answer_form<R: Threads + Sync, F: Shelf, O: Sink, G: Gate + Sync>(

@@ -16,7 +16,7 @@ use crate::loading::Loaded;
 use crate::nodes::nodes_given;
 use at_base::Counts;
 use at_broadcast::Message;
-use at_files::{Delivery, ReadOrderFault, read_deliveries};
+use at_files::{Delivery, ReadOrderFault, location_of, read_deliveries};
 use at_report::{Status, nodes_text};
 use std::alloc::Global;
 
@@ -90,7 +90,7 @@ fn read_order(
     match read_deliveries(alloc, &counts, bytes) {
         Ok(deliveries) => Ok(deliveries),
         Err(ReadOrderFault::Bad(bad)) => Err(Status::BadOrder {
-            line: bad.line,
+            at: location_of(bytes, bad.line),
             why: bad.why,
         }),
         Err(ReadOrderFault::NoMemory) => Err(Status::NoMemory),

@@ -7,7 +7,8 @@ ghost use Rattle.at_commands.specs.Loading.{Giving, PaysBytes, PaysReplayBytes, 
 
 use at_broadcast::Message;
 use at_files::{
-    Names, ReadMessagesFault, ReadPaymentsFault, read_messages, read_payments, read_replay_payments,
+    Names, ReadMessagesFault, ReadPaymentsFault, location_of, read_messages, read_payments,
+    read_replay_payments,
 };
 use at_ledger::{Book, Call};
 use at_report::Status;
@@ -67,7 +68,11 @@ impl FileForm for Payments {
     ) -> Result<Vec<Call>, Status> {
         match read_payments(alloc, book, names, bytes) {
             Ok(calls) => Ok(calls),
-            Err(ReadPaymentsFault::Bad(fault)) => Err(Status::BadPayments { process, fault }),
+            Err(ReadPaymentsFault::Bad(bad)) => Err(Status::BadPayments {
+                process,
+                at: location_of(bytes, bad.line),
+                why: bad.why,
+            }),
             Err(ReadPaymentsFault::NoMemory) => Err(Status::NoMemory),
         }
     }
@@ -94,7 +99,11 @@ impl FileForm for ReplayPayments {
     ) -> Result<Vec<Call>, Status> {
         match read_replay_payments(alloc, book, names, bytes) {
             Ok(fewer) => Ok(fewer),
-            Err(ReadPaymentsFault::Bad(fault)) => Err(Status::BadPayments { process, fault }),
+            Err(ReadPaymentsFault::Bad(bad)) => Err(Status::BadPayments {
+                process,
+                at: location_of(bytes, bad.line),
+                why: bad.why,
+            }),
             Err(ReadPaymentsFault::NoMemory) => Err(Status::NoMemory),
         }
     }
@@ -123,7 +132,7 @@ impl FileForm for Messages {
             Ok(messages) => Ok(messages),
             Err(ReadMessagesFault::Bad(bad)) => Err(Status::BadMessages {
                 process,
-                line: bad.line,
+                at: location_of(bytes, bad.line),
                 why: bad.why,
             }),
             Err(ReadMessagesFault::NoMemory) => Err(Status::NoMemory),

@@ -8,7 +8,7 @@ ghost use Rattle.at_commands.specs.Loading.{EachSpells, HoldsFile, IsBookRead, I
 
 use crate::file_forms::{FileForm, Payments};
 use crate::words::Form;
-use at_files::{Names, ReadBookFault, read_book};
+use at_files::{Names, ReadBookFault, location_of, read_book};
 use at_io::{FetchError, Shelf, fetch};
 use at_ledger::{Book, Call};
 use at_report::{Status, UsageFault};
@@ -85,7 +85,10 @@ fn fetch_book<F: Shelf>(alloc: Global, shelf: &mut F, name: &str) -> Result<(Boo
     };
     match read_book(alloc, bytes.as_slice()) {
         Ok(read) => Ok(read),
-        Err(ReadBookFault::Bad(bad)) => Err(Status::BadBook(bad)),
+        Err(ReadBookFault::Bad(bad)) => Err(Status::BadBook {
+            at: location_of(bytes.as_slice(), bad.line),
+            why: bad.why,
+        }),
         Err(ReadBookFault::NoMemory) => Err(Status::NoMemory),
     }
 }

@@ -11,7 +11,7 @@ use crate::beside::Further;
 use crate::ending::Printed;
 use crate::file_forms::ReplayPayments;
 use crate::loading::Loaded;
-use at_files::{ReadScheduleFault, read_schedule};
+use at_files::{ReadScheduleFault, location_of, read_schedule};
 use at_ledger::Call;
 use at_report::{Status, report};
 use at_stepper::replay;
@@ -47,7 +47,7 @@ impl<T: TurnsText> Further for InTurns<T> {
         match read_schedule(alloc, loaded.book.processes(), bytes.as_slice()) {
             Ok(turns) => Ok(turns),
             Err(ReadScheduleFault::Bad(bad)) => Err(Status::BadSchedule {
-                line: bad.line,
+                at: location_of(bytes.as_slice(), bad.line),
                 why: bad.why,
             }),
             Err(ReadScheduleFault::NoMemory) => Err(Status::NoMemory),

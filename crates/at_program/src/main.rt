@@ -40,7 +40,7 @@ fn main(rt: HostRuntime) -> ExitCode {
             status
         }
         Err(status) => {
-            tell(&mut err, &status);
+            tell(&mut err, &None, &status);
             status
         }
     };

@@ -1,14 +1,14 @@
 //! All that the program does.
 
-ghost use Rattle.std.specs.Prelude.{◌≡◌, ◌≢◌, ◌↔◌, ◌≤◌, true, None};
+ghost use Rattle.std.specs.Prelude.{◌≡◌, ◌≢◌, ◌↔◌, ◌≤◌, true, None, option_map};
 ghost use Rattle.at_commands.specs.Outcome.{found, outcome};
 ghost use Rattle.at_commands.specs.Table.{Leaves, LeavesNoLedger, ReadsNothing};
-ghost use Rattle.at_commands.specs.Words.{wanted_of, words_of};
-ghost use Rattle.at_commands.specs.Writing.{TookLine};
+ghost use Rattle.at_commands.specs.Words.{asked_shown, wanted_of, words_of};
+ghost use Rattle.at_commands.specs.Refused.{TookLines};
 ghost use Rattle.at_io.specs.Faults.{Rose};
 ghost use Rattle.at_io.specs.Shelf.{SameFiles};
 
-use at_commands::{answer, asked_by, tell};
+use at_commands::{Asked, answer, asked_by, tell};
 use at_io::{Shelf, Sink};
 use at_object::Closed;
 use at_report::{Status, UsageFault};
@@ -16,22 +16,22 @@ use at_workers::Gate;
 use std::alloc::Global;
 use std::thread::Threads;
 
-/// Writes the line of a refusal, and nothing where all is done.
-fn tell_unless_done<E: Sink>(err: &mut E, status: &Status)
+/// Writes the lines of a refusal of what was asked, and nothing where all is done.
+fn tell_unless_done<E: Sink>(err: &mut E, asked: &Option<Asked<'_>>, status: &Status)
     ensures later { E.faults err.old ≤ E.faults err.new }
     ensures as_told { E.tells err.new ≡ E.tells err.old }
     ensures silent { status.now ≡ Status.Done → err.new ≡ err.old }
     ensures told { status.now ≢ Status.Done → E.tells err.old ≡ true
-        → TookLine status.now (E.faults err.old) (E.faults err.new) (E.taken err.old)
-        (E.taken err.new) }
+        → TookLines (option_map asked_shown asked.now) status.now (E.faults err.old)
+        (E.faults err.new) (E.taken err.old) (E.taken err.new) }
 {
     if *status != Status::Done {
-        tell(err, status);
+        tell(err, asked, status);
     }
 }
 
 /// Does all that the program does: reads the files that the words name, one after another, or makes the calls that
-/// they ask for, and writes the command's text to `out`, or the line of the first refusal to `err`. The whole text is
+/// they ask for, and writes the command's text to `out`, or the lines of the first refusal to `err`. The whole text is
 /// made before the first write. `words` are those after the program's name. `run`, `make`, `costs` and `ledger` make the calls of all
 /// processes at once on one ledger, by a thread for each process where threads can be had; the gate is told of each call.
 /// `agree` makes those of a council so, and no gate is told. Under `Done` and a write fault they leave that ledger, closed,
@@ -81,11 +81,11 @@ pub fn serve<R: Threads + Sync, F: Shelf, O: Sink, E: Sink, G: Gate + Sync>(
     // What was said of a refusal.
     ensures silent { result ≡ Status.Done → err.new ≡ err.old }
     ensures told { result ≢ Status.Done → E.tells err.old ≡ true
-        → TookLine result (E.faults err.old) (E.faults err.new) (E.taken err.old)
-        (E.taken err.new) }
+        → TookLines (wanted_of (words_of words.now)) result (E.faults err.old)
+        (E.faults err.new) (E.taken err.old) (E.taken err.new) }
 {
     let asked = asked_by(words);
     let status = answer(rt, alloc, &asked, shelf, out, gate, kept);
-    tell_unless_done(err, &status);
+    tell_unless_done(err, &asked, &status);
     status
 }

@@ -1,6 +1,7 @@
--- The one line of each refusal.
+-- The lines of each refusal.
 use Rattle.std.specs.Prelude.{ℕ, List, [], ◌∷◌, ◌++◌, codes, decimal}
 use Rattle.at_report.specs.Prelude.{BookError, NoProcess, TooManyProcesses, NoAccount, TooManyAccounts, OwnerOutOfRange, OwnersNotRising, TooManyOwners, RoomOutOfRange, RoundsOverLimit, TotalOverLimit, BookWhy, PaymentsWhy, ScheduleWhy, OrderWhy, MessagesWhy}
+use Rattle.at_report.specs.Advice.{advice_line}
 use Rattle.at_files.specs.declared.book_fault.BookWhy.TheVariants as book
 use Rattle.at_files.specs.declared.payments_fault.PaymentsWhy.TheVariants as payments
 use Rattle.at_report.specs.declared.status.Status.{Status}
@@ -82,19 +83,19 @@ line_and_cause line cause = codes ": line " ++ decimal line ++ codes ": " ++ cau
 abbrev pub fault_words : List ℕ → Status → List ℕ
 fault_words forms Done = []
 fault_words forms (Usage fault) = usage_text forms fault
-fault_words forms (BadBook bad) = codes "book" ++ line_and_cause bad.line (book_cause bad.why)
-fault_words forms (BadPayments process bad) = codes "payments " ++ decimal process ++ line_and_cause bad.line (payments_cause bad.why)
+fault_words forms (BadBook at why) = codes "book" ++ line_and_cause at.number (book_cause why)
+fault_words forms (BadPayments process at why) = codes "payments " ++ decimal process ++ line_and_cause at.number (payments_cause why)
 fault_words forms (ReadFault file) = codes "read fault: file " ++ decimal file
 fault_words forms WriteFault = codes "write fault"
 fault_words forms NoMemory = codes "no memory"
 fault_words forms (TooLong file) = codes "too long: file " ++ decimal file
-fault_words forms (BadSchedule line why) = codes "schedule" ++ line_and_cause line (schedule_cause why)
-fault_words forms (BadOrder line why) = codes "order" ++ line_and_cause line (order_cause why)
-fault_words forms (BadMessages process line why) = codes "messages " ++ decimal process ++ line_and_cause line (messages_cause why)
+fault_words forms (BadSchedule at why) = codes "schedule" ++ line_and_cause at.number (schedule_cause why)
+fault_words forms (BadOrder at why) = codes "order" ++ line_and_cause at.number (order_cause why)
+fault_words forms (BadMessages process at why) = codes "messages " ++ decimal process ++ line_and_cause at.number (messages_cause why)
 fault_words forms (NotLegal line) = codes "report" ++ line_and_cause line (codes "not legal")
 fault_words forms TooManyOrders = codes "too many orders"
 
--- the line of a refusal, with its newline
-abbrev pub fault_line : List ℕ → Status → List ℕ
-fault_line forms Done = []
-fault_line forms status = fault_words forms status ++ 10 ∷ []
+-- the lines of a refusal: what is said of it, and for one of a file, whose word this is, what was expected in it
+abbrev pub fault_lines : List ℕ → List ℕ → Status → List ℕ
+fault_lines forms word Done = []
+fault_lines forms word status = fault_words forms status ++ 10 ∷ [] ++ advice_line word status

@@ -1,5 +1,6 @@
 pub mod Prelude
 pub mod Status
+pub mod Advice
 pub mod FaultText
 pub mod Lines
 pub mod Pieces

@@ -1,5 +1,5 @@
 //! Printed texts: the report and the summary of a run, the lines of a check, of a verified report and of an agreement,
-//! the output of nodes, and the one line of each refusal, with the exit status.
+//! the output of nodes, and the lines of each refusal, with the exit status.
 //!
 //! Whoever reads a report line by line has the calls for its parts: `push_heading`, `push_line` and `push_audit`, and
 //! `process_of`, which tells whose line a text begins with. Other texts are put together by `push_word`, `push_number`
@@ -8,6 +8,7 @@
 //! Each call answers exactly the bytes that the definitions of the texts give. The text of a refusal takes no memory.
 #![tactic(auto)]
 
+mod advice;
 mod by_threads;
 mod first_word;
 mod line_at;

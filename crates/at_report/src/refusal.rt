@@ -1,15 +1,16 @@
-//! The one line of each refusal, which takes no memory.
+//! The lines of each refusal, which take no memory.
 
 ghost use Rattle.std.specs.Prelude.{◌≡◌, ◌+◌, ◌≤◌, [], ◌++◌, length, decimal};
-ghost use Rattle.at_report.specs.FaultText.{fault_line, limit_text, book_cause, payments_cause, schedule_cause, order_cause, messages_cause, usage_text, line_and_cause, fault_words, most_usage};
+ghost use Rattle.at_report.specs.FaultText.{fault_lines, limit_text, book_cause, payments_cause, schedule_cause, order_cause, messages_cause, usage_text, line_and_cause, fault_words, most_usage};
 
+use crate::advice::push_advice;
 use crate::status::{Status, UsageFault};
 use arrayvec::ArrayVec;
 use at_files::{BookWhy, MessagesWhy, OrderWhy, PaymentsWhy, ScheduleWhy};
 use at_ledger::BookError;
 
-/// The text of a refusal: one line, with its newline.
-pub type FaultText = ArrayVec<u8, 1_024>;
+/// The text of a refusal: one line or two, each with its newline.
+pub type FaultText = ArrayVec<u8, 1_536>;
 
 fn limit_text(e: &BookError) -> &'static str
     ensures text { result.now ≡ limit_text e.now }
@@ -95,15 +96,15 @@ fn messages_cause(why: &MessagesWhy) -> &'static str
     }
 }
 
-fn push_text(out: &mut FaultText, text: &str)
-    requires { length out.old.items + length text.now ≤ 1024 }
+pub(crate) fn push_text(out: &mut FaultText, text: &str)
+    requires { length out.old.items + length text.now ≤ 1536 }
     ensures { out.new.items ≡ out.old.items ++ text.now }
 {
     out.try_extend_from_slice(text.as_bytes()).unwrap();
 }
 
-fn push_decimal(out: &mut FaultText, n: u64)
-    requires { length out.old.items + 20 ≤ 1024 }
+pub(crate) fn push_decimal(out: &mut FaultText, n: u64)
+    requires { length out.old.items + 20 ≤ 1536 }
     ensures text { out.new.items ≡ out.old.items ++ decimal n }
     ensures short { length out.new.items ≤ length out.old.items + 20 }
 {
@@ -111,7 +112,7 @@ fn push_decimal(out: &mut FaultText, n: u64)
 }
 
 fn push_line_and_cause(out: &mut FaultText, line: u32, cause: &str)
-    requires room { length out.old.items + 60 ≤ 1024 }
+    requires room { length out.old.items + 60 ≤ 1536 }
     requires short { length cause.now ≤ 20 }
     ensures text { out.new.items ≡ out.old.items ++ line_and_cause line cause.now }
     ensures short { length out.new.items ≤ length out.old.items + 60 }
@@ -176,25 +177,30 @@ fn push_words(out: &mut FaultText, usage: &str, status: &Status)
     match status {
         Status::Done => {}
         Status::Usage(fault) => push_usage(out, usage, fault),
-        Status::BadBook(bad) => push_bad(out, "book", bad.line, book_cause(&bad.why)),
-        Status::BadPayments { process, fault } => push_bad_of(
+        Status::BadBook { at, why } => push_bad(out, "book", at.number, book_cause(why)),
+        Status::BadPayments { process, at, why } => push_bad_of(
             out,
             "payments ",
             *process,
-            fault.line,
-            payments_cause(&fault.why),
+            at.number,
+            payments_cause(why),
         ),
         Status::ReadFault { file } => push_numbered(out, "read fault: file ", u64::from(*file)),
         Status::WriteFault => push_text(out, "write fault"),
         Status::NoMemory => push_text(out, "no memory"),
         Status::TooLong { file } => push_numbered(out, "too long: file ", u64::from(*file)),
-        Status::BadSchedule { line, why } => push_bad(out, "schedule", *line, schedule_cause(why)),
-        Status::BadOrder { line, why } => push_bad(out, "order", *line, order_cause(why)),
-        Status::BadMessages { process, line, why } => push_bad_of(
+        Status::BadSchedule { at, why } => push_bad(
+            out,
+            "schedule",
+            at.number,
+            schedule_cause(why),
+        ),
+        Status::BadOrder { at, why } => push_bad(out, "order", at.number, order_cause(why)),
+        Status::BadMessages { process, at, why } => push_bad_of(
             out,
             "messages ",
             *process,
-            *line,
+            at.number,
             messages_cause(why),
         ),
         Status::NotLegal { line } => push_bad(out, "report", *line, "not legal"),
@@ -202,11 +208,11 @@ fn push_words(out: &mut FaultText, usage: &str, status: &Status)
     }
 }
 
-/// The line of a refusal, with its newline, and nothing for a run that is done. For words of no form it is the usage that is given, of at most 800 bytes. It
-/// takes no memory.
-pub fn fault_text(usage: &str, status: &Status) -> FaultText
+/// The lines of a refusal, and nothing for a run that is done: the cause, and for a fault of a file, whose word this is, what was expected
+/// in it. For words of no form it is the usage that is given, of at most 800 bytes. It takes no memory.
+pub fn fault_text(usage: &str, word: &str, status: &Status) -> FaultText
     requires { length usage.now ≤ most_usage }
-    ensures { result.items ≡ fault_line usage.now status.now }
+    ensures { result.items ≡ fault_lines usage.now word.now status.now }
 {
     let mut out = ArrayVec::new();
     if matches!(status, Status::Done) {
@@ -214,5 +220,6 @@ pub fn fault_text(usage: &str, status: &Status) -> FaultText
     }
     push_words(&mut out, usage, status);
     out.push(b'\n');
+    push_advice(&mut out, word, status);
     out
 }

@@ -2,7 +2,7 @@
 
 ghost use Rattle.std.specs.Prelude.{◌≡◌};
 
-use at_files::{BadBook, BadPayments, MessagesWhy, OrderWhy, ScheduleWhy};
+use at_files::{BookWhy, Location, MessagesWhy, OrderWhy, PaymentsWhy, ScheduleWhy};
 use std::alloc::AllocError;
 
 /// What is wrong with the words of the command line.
@@ -15,7 +15,7 @@ pub enum UsageFault {
 }
 
 /// What the program answers. File 0 is the book, file p + 1 the payment or message file of process p, and a
-/// further file comes after those. A line is a record, counted from 1, and in a report a line of the text.
+/// further file comes after those. In a report a line is one of the text, counted from 1.
 #[derive(Clone, Copy, PartialEq, Eq)]
 pub enum Status {
     /// The whole text was written.
@@ -23,11 +23,15 @@ pub enum Status {
     /// The words were refused.
     Usage(UsageFault),
     /// The book was refused.
-    BadBook(BadBook),
+    BadBook {
+        at: Location,
+        why: BookWhy,
+    },
     /// The payment file of a process was refused.
     BadPayments {
         process: u32,
-        fault: BadPayments,
+        at: Location,
+        why: PaymentsWhy,
     },
     /// A file could not be read.
     ReadFault {
@@ -43,18 +47,18 @@ pub enum Status {
     },
     /// The schedule was refused.
     BadSchedule {
-        line: u32,
+        at: Location,
         why: ScheduleWhy,
     },
     /// The file of deliveries was refused.
     BadOrder {
-        line: u32,
+        at: Location,
         why: OrderWhy,
     },
     /// The message file of a process was refused.
     BadMessages {
         process: u32,
-        line: u32,
+        at: Location,
         why: MessagesWhy,
     },
     /// The report is not one of a legal run.
@@ -86,7 +90,7 @@ impl Status {
         match self {
             Status::Done => 0,
             Status::Usage(_) => 2,
-            Status::BadBook(_) => 3,
+            Status::BadBook { .. } => 3,
             Status::BadPayments { .. } => 4,
             Status::ReadFault { .. } => 5,
             Status::WriteFault => 6,

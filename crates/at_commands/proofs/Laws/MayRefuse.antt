@@ -1,8 +1,7 @@
 -- When a refusal of a part is one of the whole.
 use Rattle.std.proofs.Common.{◌≡◌, ◌≢◌, ◌+◌, ◌-◌, ◌^◌, ◌<◌, ◌≤◌, arith, refl, ℕ, Bool, true, Result, Ok, Err, ◌⊎◌, inl, inr}
-use Rattle.at_commands.proofs.Prelude.{Status, Usage, BadBook, BadPayments, ReadFault, WriteFault, NoMemory, TooLong, BadSchedule, BadOrder, BadMessages, NotLegal, TooManyOrders, UsageFault, OrderWhy, ScheduleWhy, HasFileNumbers, HasFurtherNumbers, IsBrought, IsFaultless, IsUnfetched, IsUnread, Kind, MayRefuseOf, RefusesFile, payments, scheduled, messages, Rose}
+use Rattle.at_commands.proofs.Prelude.{BookWhy, Location, Status, Usage, BadBook, BadPayments, ReadFault, WriteFault, NoMemory, TooLong, BadSchedule, BadOrder, BadMessages, NotLegal, TooManyOrders, UsageFault, HasFileNumbers, HasFurtherNumbers, IsBrought, IsFaultless, IsUnfetched, IsUnread, Kind, MayRefuseOf, RefusesFile, payments, scheduled, messages, Rose}
 use Rattle.at_report.specs.declared.status.Status.TheVariants.{Done}
-use Rattle.at_files.specs.declared.book_fault.BadBook as of_files
 use Rattle.at_report.specs.declared.status.UsageFault.TheVariants as usage
 
 -- the refusal of an answer
@@ -16,14 +15,8 @@ made-refused made refusal is = cc
 pub usage-read_fault : {A : Type 0} (fault : UsageFault) (file : ℕ) (same : Result A Status) → same ≡ Err (Usage fault) → same ≡ Err (ReadFault file) → ⊥
 usage-read_fault fault file same one two = cc
 
-pub book-read_fault : {A : Type 0} (bad : of_files.BadBook) (file : ℕ) (same : Result A Status) → same ≡ Err (BadBook bad) → same ≡ Err (ReadFault file) → ⊥
-book-read_fault bad file same one two = cc
-
-pub schedule-read_fault : {A : Type 0} (line : ℕ) (why : ScheduleWhy) (file : ℕ) (same : Result A Status) → same ≡ Err (BadSchedule line why) → same ≡ Err (ReadFault file) → ⊥
-schedule-read_fault line why file same one two = cc
-
-pub order-read_fault : {A : Type 0} (line : ℕ) (why : OrderWhy) (file : ℕ) (same : Result A Status) → same ≡ Err (BadOrder line why) → same ≡ Err (ReadFault file) → ⊥
-order-read_fault line why file same one two = cc
+pub book-read_fault : {A : Type 0} (at : Location) (why : BookWhy) (file : ℕ) (same : Result A Status) → same ≡ Err (BadBook at why) → same ≡ Err (ReadFault file) → ⊥
+book-read_fault at why file same one two = cc
 
 pub memory-read_fault : {A : Type 0} (file : ℕ) (same : Result A Status) → same ≡ Err NoMemory → same ≡ Err (ReadFault file) → ⊥
 memory-read_fault file same one two = cc
@@ -57,21 +50,21 @@ MayRefuse-whole kind tells part whole before now NoMemory leads h = h
 MayRefuse-whole kind tells part whole before now (ReadFault file) leads h = IsUnread-whole tells part whole before now (ReadFault file) leads h
 MayRefuse-whole kind tells part whole before now (Usage (usage.Files wanted given)) leads h = IsBrought-whole tells part whole before now (Usage (usage.Files wanted given)) leads h
 MayRefuse-whole kind tells part whole before now (Usage usage.Words) leads h = absurd h
-MayRefuse-whole kind tells part whole before now (BadBook bad) leads h = IsBrought-whole tells part whole before now (BadBook bad) leads h
+MayRefuse-whole kind tells part whole before now (BadBook at why) leads h = IsBrought-whole tells part whole before now (BadBook at why) leads h
 MayRefuse-whole kind tells part whole before now (TooLong file) leads h = IsBrought-whole tells part whole before now (TooLong file) leads h
-MayRefuse-whole payments tells part whole before now (BadPayments process bad) leads h = IsBrought-whole tells part whole before now (BadPayments process bad) leads h
-MayRefuse-whole scheduled tells part whole before now (BadPayments process bad) leads h = IsBrought-whole tells part whole before now (BadPayments process bad) leads h
-MayRefuse-whole messages tells part whole before now (BadPayments process bad) leads h = absurd h
-MayRefuse-whole payments tells part whole before now (BadSchedule line why) leads h = absurd h
-MayRefuse-whole scheduled tells part whole before now (BadSchedule line why) leads h = IsBrought-whole tells part whole before now (BadSchedule line why) leads h
-MayRefuse-whole messages tells part whole before now (BadSchedule line why) leads h = absurd h
-MayRefuse-whole payments tells part whole before now (BadOrder line why) leads h = absurd h
-MayRefuse-whole scheduled tells part whole before now (BadOrder line why) leads h = absurd h
-MayRefuse-whole messages tells part whole before now (BadOrder line why) leads h = IsBrought-whole tells part whole before now (BadOrder line why) leads h
-MayRefuse-whole payments tells part whole before now (BadMessages process line why) leads h = absurd h
-MayRefuse-whole scheduled tells part whole before now (BadMessages process line why) leads h = absurd h
-MayRefuse-whole messages tells part whole before now (BadMessages process line why) leads h =
-    IsBrought-whole tells part whole before now (BadMessages process line why) leads h
+MayRefuse-whole payments tells part whole before now (BadPayments process at why) leads h = IsBrought-whole tells part whole before now (BadPayments process at why) leads h
+MayRefuse-whole scheduled tells part whole before now (BadPayments process at why) leads h = IsBrought-whole tells part whole before now (BadPayments process at why) leads h
+MayRefuse-whole messages tells part whole before now (BadPayments process at why) leads h = absurd h
+MayRefuse-whole payments tells part whole before now (BadSchedule at why) leads h = absurd h
+MayRefuse-whole scheduled tells part whole before now (BadSchedule at why) leads h = IsBrought-whole tells part whole before now (BadSchedule at why) leads h
+MayRefuse-whole messages tells part whole before now (BadSchedule at why) leads h = absurd h
+MayRefuse-whole payments tells part whole before now (BadOrder at why) leads h = absurd h
+MayRefuse-whole scheduled tells part whole before now (BadOrder at why) leads h = absurd h
+MayRefuse-whole messages tells part whole before now (BadOrder at why) leads h = IsBrought-whole tells part whole before now (BadOrder at why) leads h
+MayRefuse-whole payments tells part whole before now (BadMessages process at why) leads h = absurd h
+MayRefuse-whole scheduled tells part whole before now (BadMessages process at why) leads h = absurd h
+MayRefuse-whole messages tells part whole before now (BadMessages process at why) leads h =
+    IsBrought-whole tells part whole before now (BadMessages process at why) leads h
 MayRefuse-whole kind tells part whole before now Done leads h = absurd h
 MayRefuse-whole kind tells part whole before now WriteFault leads h = absurd h
 MayRefuse-whole kind tells part whole before now (NotLegal line) leads h = absurd h
@@ -81,21 +74,21 @@ MayRefuse-whole kind tells part whole before now TooManyOrders leads h = absurd 
 pub MayRefuse-file : {A B : Type 0} (kind : Kind) (tells : Bool) (given : Result A Status) (whole : Result B Status) (process before now : ℕ) (refusal : Status)
     → now ≡ before → (tells ≡ true → given ≡ Err refusal → whole ≡ Err refusal) → RefusesFile kind given process refusal → MayRefuseOf kind tells whole before now refusal
 MayRefuse-file kind tells given whole process before now NoMemory kept leads h = h
-MayRefuse-file payments tells given whole process before now (BadPayments p bad) kept leads h = (kept, λ told. leads told h.1)
-MayRefuse-file scheduled tells given whole process before now (BadPayments p bad) kept leads h = (kept, λ told. leads told h.1)
-MayRefuse-file messages tells given whole process before now (BadMessages p line why) kept leads h = (kept, λ told. leads told h.1)
-MayRefuse-file payments tells given whole process before now (BadMessages p line why) kept leads h = absurd h
-MayRefuse-file scheduled tells given whole process before now (BadMessages p line why) kept leads h = absurd h
-MayRefuse-file messages tells given whole process before now (BadPayments p bad) kept leads h = absurd h
+MayRefuse-file payments tells given whole process before now (BadPayments p at why) kept leads h = (kept, λ told. leads told h.1)
+MayRefuse-file scheduled tells given whole process before now (BadPayments p at why) kept leads h = (kept, λ told. leads told h.1)
+MayRefuse-file messages tells given whole process before now (BadMessages p at why) kept leads h = (kept, λ told. leads told h.1)
+MayRefuse-file payments tells given whole process before now (BadMessages p at why) kept leads h = absurd h
+MayRefuse-file scheduled tells given whole process before now (BadMessages p at why) kept leads h = absurd h
+MayRefuse-file messages tells given whole process before now (BadPayments p at why) kept leads h = absurd h
 MayRefuse-file kind tells given whole process before now (ReadFault file) kept leads h = absurd h
 MayRefuse-file kind tells given whole process before now (Usage (usage.Files wanted given_files)) kept leads h = absurd h
 MayRefuse-file kind tells given whole process before now (Usage usage.Words) kept leads h = absurd h
-MayRefuse-file kind tells given whole process before now (BadBook bad) kept leads h = absurd h
+MayRefuse-file kind tells given whole process before now (BadBook at why) kept leads h = absurd h
 MayRefuse-file kind tells given whole process before now (TooLong file) kept leads h = absurd h
 MayRefuse-file kind tells given whole process before now Done kept leads h = absurd h
 MayRefuse-file kind tells given whole process before now WriteFault kept leads h = absurd h
-MayRefuse-file kind tells given whole process before now (BadSchedule line why) kept leads h = absurd h
-MayRefuse-file kind tells given whole process before now (BadOrder line why) kept leads h = absurd h
+MayRefuse-file kind tells given whole process before now (BadSchedule at why) kept leads h = absurd h
+MayRefuse-file kind tells given whole process before now (BadOrder at why) kept leads h = absurd h
 MayRefuse-file kind tells given whole process before now (NotLegal line) kept leads h = absurd h
 MayRefuse-file kind tells given whole process before now TooManyOrders kept leads h = absurd h
 
@@ -142,47 +135,47 @@ MayRefuse-loaded kind tells expected l before now out_before out_now (ReadFault 
 MayRefuse-loaded kind tells expected l before now out_before out_now (Usage (usage.Files wanted given)) told is shelf out writes refuses =
     absurd (IsBrought-loaded tells expected l before now (Usage (usage.Files wanted given)) told is (refuses (λ e. cc) (λ e. cc)))
 MayRefuse-loaded kind tells expected l before now out_before out_now (Usage usage.Words) told is shelf out writes refuses = absurd (refuses (λ e. cc) (λ e. cc))
-MayRefuse-loaded kind tells expected l before now out_before out_now (BadBook bad) told is shelf out writes refuses =
-    absurd (IsBrought-loaded tells expected l before now (BadBook bad) told is (refuses (λ e. cc) (λ e. cc)))
+MayRefuse-loaded kind tells expected l before now out_before out_now (BadBook at why) told is shelf out writes refuses =
+    absurd (IsBrought-loaded tells expected l before now (BadBook at why) told is (refuses (λ e. cc) (λ e. cc)))
 MayRefuse-loaded kind tells expected l before now out_before out_now (TooLong file) told is shelf out writes refuses =
     absurd (IsBrought-loaded tells expected l before now (TooLong file) told is (refuses (λ e. cc) (λ e. cc)))
-MayRefuse-loaded payments tells expected l before now out_before out_now (BadPayments process bad) told is shelf out writes refuses =
-    absurd (IsBrought-loaded tells expected l before now (BadPayments process bad) told is (refuses (λ e. cc) (λ e. cc)))
-MayRefuse-loaded scheduled tells expected l before now out_before out_now (BadPayments process bad) told is shelf out writes refuses =
-    absurd (IsBrought-loaded tells expected l before now (BadPayments process bad) told is (refuses (λ e. cc) (λ e. cc)))
-MayRefuse-loaded messages tells expected l before now out_before out_now (BadPayments process bad) told is shelf out writes refuses = absurd (refuses (λ e. cc) (λ e. cc))
-MayRefuse-loaded payments tells expected l before now out_before out_now (BadSchedule line why) told is shelf out writes refuses = absurd (refuses (λ e. cc) (λ e. cc))
-MayRefuse-loaded scheduled tells expected l before now out_before out_now (BadSchedule line why) told is shelf out writes refuses =
-    absurd (IsBrought-loaded tells expected l before now (BadSchedule line why) told is (refuses (λ e. cc) (λ e. cc)))
-MayRefuse-loaded messages tells expected l before now out_before out_now (BadSchedule line why) told is shelf out writes refuses = absurd (refuses (λ e. cc) (λ e. cc))
-MayRefuse-loaded payments tells expected l before now out_before out_now (BadOrder line why) told is shelf out writes refuses = absurd (refuses (λ e. cc) (λ e. cc))
-MayRefuse-loaded scheduled tells expected l before now out_before out_now (BadOrder line why) told is shelf out writes refuses = absurd (refuses (λ e. cc) (λ e. cc))
-MayRefuse-loaded messages tells expected l before now out_before out_now (BadOrder line why) told is shelf out writes refuses =
-    absurd (IsBrought-loaded tells expected l before now (BadOrder line why) told is (refuses (λ e. cc) (λ e. cc)))
-MayRefuse-loaded payments tells expected l before now out_before out_now (BadMessages process line why) told is shelf out writes refuses = absurd (refuses (λ e. cc) (λ e. cc))
-MayRefuse-loaded scheduled tells expected l before now out_before out_now (BadMessages process line why) told is shelf out writes refuses = absurd (refuses (λ e. cc) (λ e. cc))
-MayRefuse-loaded messages tells expected l before now out_before out_now (BadMessages process line why) told is shelf out writes refuses =
-    absurd (IsBrought-loaded tells expected l before now (BadMessages process line why) told is (refuses (λ e. cc) (λ e. cc)))
+MayRefuse-loaded payments tells expected l before now out_before out_now (BadPayments process at why) told is shelf out writes refuses =
+    absurd (IsBrought-loaded tells expected l before now (BadPayments process at why) told is (refuses (λ e. cc) (λ e. cc)))
+MayRefuse-loaded scheduled tells expected l before now out_before out_now (BadPayments process at why) told is shelf out writes refuses =
+    absurd (IsBrought-loaded tells expected l before now (BadPayments process at why) told is (refuses (λ e. cc) (λ e. cc)))
+MayRefuse-loaded messages tells expected l before now out_before out_now (BadPayments process at why) told is shelf out writes refuses = absurd (refuses (λ e. cc) (λ e. cc))
+MayRefuse-loaded payments tells expected l before now out_before out_now (BadSchedule at why) told is shelf out writes refuses = absurd (refuses (λ e. cc) (λ e. cc))
+MayRefuse-loaded scheduled tells expected l before now out_before out_now (BadSchedule at why) told is shelf out writes refuses =
+    absurd (IsBrought-loaded tells expected l before now (BadSchedule at why) told is (refuses (λ e. cc) (λ e. cc)))
+MayRefuse-loaded messages tells expected l before now out_before out_now (BadSchedule at why) told is shelf out writes refuses = absurd (refuses (λ e. cc) (λ e. cc))
+MayRefuse-loaded payments tells expected l before now out_before out_now (BadOrder at why) told is shelf out writes refuses = absurd (refuses (λ e. cc) (λ e. cc))
+MayRefuse-loaded scheduled tells expected l before now out_before out_now (BadOrder at why) told is shelf out writes refuses = absurd (refuses (λ e. cc) (λ e. cc))
+MayRefuse-loaded messages tells expected l before now out_before out_now (BadOrder at why) told is shelf out writes refuses =
+    absurd (IsBrought-loaded tells expected l before now (BadOrder at why) told is (refuses (λ e. cc) (λ e. cc)))
+MayRefuse-loaded payments tells expected l before now out_before out_now (BadMessages process at why) told is shelf out writes refuses = absurd (refuses (λ e. cc) (λ e. cc))
+MayRefuse-loaded scheduled tells expected l before now out_before out_now (BadMessages process at why) told is shelf out writes refuses = absurd (refuses (λ e. cc) (λ e. cc))
+MayRefuse-loaded messages tells expected l before now out_before out_now (BadMessages process at why) told is shelf out writes refuses =
+    absurd (IsBrought-loaded tells expected l before now (BadMessages process at why) told is (refuses (λ e. cc) (λ e. cc)))
 MayRefuse-loaded kind tells expected l before now out_before out_now (NotLegal line) told is shelf out writes refuses = absurd (refuses (λ e. cc) (λ e. cc))
 MayRefuse-loaded kind tells expected l before now out_before out_now TooManyOrders told is shelf out writes refuses = absurd (refuses (λ e. cc) (λ e. cc))
 
 -- the numbers of a refusal of a process's file
 pub HasFileNumbers-file : {A : Type 0} (kind : Kind) (given : Result A Status) (process files : ℕ) (refusal : Status) → process < files → RefusesFile kind given process refusal → HasFileNumbers files refusal
 HasFileNumbers-file kind given process files NoMemory below h = tt
-HasFileNumbers-file payments given process files (BadPayments p bad) below h = rw h.0 below
-HasFileNumbers-file scheduled given process files (BadPayments p bad) below h = rw h.0 below
-HasFileNumbers-file messages given process files (BadMessages p line why) below h = rw h.0 below
-HasFileNumbers-file payments given process files (BadMessages p line why) below h = absurd h
-HasFileNumbers-file scheduled given process files (BadMessages p line why) below h = absurd h
-HasFileNumbers-file messages given process files (BadPayments p bad) below h = absurd h
+HasFileNumbers-file payments given process files (BadPayments p at why) below h = rw h.0 below
+HasFileNumbers-file scheduled given process files (BadPayments p at why) below h = rw h.0 below
+HasFileNumbers-file messages given process files (BadMessages p at why) below h = rw h.0 below
+HasFileNumbers-file payments given process files (BadMessages p at why) below h = absurd h
+HasFileNumbers-file scheduled given process files (BadMessages p at why) below h = absurd h
+HasFileNumbers-file messages given process files (BadPayments p at why) below h = absurd h
 HasFileNumbers-file kind given process files (ReadFault file) below h = absurd h
 HasFileNumbers-file kind given process files (Usage (usage.Files wanted given_files)) below h = absurd h
 HasFileNumbers-file kind given process files (Usage usage.Words) below h = tt
-HasFileNumbers-file kind given process files (BadBook bad) below h = tt
+HasFileNumbers-file kind given process files (BadBook at why) below h = tt
 HasFileNumbers-file kind given process files (TooLong file) below h = absurd h
 HasFileNumbers-file kind given process files Done below h = tt
 HasFileNumbers-file kind given process files WriteFault below h = tt
-HasFileNumbers-file kind given process files (BadSchedule line why) below h = tt
-HasFileNumbers-file kind given process files (BadOrder line why) below h = tt
+HasFileNumbers-file kind given process files (BadSchedule at why) below h = tt
+HasFileNumbers-file kind given process files (BadOrder at why) below h = tt
 HasFileNumbers-file kind given process files (NotLegal line) below h = tt
 HasFileNumbers-file kind given process files TooManyOrders below h = tt

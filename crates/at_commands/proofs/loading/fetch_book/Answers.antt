@@ -46,7 +46,7 @@ returns-in-Err-Bad g c =
       spelled = λ told. tt;
       names = tt;
       err = λ kind. grind (arith, common_steps);
-      file = λ file is. absurd (book-read_fault _ file _ refl is);
+      file = λ file is. absurd (book-read_fault _ _ file _ refl is);
       numbered = λ files. tt;
     }
 

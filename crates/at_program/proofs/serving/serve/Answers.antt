@@ -35,4 +35,4 @@ pub returns-clause-silent : goal.returns-clause-silent
 returns-clause-silent g c done = c.tell_unless_done.ensures.silent done
 
 pub returns-clause-told : goal.returns-clause-told
-returns-clause-told g c undone told = c.tell_unless_done.ensures.told undone told
+returns-clause-told g c undone told = rw c.asked_by-asked.ensures.asked at (c.tell_unless_done.ensures.told undone told)
