@@ -1,6 +1,6 @@
 -- One answer alone comes.
-use Rattle.std.proofs.Common.{◌≡◌, ℕ, List, refl, subst, arith}
-use Rattle.at_logs.proofs.Prelude.{Answer, Taken, NotAnEntry, Forked, Gap, Again, IsAnswerAt, IsOneAnswer, ReadingState}
+use Rattle.std.proofs.Common.{◌≡◌, ℕ, ◌<◌, List, refl, subst, arith}
+use Rattle.at_logs.proofs.Prelude.{Answer, Taken, NotAnEntry, Forked, Gap, Again, IsAnswerAt, IsOneAnswer, IsReading, LeavesAfter, ReadsOn, ReadingState, taken}
 
 -- the place alone rules two answers out
 one_answer : (s : ReadingState) (log place : ℕ) (bytes : List ℕ) (a b : Answer) → IsAnswerAt s log place bytes a → IsAnswerAt s log place bytes b → a ≡ b
@@ -32,3 +32,19 @@ one_answer s log place bytes Again Again is other = refl
 
 pub IsOneAnswer-IsAnswerAt : (s : ReadingState) (log place : ℕ) (bytes : List ℕ) (a : Answer) → IsAnswerAt s log place bytes a → IsOneAnswer s log place bytes a
 IsOneAnswer-IsAnswerAt s log place bytes a is b = (λ same. subst (IsAnswerAt s log place bytes) same is, one_answer s log place bytes a b is)
+
+-- a call of `take` goes on with the logs that were read before
+pub ReadsOn-answered : (s t : ReadingState) (log place : ℕ) (bytes : List ℕ) (a : Answer) → log < s.node.book.logs → IsOneAnswer s log place bytes a → LeavesAfter s log bytes t a
+    → IsReading t → ReadsOn s log place bytes t
+ReadsOn-answered s t log place bytes a known answered left reading b hash logs before stands =
+    taken s t before (record {
+      log = log;
+      place = place;
+      bytes = bytes;
+      answer = a;
+      known = known;
+      stands = stands;
+      answered = (answered a).0 refl;
+      left = left;
+      reading = reading;
+    })

@@ -51,7 +51,7 @@ payment_entry-parts s log writer from paid name deps before messages deps_are be
     ∙ ap (λ (l : List EntryMessage). record { writer = writer; deps = s.node.validated; book = s.hash; before = (tail_of s log).hash; messages = l }) messages_are)
 
 -- bytes spell the same to nodes of one book
-SpellsEntry-same : (r s : ReadingState) (log : ℕ) (bytes : List ℕ) (e : EntryTerms) → r.node.book ≡ s.node.book → r.book ≡ s.book → r.hash ≡ s.hash → SpellsEntry r log bytes e → SpellsEntry s log bytes e
+pub SpellsEntry-same : (r s : ReadingState) (log : ℕ) (bytes : List ℕ) (e : EntryTerms) → r.node.book ≡ s.node.book → r.book ≡ s.book → r.hash ≡ s.hash → SpellsEntry r log bytes e → SpellsEntry s log bytes e
 SpellsEntry-same r s log bytes e logs book hash is = record {
   on = subst (λ (l : LogTerms). IsEntryOn l.logs (length s.book.accounts) s.book.processes e) logs
       (subst (λ (b : BookTerms). IsEntryOn r.node.book.logs (length b.accounts) b.processes e) book is.on);

@@ -1,6 +1,6 @@
 -- An entry is read from its bytes, and from no others.
-use Rattle.std.proofs.Common.{◌≡◌, ◌↔◌, ℕ, ◌+◌, ◌^◌, ◌<◌, ◌≤◌, List, [], length, get_or, Option, Some, Result, Ok, Err, IfOk, refl, sym, subst, ◌∙◌, arith}
-use Rattle.at_logs.proofs.Prelude.{All, All-from_recursion, get_or-map-range_with_len, length-map-range_with_len, recursion_from_All, AreBytes, EntryMessage, EntryTerms, HasMessageBytes, Head, IsEntryOn, IsMessageOn, AreTargetsOn, TargetPair, entry_bytes, head_bytes, length-set, message_bytes, message_in_log, messages_in_log, most_in_entry, most_targets, target_bytes, entry_version, read_entry, read_head, read_message, read_target, read_whole}
+use Rattle.std.proofs.Common.{◌≡◌, ◌↔◌, ℕ, ◌+◌, ◌^◌, ◌<◌, ◌≤◌, List, [], ◌++◌, length, get_or, Option, Some, Result, Ok, Err, IfOk, refl, ap, sym, subst, ◌∙◌, arith}
+use Rattle.at_logs.proofs.Prelude.{All, All-from_recursion, get_or-map-range_with_len, length-map-range_with_len, recursion_from_All, same_Some, AreBytes, EntryMessage, EntryTerms, HasMessageBytes, Head, IsEntryOn, IsMessageOn, AreTargetsOn, TargetPair, entry_bytes, head_bytes, length-set, message_bytes, message_in_log, messages_in_log, most_in_entry, most_targets, target_bytes, entry_version, read_entry, read_head, read_message, read_target, read_whole}
 use Rattle.at_logs.proofs.ReaderLaws.{AreListed, AreSoMany, IsBytes, Reads, Reads-after, Reads-below, Reads-items, Reads-listed, Reads-made, Reads-pair, Reads-raw, Reads-u32, Reads-u64, reads_whole}
 
 -- a target that has bytes
@@ -111,6 +111,15 @@ reads_entry : (logs accounts processes : ℕ) (bytes : List ℕ) (e : EntryTerms
     → (read_whole (read_entry logs accounts processes) bytes ≡ Some e) ↔ (IsEntryOn logs accounts processes e × (bytes ≡ entry_bytes e))
 reads_entry logs accounts processes bytes e few_accounts few_processes fits =
     reads_whole (Reads-entry logs accounts processes few_accounts few_processes) bytes e fits
+
+-- no two entries have the same bytes
+pub same_entry : (logs accounts processes : ℕ) (e f : EntryTerms) → accounts ≤ 2 ^ 32 → processes ≤ 2 ^ 32 → IsEntryOn logs accounts processes e → IsEntryOn logs accounts processes f
+    → entry_bytes e ≡ entry_bytes f → e ≡ f
+same_entry logs accounts processes e f few_accounts few_processes one other same =
+    let r = Reads-entry logs accounts processes few_accounts few_processes in
+    let both : Some (e, []) ≡ Some (f, []) =
+    sym (r.again e [] one) ∙ (ap (λ (l : List ℕ). read_entry logs accounts processes (l ++ [])) same ∙ r.again f [] other) in
+    ap (λ (x : EntryTerms × List ℕ). x.0) (same_Some (e, []) (f, []) both)
 
 -- the same of what was returned
 pub returned_entry : {E : Type 0} (logs accounts processes : ℕ) (bytes : List ℕ) (r : Result (Option EntryTerms) E) → accounts ≤ 2 ^ 32 → processes ≤ 2 ^ 32 → IsBytes bytes

@@ -5,3 +5,7 @@ pub mod ReaderLaws
 pub mod EntryLaws
 pub mod AnswerLaws
 pub mod DraftLaws
+pub mod TotalLaws
+pub mod SameLogsLaws
+pub mod AgreementLaws
+pub mod TellingLaws

@@ -1,35 +1,48 @@
 -- What this crate's proofs name of other crates and of its definitions, in one place.
 pub use Rattle.std.proofs.Math.Bridge.{le_prop}
-pub use Rattle.std.proofs.Math.Logic.{∥∥₁_elim}
+pub use Rattle.std.proofs.Math.Logic.{∥∥₁_elim, ∥∥₁_map}
 pub use Rattle.std.proofs.lemmas.Bool.{cases_eq, cases_lt, eq-eqb, eqb-false, eqb-true, le-ltb, lt-ltb, ltb-false, ltb-true}
-pub use Rattle.std.proofs.lemmas.Bool.Decides.{eqb_tells}
-pub use Rattle.std.proofs.lemmas.List.{append-nil, drop_at, get_or-append-add, get_or-drop, get_or-replicate, get_or-take, get_or_default, get_or_past, get_or_read, length-append, length-map, length-replicate, length-set, length-take, nil_from_length, set-get_or, take-append-drop, take_all, take_at, take_more_set}
-pub use Rattle.std.proofs.lemmas.List.FromFn.{get_or-map-range_with_len, length-map-range_with_len, length-range_with_len, map-range_with_len_more}
+pub use Rattle.std.proofs.lemmas.Bool.Decides.{eqb_tells, leb_tells, nat_tests}
+pub use Rattle.std.proofs.lemmas.List.{append-nil, drop_at, ext_get_or, get_or-append-add, get_or-drop, get_or-replicate, get_or-take, get_or_default, get_or_past, get_or_read, length-append, length-map, length-replicate, length-set, length-take, nil_from_length, set-get_or, take-append-drop, take_all, take_at, take_more_set}
+pub use Rattle.std.proofs.lemmas.List.FromFn.{get_or-map-range_with_len, length-map-range_with_len, length-range_with_len, map-range_with_len_more, sum_by-map-range_with_len_more}
+pub use Rattle.std.proofs.lemmas.List.Folds.{sum_by-replicate}
 pub use Rattle.std.proofs.lemmas.List.Sums.{sum_by-append, sum_by-cons, sum_by_more}
 pub use Rattle.std.proofs.lemmas.List.Elements.{All-from_recursion, recursion_from_All}
 pub use Rattle.std.proofs.lemmas.Nat.{be_bytes_4, be_bytes_8, from_be_bytes-to_be_bytes_4, from_be_bytes-to_be_bytes_8}
-pub use Rattle.std.proofs.lemmas.Option.{cond_some, same_Some}
+pub use Rattle.std.proofs.Math.Nat.{ℕ_set}
+pub use Rattle.std.proofs.lemmas.Grind.{same_number_lists}
+pub use Rattle.std.proofs.lemmas.Option.{cond_some, get_or_from_slice_get, same_Some, slice_get-get_or, slice_get_past, slice_get_within}
 pub use Rattle.std.specs.List.{All, AllByRecursion, flat_map, range_with_len}
-pub use Rattle.at_broadcast.proofs.MessageLaws.{message_of-listed, message_of-unlisted}
+pub use Rattle.at_broadcast.proofs.MessageLaws.{Reached-with_place, message_of-listed, message_of-unlisted}
 pub use Rattle.at_base.specs.Counts.{Covers}
-pub use Rattle.at_broadcast.proofs.ReachedLaws.{IsCounted, IsCounted-Reached, get_or-zeros, one_more_of-ge, one_more_of-le}
-pub use Rattle.at_broadcast.proofs.NodeLaws.{AgreesWithAll-IsNode, IsClosed-IsNode, IsSolvent-IsNode, ShowsBalances-IsNode}
+pub use Rattle.at_broadcast.proofs.ReachedLaws.{IsCounted, IsCounted-Reached, after-Reached, below-Reached, get_or-zeros, length-Reached, one_more_of-ge, one_more_of-le}
+pub use Rattle.at_broadcast.proofs.NodeLaws.{AgreesWithAll-IsNode, HasPrefixes-IsNode, IsClosed-IsNode, IsSolvent-IsNode, ShowsBalances-IsNode}
+pub use Rattle.at_broadcast.proofs.BalanceLaws.{balance_at-covers, covers-from_balance_at}
+pub use Rattle.at_broadcast.proofs.RangeLaws.{range-sum}
+pub use Rattle.at_broadcast.proofs.SumLaws.{part, sum_of_first-le, sum_of_first-one_more_of}
+pub use Rattle.at_broadcast.proofs.ProgressLaws.{delivered-process, differ, left-one_more_of, went-deps}
+pub use Rattle.at_broadcast.proofs.FilledLaws.{within-there}
 pub use Rattle.at_broadcast.proofs.StartLaws.{none-start}
+pub use Rattle.at_broadcast.specs.TwoNodes.{Extends}
 pub use Rattle.at_broadcast.proofs.TwoNodes.{IsFinal-IsNode, KeepsUp-IsNode, SharesBalances-IsNode, SharesPrefixes-IsNode}
-pub use Rattle.at_broadcast.specs.LogBook.{LogTerms, account_on_logs, most_logs}
-pub use Rattle.at_broadcast.specs.Messages.{IsMessageOn, IsUndelivered, MessageList, message_of, no_messages, with_messages}
-pub use Rattle.at_broadcast.specs.Node.{IsNode, NodeState, starting_state}
-pub use Rattle.at_broadcast.specs.Validated.{Reached, one_more_of}
+pub use Rattle.at_broadcast.specs.LogBook.{LogTerms, account_on_logs, most_logs, total_on_logs}
+pub use Rattle.at_broadcast.specs.Messages.{IsMessageOn, IsUndelivered, MessageList, list_of, message_at, message_credit, message_debit, message_of, no_messages, with_message, with_messages}
+pub use Rattle.at_broadcast.specs.Node.{IsNode, NodeState, left, starting_state}
+pub use Rattle.at_broadcast.specs.Validated.{IsValid, Reached, came, one_more_of, went}
 pub use Rattle.at_broadcast.specs.Validated.Reached.{raise, zeros}
 pub use Rattle.at_broadcast.specs.declared.log_book.LogAccount.{LogAccount}
 pub use Rattle.at_broadcast.specs.declared.message.Message.{Message}
+pub use Rattle.at_broadcast.specs.declared.message.TheConstants.{MESSAGES_MAX}
 pub use Rattle.at_ledger.specs.Account.{AccountTerms, is_shared, no_account}
-pub use Rattle.at_ledger.specs.Book.{BookTerms, account_of, is_owner}
-pub use Rattle.at_ledger.specs.Call.{AreTargetsOn, TargetPair}
+pub use Rattle.at_ledger.specs.Book.{BookTerms, IsBook, account_of, is_owner, total_of}
+pub use Rattle.at_ledger.specs.Call.{AreTargetsOn, TargetPair, amount_of}
 pub use Rattle.at_logs.specs.Draft.{CanPay, IsDraft, IsFinalAt, payment_entry}
-pub use Rattle.at_logs.specs.Answers.{ComesNext, HasTaken, IsAnswerAt, IsOneAnswer, IsSource, LeavesAfter, SpellsEntry, tail_after}
+pub use Rattle.at_logs.specs.Answers.{ComesNext, Fits, HasTaken, IsAnswerAt, IsOneAnswer, IsPassed, IsSource, LeavesAfter, SpellsEntry, passed_over, tail_after}
 pub use Rattle.at_logs.specs.Logs.{log_account, logs_of, shared_among}
 pub use Rattle.at_logs.specs.Reading.{IsReading, IsTail, ReadingState, no_tail, opened_node, tail_of}
+pub use Rattle.at_logs.specs.SameLogs.{AgreesOnLogs, FollowsOnLogs, HasReadLogs, HasReadAsMuch, IsButTold, LogBytes, ReadBoth, ReadsGrown, ReadsOn, SharesBalancesOnLogs, SharesPrefixesOnLogs, TakesFrom}
+pub use Rattle.at_logs.specs.SameLogs.HasReadLogs.{opened, taken, told}
+pub use Rattle.at_logs.specs.Telling.{IsNextWithin, IsUntold, TellsLegally}
 pub use Rattle.at_logs.specs.declared.node.Answer.{Answer}
 pub use Rattle.at_logs.specs.declared.node.Answer.TheVariants.{Taken, NotAnEntry, Forked, Gap, Again}
 pub use Rattle.at_logs.specs.declared.node.Draft.{Draft}
@@ -40,3 +53,5 @@ unfoldable pub use Rattle.at_logs.specs.Readers.{read_items, read_target, read_m
 pub use Rattle.at_logs.specs.declared.entry.EntryMessage.{EntryMessage}
 pub use Rattle.at_logs.specs.declared.reading.Head.{Head}
 pub use Rattle.at_ledger.specs.Limits.{most_processes, most_targets}
+pub use Rattle.sha2.specs.Sha256.{sha256}
+pub use Rattle.at_logs.specs.declared.node.Told.{Told}

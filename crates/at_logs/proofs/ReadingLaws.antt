@@ -1,6 +1,7 @@
 -- One entry more of a log is read.
-use Rattle.std.proofs.Common.{◌≡◌, ℕ, zero, suc, ◌+◌, ◌-◌, ◌<◌, ◌≤◌, List, length, get_or, set, replicate, Option, None, Some, refl, add-one, ap, sym, subst, ◌∙◌, inl, inr, arith, length-set, get_or-set_same, get_or-set_other}
-use Rattle.at_logs.proofs.Prelude.{cases_eq, cases_lt, le_prop, ∥∥₁_elim, get_or-map-range_with_len, get_or-replicate, get_or-zeros, length-map-range_with_len, length-replicate, one_more_of-ge, one_more_of-le, same_Some, BookTerms, Covers, ComesNext, EntryTerms, IsCounted, IsCounted-Reached, IsUndelivered, Reached, raise, zeros, LogTerms, MessageList, message_in_log, message_of, message_of-listed, message_of-unlisted, messages_in_log, no_messages, with_messages, IsNode, NodeState, starting_state, one_more_of, Message, none-start, IsReading, IsTail, ReadingState, Tail, log_account, logs_of, no_tail, opened_node, tail_after, tail_of}
+use Rattle.std.proofs.Common.{◌≡◌, ℕ, zero, suc, ◌+◌, ◌-◌, ◌<◌, ◌≤◌, IsSome, List, [], ◌∷◌, length, get_or, set, replicate, Option, None, Some, refl, add-one, ap, sym, subst, ◌∙◌, inl, inr, arith, length-set, get_or-set_same, get_or-set_other}
+use Rattle.std.specs.Prelude.{is_some}
+use Rattle.at_logs.proofs.Prelude.{All, cases_eq, cases_lt, le_prop, ∥∥₁_elim, ∥∥₁_map, get_or-map-range_with_len, get_or-replicate, get_or-zeros, length-map-range_with_len, length-replicate, one_more_of-ge, one_more_of-le, same_Some, BookTerms, Covers, ComesNext, EntryTerms, IsCounted, IsCounted-Reached, IsMessageOn, IsUndelivered, Reached, Reached-with_place, after-Reached, list_of, with_message, raise, zeros, LogTerms, MessageList, message_in_log, message_of, message_of-listed, message_of-unlisted, messages_in_log, no_messages, with_messages, IsNode, NodeState, starting_state, one_more_of, Message, none-start, IsReading, IsTail, ReadingState, Tail, log_account, logs_of, no_tail, opened_node, tail_after, tail_of}
 
 pub length-messages_in_log : (e : EntryTerms) (log : ℕ) → length (messages_in_log e log) ≡ length e.messages
 length-messages_in_log e log = length-map-range_with_len (message_in_log e log) 0 (length e.messages)
@@ -16,15 +17,17 @@ IsTail-same n after p t book same is =
     let logs : after.book.logs ≡ n.book.logs = ap (λ (b : LogTerms). b.logs) book in
     record {
       counted = is.counted ∙ sym logs;
+      read = λ number below. subst (λ (o : Option Message). IsSome o) (sym (same number)) (is.read number below);
       unread = λ number low. same number ∙ is.unread number low;
       first = λ none. is.first none ∙ ap (λ k. replicate k 0) (sym logs);
       later = λ number m next found. is.later number m next (sym (same number) ∙ found);
+      named = λ number m found. subst (λ (b : LogTerms). IsMessageOn b.logs (length b.accounts) m) (sym book) (is.named number m (sym (same number) ∙ found));
     }
 
 -- where bytes are passed over
 pub IsTail-passed : (n : NodeState) (p entries : ℕ) (hash : List ℕ) (t : Tail) → IsTail n p t
     → IsTail n p (record { entries = entries; messages = t.messages; deps = t.deps; hash = hash })
-IsTail-passed n p entries hash t is = record { counted = is.counted; unread = is.unread; first = is.first; later = is.later }
+IsTail-passed n p entries hash t is = record { counted = is.counted; read = is.read; unread = is.unread; first = is.first; later = is.later; named = is.named }
 
 -- the `deps` of an entry are no more than those of its messages
 le-in_log : (e : EntryTerms) (p i q : ℕ) → p < length e.deps → get_or e.deps q 0 ≤ get_or (message_in_log e p i).deps q 0
@@ -38,14 +41,20 @@ le-in_log e p i q within =
 -- where an entry is read
 pub IsTail-read : (n after : NodeState) (p : ℕ) (bytes : List ℕ) (e : EntryTerms) (t : Tail) → IsNode n → IsTail n p t → p < n.book.logs → after.book ≡ n.book
     → after.messages ≡ with_messages n.messages p t.messages (messages_in_log e p) → ComesNext t p e → length e.deps ≡ n.book.logs → 1 ≤ length e.messages
-    → IsTail after p (tail_after t bytes e)
-IsTail-read n after p bytes e t node is known book messages next deps some =
+    → All (IsMessageOn n.book.logs (length n.book.accounts)) (messages_in_log e p) → IsTail after p (tail_after t bytes e)
+IsTail-read n after p bytes e t node is known book messages next deps some named =
     let logs : after.book.logs ≡ n.book.logs = ap (λ (b : LogTerms). b.logs) book in
     let listed : p < length n.messages = omega (arith, known, node.steady.sized) in
     let more : List Message = messages_in_log e p in
     let long : length more ≡ length e.messages = length-messages_in_log e p in
     record {
       counted = deps ∙ sym logs;
+      read = λ number below. subst (λ (l : List MessageList). IsSome (message_of l p number)) (sym messages)
+          (elim (cases_lt number t.messages) as (λ _. IsSome (message_of (with_messages n.messages p t.messages more) p number)) [
+            | inl earlier ↦
+                subst (λ (o : Option Message). IsSome o) (sym (message_of-unlisted n.messages p t.messages more p number listed (λ _ low. absurd (omega (arith, low, earlier))))) (is.read number earlier)
+            | inr later ↦ read_new number later (omega (arith, below))
+          ]);
       unread = λ number low.
           ap (λ (l : List MessageList). message_of l p number) messages
           ∙ (message_of-unlisted n.messages p t.messages more p number listed (λ _ _. omega (arith, low, long)) ∙ is.unread number (omega (arith, low)));
@@ -60,13 +69,50 @@ IsTail-read n after p bytes e t node is known book messages next deps some =
           ∙ (sym (ap (λ (l : List MessageList). message_of l p number) messages) ∙ found)) in
           let is : message_in_log e p i ≡ m = sym (get_or-map-range_with_len (message_in_log e p) 0 (length e.messages) i i m within (omega arith)) ∙ same_Some (get_or more i m) m there in
           omega (arith, le-in_log e p i q (omega (arith, deps, known)), ap (λ (x : Message). get_or x.deps q 0) is);
-    }
+      named = λ number m found.
+          subst (λ (b : LogTerms). IsMessageOn b.logs (length b.accounts) m) (sym book)
+          (elim (cases_lt number t.messages) as (λ _. IsMessageOn n.book.logs (length n.book.accounts) m) [
+            | inl below ↦ is.named number m (sym (message_of-unlisted n.messages p t.messages more p number listed (λ _ low. absurd (omega (arith, low, below)))) ∙ (sym (ap (λ (l : List MessageList). message_of l p number) messages) ∙ found))
+            | inr above ↦ named_new number m above (sym (ap (λ (l : List MessageList). message_of l p number) messages) ∙ found)
+          ]);
+    } where
+      read_new : (number : ℕ) → t.messages ≤ number → number < t.messages + length e.messages → IsSome (message_of (with_messages n.messages p t.messages (messages_in_log e p)) p number)
+      read_new number above below =
+          let listed : p < length n.messages = omega (arith, known, node.steady.sized) in
+          let more : List Message = messages_in_log e p in
+          let i : ℕ = number - t.messages in
+          let at : t.messages + i ≡ number = omega (arith, above) in
+          let room : t.messages + length more ≤ length (list_of n.messages p) = omega (arith, node.steady.lists p known, next.room, length-messages_in_log e p) in
+          ap is_some
+          (ap (message_of (with_messages n.messages p t.messages more) p) (sym at)
+          ∙ message_of-listed n.messages p t.messages more i (message_in_log e p i) listed room (omega (arith, at, below, length-messages_in_log e p)))
+
+      named_new : (number : ℕ) (m : Message) → t.messages ≤ number → message_of (with_messages n.messages p t.messages (messages_in_log e p)) p number ≡ Some m
+          → IsMessageOn n.book.logs (length n.book.accounts) m
+      named_new number m above found =
+          let listed : p < length n.messages = omega (arith, known, node.steady.sized) in
+          let more : List Message = messages_in_log e p in
+          let i : ℕ = number - t.messages in
+          let at : t.messages + i ≡ number = omega (arith, above) in
+          elim (cases_lt i (length more)) as (λ _. IsMessageOn n.book.logs (length n.book.accounts) m) [
+            | inl within ↦
+                let room : t.messages + length more ≤ length (list_of n.messages p) = omega (arith, node.steady.lists p known, next.room, length-messages_in_log e p) in
+                let there : Some (get_or more i m) ≡ Some m =
+                sym (message_of-listed n.messages p t.messages more i m listed room within)
+                ∙ (ap (message_of (with_messages n.messages p t.messages more) p) at ∙ found) in
+                subst (IsMessageOn n.book.logs (length n.book.accounts)) (same_Some (get_or more i m) m there) (named i m within)
+            | inr past ↦
+                let none : message_of n.messages p number ≡ Some m =
+                sym (message_of-unlisted n.messages p t.messages more p number listed (λ _ _. omega (arith, at, past))) ∙ found in
+                is.named number m none
+          ]
 
 -- a new tail of one log
 pub IsReading-set : (s : ReadingState) (log : ℕ) (t : Tail) (after : NodeState) → IsReading s → IsNode after → after.book ≡ s.node.book → log < s.node.book.logs
     → ((p number : ℕ) → ¬ (p ≡ log) → message_of after.messages p number ≡ message_of s.node.messages p number) → IsTail after log t
-    → IsReading (record { book = s.book; hash = s.hash; node = after; tails = set s.tails log t })
-IsReading-set s log t after is node book known same new =
+    → ∥ Reached after.book after.messages s.told ∥₁
+    → IsReading (record { book = s.book; hash = s.hash; node = after; tails = set s.tails log t; told = s.told })
+IsReading-set s log t after is node book known same new told =
     let logs : after.book.logs ≡ s.node.book.logs = ap (λ (b : LogTerms). b.logs) book in
     record {
       node = node;
@@ -78,24 +124,43 @@ IsReading-set s log t after is node book known same new =
         | inr apart ↦ subst (IsTail after p) (sym (get_or-set_other s.tails log p t (no_tail 0) apart))
             (IsTail-same s.node after p (tail_of s p) book (λ number. same p number apart) (is.tails p (omega (arith, within, logs))))
       ];
+      told = told;
     }
+
+-- what is reached stays so after messages that aren't counted
+pub Reached-with_messages : (b : LogTerms) (messages : List MessageList) (counts : List ℕ) (p number : ℕ) (more : List Message) → p < length messages → p < b.logs
+    → get_or counts p 0 ≤ number → Reached b messages counts → Reached b (with_messages messages p number more) counts
+Reached-with_messages b messages counts p number [] listed known after r = r
+Reached-with_messages b messages counts p number (m ∷ more) listed known after r =
+    Reached-with_messages b (with_message messages p number m) counts p (number + 1) more
+    (omega (arith, listed, length-set messages p (set (list_of messages p) number (Some m)))) known (omega (arith, after))
+    (Reached-with_place b messages counts p number (Some m) listed known after r)
 
 -- an entry is read
 pub IsReading-read : (s : ReadingState) (log : ℕ) (bytes : List ℕ) (e : EntryTerms) (after : NodeState) → IsReading s → IsNode after → after.book ≡ s.node.book → log < s.node.book.logs
     → after.messages ≡ with_messages s.node.messages log (tail_of s log).messages (messages_in_log e log) → ComesNext (tail_of s log) log e → length e.deps ≡ s.node.book.logs → 1 ≤ length e.messages
-    → IsReading (record { book = s.book; hash = s.hash; node = after; tails = set s.tails log (tail_after (tail_of s log) bytes e) })
-IsReading-read s log bytes e after is node book known messages next deps some =
+    → All (IsMessageOn s.node.book.logs (length s.node.book.accounts)) (messages_in_log e log)
+    → IsReading (record { book = s.book; hash = s.hash; node = after; tails = set s.tails log (tail_after (tail_of s log) bytes e); told = s.told })
+IsReading-read s log bytes e after is node book known messages next deps some named =
     IsReading-set s log (tail_after (tail_of s log) bytes e) after is node book known
     (λ p number apart. ap (λ (l : List MessageList). message_of l p number) messages
     ∙ message_of-unlisted s.node.messages log (tail_of s log).messages (messages_in_log e log) p number (omega (arith, known, is.node.steady.sized)) (λ same _. absurd (apart same)))
-    (IsTail-read s.node after log bytes e (tail_of s log) is.node (is.tails log known) known book messages next deps some)
+    (IsTail-read s.node after log bytes e (tail_of s log) is.node (is.tails log known) known book messages next deps some named) told
+  where
+    told : ∥ Reached after.book after.messages s.told ∥₁
+    told =
+        subst (λ (b : LogTerms). ∥ Reached b after.messages s.told ∥₁) (sym book)
+        (subst (λ (l : List MessageList). ∥ Reached s.node.book l s.told ∥₁) (sym messages)
+        (∥∥₁_map is.told (λ r. Reached-with_messages s.node.book s.node.messages s.told log (tail_of s log).messages (messages_in_log e log)
+        (omega (arith, known, is.node.steady.sized)) known
+        (after-Reached s.node.book s.node.messages s.told r log (tail_of s log).messages ((is.tails log known).unread (tail_of s log).messages (omega arith))) r)))
 
 -- bytes are passed over
 pub IsReading-passed : (s : ReadingState) (log entries : ℕ) (hash : List ℕ) → IsReading s → log < s.node.book.logs
-    → IsReading (record { book = s.book; hash = s.hash; node = s.node; tails = set s.tails log (record { entries = entries; messages = (tail_of s log).messages; deps = (tail_of s log).deps; hash = hash }) })
+    → IsReading (record { book = s.book; hash = s.hash; node = s.node; tails = set s.tails log (record { entries = entries; messages = (tail_of s log).messages; deps = (tail_of s log).deps; hash = hash }); told = s.told })
 IsReading-passed s log entries hash is known =
     IsReading-set s log (record { entries = entries; messages = (tail_of s log).messages; deps = (tail_of s log).deps; hash = hash }) s.node is is.node refl known
-    (λ p number apart. refl) (IsTail-passed s.node log entries hash (tail_of s log) (is.tails log known))
+    (λ p number apart. refl) (IsTail-passed s.node log entries hash (tail_of s log) (is.tails log known)) is.told
 
 -- a node that has read nothing
 pub IsReading-opened_node : (b : BookTerms) (hash : List ℕ) → IsNode (starting_state (logs_of b)) → IsReading (opened_node b hash)
@@ -105,10 +170,13 @@ IsReading-opened_node b hash node = record {
   sized = length-replicate logs (no_tail logs);
   tails = λ p within. subst (IsTail (starting_state (logs_of b)) p) (sym (get_or-replicate logs p (no_tail logs) (no_tail 0) within)) (record {
     counted = length-replicate {A = ℕ} logs 0;
+    read = λ number below. absurd (omega (arith, below));
     unread = λ number low. none p number (message_of (replicate logs no_messages) p number) refl;
     first = λ _. refl;
     later = λ number m next found. absurd (omega (arith, next));
+    named = λ number m found. absurd (none-start (logs_of b) (logs_of b).logs p number m found);
   });
+  told = ∣ zeros ∣₁;
 } where
   logs : ℕ
   logs = (logs_of b).logs

@@ -74,6 +74,7 @@ pub record HasTaken (s : ReadingState) (log : ℕ) (bytes : List ℕ) (e : Entry
   pub logs : t.node.book ≡ s.node.book
   pub messages : t.node.messages ≡ with_messages s.node.messages log (tail_of s log).messages (messages_in_log e log)
   pub tails : t.tails ≡ slice_set s.tails log (tail_after (tail_of s log) bytes e)
+  pub told : t.told ≡ s.told
 
 -- what is left after each answer
 abbrev pub LeavesAfter : ReadingState → ℕ → List ℕ → ReadingState → Answer → Type 0

@@ -2,6 +2,8 @@ pub mod Prelude
 pub mod Logs
 pub mod Reading
 pub mod Answers
+pub mod SameLogs
+pub mod Telling
 pub mod Draft
 pub mod Entry
 pub mod Readers

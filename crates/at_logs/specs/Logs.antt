@@ -6,7 +6,8 @@ use Rattle.at_logs.specs.Prelude.{range_with_len, LogTerms, single_log, LogAccou
 abbrev pub shared_among : List AccountTerms → ℕ
 shared_among accounts = sum_by (λ t. if is_shared t then 1 else 0) accounts
 
--- the one log that debits an account: of a shared account its own, of a single one that of its owner
+-- the one log that debits an account: of a shared account its own, of a single one that of its owner. A shared account's stands after those of
+-- the processes, in book order
 abbrev pub log_in : BookTerms → ℕ → Option ℕ
 log_in b account =
     if is_shared (account_of b account)

@@ -6,6 +6,7 @@ use Rattle.at_logs.specs.Entry.{EntryTerms, entry_version, most_in_entry}
 use Rattle.at_logs.specs.declared.entry.EntryMessage.{EntryMessage}
 use Rattle.at_logs.specs.declared.reading.Head.{Head}
 
+-- what reads a value from the front of some bytes, and answers it with the bytes that are left, or nothing
 abbrev pub Reader : Type 0 → Type 0
 Reader A = List ℕ → Option (A × List ℕ)
 

@@ -12,7 +12,7 @@ mod tail;
 
 pub use crate::entry::{ENTRY_MESSAGES_MAX, Entry, EntryMessage};
 pub use crate::logs::logs_of;
-pub use crate::node::{Answer, Draft, Node};
+pub use crate::node::{Answer, Draft, Node, Told};
 pub use crate::reading::read_entry;
 pub use crate::spelling::{entry_bytes, hash_of};
 pub use crate::tail::ENTRIES_MAX;

@@ -1,10 +1,11 @@
 //! A node over logs.
 
 ghost use Rattle.std.specs.Prelude.{◌≡◌, ◌≢◌, ◌<◌, ◌≤◌, ◌↔◌, ℕ, All, Some, length, replicate, slice_index, sum, Ok, IsTrue, IfOk, IfErr, IfSome, IfNone, OnOk, OnErr, nat_le, None, if◌then◌else◌};
+ghost use Rattle.std.specs.Bool.{OnFalse, OnTrue};
 ghost use Rattle.at_logs.specs.Prelude.{AreTargetsOn, most_logs};
 ghost use Rattle.at_logs.specs.Entry.{EntryTerms, IsEntryOn};
 ghost use Rattle.at_logs.specs.Logs.{logs_of};
-ghost use Rattle.at_logs.specs.Reading.{IsReading, no_tail, opened_node, tail_of};
+ghost use Rattle.at_logs.specs.Reading.{IsReading, ReadingState, no_tail, opened_node, tail_of};
 ghost use Rattle.at_logs.specs.declared.tail.TheConstants.{ENTRIES_MAX};
 
 use crate::entry::{Entry, EntryMessage};
@@ -17,13 +18,14 @@ use at_ledger::{Book, Targets};
 use std::alloc::{AllocError, Global};
 use std::marker::Model;
 
-/// What a node has read of its logs, and what it has validated of that.
+/// What a node has read of its logs, what it has validated of that, and what it has told.
 #[derive(Drop)]
 pub struct Node {
     book: Book,
     hash: [u8; 32],
     core: at_broadcast::Node,
     tails: Vec<Tail>,
+    told: LogCounts,
 }
 
 impl Model for Node {
@@ -31,9 +33,9 @@ impl Model for Node {
 
     ghost Value = { ReadingState };
 
-    ghost view = { λ n. record { book = n.book; hash = n.hash; node = n.core; tails = n.tails.items } };
+    ghost view = { λ n. record { book = n.book; hash = n.hash; node = n.core; tails = n.tails.items; told = n.told } };
 
-    ghost invariant = { λ n. IsReading (record { book = n.book; hash = n.hash; node = n.core; tails = n.tails.items }) };
+    ghost invariant = { λ n. IsReading (record { book = n.book; hash = n.hash; node = n.core; tails = n.tails.items; told = n.told }) };
 }
 
 /// What a node answers of the bytes at a place of a log.
@@ -52,6 +54,16 @@ pub enum Answer {
     Again,
 }
 
+/// A message that was validated: a pay-out of a log, by its number there, with the reference that its payer chose.
+#[derive(Debug, Drop)]
+pub struct Told {
+    pub log: u32,
+    pub number: u32,
+    pub from: u32,
+    pub targets: Targets,
+    pub reference: [u8; 16],
+}
+
 /// A payment that was made: the bytes to append to a log at a place. Nothing counts it until its append was answered.
 /// One whose append was refused is let go, and the node is as if it had never been made.
 #[derive(Debug, Drop)]
@@ -64,13 +76,16 @@ pub struct Draft {
 impl Node {
     ghost use Rattle.at_logs.specs.Answers.{ComesNext, Fits, HasTaken, IsAnswerAt, IsOneAnswer, IsSource, LeavesAfter, SpellsEntry, passed_over};
     ghost use Rattle.at_logs.specs.Draft.{CanPay, IsDraft, IsFinalAt};
-    ghost use Rattle.at_logs.specs.Prelude.{AgreesWithAll, IsClosed, IsFinal, IsSolvent, KeepsUp, SharesBalances, SharesPrefixes, ShowsBalances, total_on_logs};
+    ghost use Rattle.at_logs.specs.Prelude.{AgreesWithAll, IsClosed, IsFinal, IsSolvent, Covers, IsValid, KeepsUp, Message, Reached, SharesBalances, SharesPrefixes, ShowsBalances, total_of, total_on_logs};
+    ghost use Rattle.at_logs.specs.SameLogs.{AgreesOnLogs, FollowsOnLogs, HasReadLogs, LogBytes, ReadsGrown, ReadsOn, SharesBalancesOnLogs, IsButTold, SharesPrefixesOnLogs, TellsOn};
+    ghost use Rattle.at_logs.specs.Telling.{IsFirstUntold, IsNextWithin, IsUntold, TellsLegally, TellsNext};
     ghost use Rattle.at_logs.specs.declared.node.Answer.{Answer};
 
     /// A node that has read nothing of the logs of a book. Each entry has the hash of its book: a caller takes that of the book's file. None
     /// comes where there are more than 64 logs.
     pub fn open(alloc: Global, book: &Book, hash: &[u8; 32]) -> Result<Option<Node>, AllocError>
-        ensures { IfOk result (λ found. found ≡ (if nat_le (logs_of book.now).logs most_logs then Some (opened_node book.now hash.now) else None)) }
+        ensures opened { IfOk result (λ found. found ≡ (if nat_le (logs_of book.now).logs most_logs then Some (opened_node book.now hash.now) else None)) }
+        ensures read { IfOk result (λ found. IfSome found (λ n. (logs : LogBytes) → HasReadLogs book.now hash.now logs n)) }
     {
         let Some(logs) = logs_of(alloc, book)? else {
             return Ok(None);
@@ -83,11 +98,32 @@ impl Node {
             hash: *hash,
             core,
             tails,
+            told: LogCounts::zeros(logs.logs()),
         }))
     }
 
     /// Reads the bytes at a place of a log.
     pub fn take(
+        &mut self,
+        alloc: Global,
+        log: u32,
+        place: u32,
+        bytes: &[u8],
+    ) -> Result<Answer, AllocError>
+        requires log_in { log < self.old.node.book.logs }
+        requires place_in { place < ENTRIES_MAX }
+        ensures answer { IfOk result (IsOneAnswer self.old log place bytes.now) }
+        ensures left { IfOk result (LeavesAfter self.old log bytes.now self.new) }
+        ensures read { IfOk result (λ _. ReadsOn self.old log place bytes.now self.new) }
+        ensures err { OnErr result (self.new ≡ self.old) }
+    {
+        let answer = self.answer_to(alloc, log, place, bytes)?;
+        self.known();
+        Ok(answer)
+    }
+
+    /// The answer to the bytes at a place of a log, which are read.
+    fn answer_to(
         &mut self,
         alloc: Global,
         log: u32,
@@ -287,6 +323,7 @@ impl Node {
         requires place_in { draft.now.place < ENTRIES_MAX }
         ensures answer { IfOk result (IsOneAnswer self.old draft.now.log draft.now.place draft.now.bytes.items) }
         ensures left { IfOk result (LeavesAfter self.old draft.now.log draft.now.bytes.items self.new) }
+        ensures read { IfOk result (λ _. ReadsOn self.old draft.now.log draft.now.place draft.now.bytes.items self.new) }
         ensures is_final { result ≡ Ok Answer.Taken → IsFinalAt self.new draft.now }
         ensures err { OnErr result (self.new ≡ self.old) }
     {
@@ -296,6 +333,127 @@ impl Node {
         Ok(answer)
     }
 
+    /// The next message that is validated and wasn't told, of the lowest log that has one. Each is told once, after all that it rests on, so
+    /// that what was told is always a legal run. None comes exactly where all that is validated was told.
+    pub fn next_validated(&mut self) -> Option<Told>
+        ensures some { IfSome result (TellsNext self.old self.new) }
+        ensures first { IfSome result (IsFirstUntold self.old) }
+        ensures none { IfNone result (self.new ≡ self.old) }
+        ensures all { IfNone result (self.old.told ≡ self.old.node.validated) }
+        ensures read { TellsOn self.old self.new }
+    {
+        let told = self.untold()?;
+        self.told.set(told.log, told.number + 1);
+        Some(told)
+    }
+
+    /// A message that can be told next, of the lowest log that has one.
+    fn untold(&self) -> Option<Told>
+        ensures some { IfSome result (IsUntold self.now) }
+        ensures first { IfSome result (IsFirstUntold self.now) }
+        ensures none { IfNone result (self.now.told ≡ self.now.node.validated) }
+    {
+        for log in 0..self.core.logs() {
+            if let Some(told) = self.untold_of(log) {
+                return Some(told);
+            }
+        }
+        None
+    }
+
+    /// The next message of the log, if it can be told next.
+    fn untold_of(&self, log: u32) -> Option<Told>
+        requires { log < self.now.node.book.logs }
+        ensures some { IfSome result (IsUntold self.now) }
+        ensures log { IfSome result (λ told. told.log ≡ log) }
+        ensures none { IfNone result ((m : Message) → ¬ IsValid self.now.node.book self.now.node.messages self.now.told log m) }
+    {
+        let number = self.told.get(log);
+        if number >= self.core.validated(log) {
+            return None;
+        }
+        let message = self.core.message(log, number)?;
+        if !self.told.covers(&message.deps) {
+            return None;
+        }
+        Some(Told {
+            log,
+            number,
+            from: message.from,
+            targets: message.targets.copy(),
+            reference: message.reference,
+        })
+    }
+
+    /// Goes on where a node that stopped had told so many messages of each log, and tells none of them again. It answers false, and changes
+    /// nothing, exactly where no node tells so many after what this one has read.
+    pub fn resume(&mut self, told: &LogCounts) -> bool
+        requires { length told.now ≡ self.old.node.book.logs }
+        ensures done { OnTrue result (self.new ≡ record self.old { told = told.now }) }
+        ensures refused { OnFalse result (self.new ≡ self.old) }
+        ensures exact { IsTrue result ↔ ∥ Reached self.old.node.book self.old.node.messages told.now ∥₁ }
+        ensures same { (s : ReadingState) → IsReading s → IsButTold self.old s → s.told ≡ told.now → IsTrue result × (self.new ≡ s) }
+        ensures read { TellsOn self.old self.new }
+    {
+        if !self.reaches(told) {
+            return false;
+        }
+        self.told = told.copy();
+        true
+    }
+
+    /// Whether so many messages of each log are told by some node that has read the same.
+    fn reaches(&self, told: &LogCounts) -> bool
+        requires { length told.now ≡ self.now.node.book.logs }
+        ensures { IsTrue result ↔ ∥ Reached self.now.node.book self.now.node.messages told.now ∥₁ }
+    {
+        if !self.core.counts().covers(told) {
+            return false;
+        }
+        let mut counts = LogCounts::zeros(self.core.logs());
+        for _ in 0..u64::MAX {
+            let Some(log) = self.next_within(&counts, told) else {
+                return counts.covers(told);
+            };
+            counts.set(log, counts.get(log) + 1);
+        }
+        false
+    }
+
+    /// The lowest log whose next message at these counts is one of the first so many, and valid there.
+    fn next_within(&self, counts: &LogCounts, told: &LogCounts) -> Option<u32>
+        requires reached { ∥ Reached self.now.node.book self.now.node.messages counts.now ∥₁ }
+        requires sized { length told.now ≡ self.now.node.book.logs }
+        requires validated { Covers self.now.node.validated told.now }
+        ensures some { IfSome result (IsNextWithin self.now.node counts.now told.now) }
+        ensures none { IfNone result ((log : ℕ) → ¬ IsNextWithin self.now.node counts.now told.now log) }
+    {
+        for log in 0..self.core.logs() {
+            if self.is_next_within(log, counts, told) {
+                return Some(log);
+            }
+        }
+        None
+    }
+
+    /// Whether the log's is.
+    fn is_next_within(&self, log: u32, counts: &LogCounts, told: &LogCounts) -> bool
+        requires log_in { log < self.now.node.book.logs }
+        requires reached { ∥ Reached self.now.node.book self.now.node.messages counts.now ∥₁ }
+        requires sized { length told.now ≡ self.now.node.book.logs }
+        requires validated { Covers self.now.node.validated told.now }
+        ensures { IsTrue result ↔ IsNextWithin self.now.node counts.now told.now log }
+    {
+        let number = counts.get(log);
+        if number >= told.get(log) {
+            return false;
+        }
+        match self.core.message(log, number) {
+            Some(message) => counts.covers(&message.deps),
+            None => false,
+        }
+    }
+
     /// Tells a proof what holds of the node, alone and beside any other of the same logs. It does nothing when it runs.
     pub fn known(&self)
         ensures reading { IsReading self.now }
@@ -303,13 +461,45 @@ impl Node {
         ensures balances { ShowsBalances self.now.node }
         ensures solvent { IsSolvent self.now.node }
         ensures total { sum self.now.node.balances ≡ total_on_logs self.now.node.book }
+        ensures book_total { sum self.now.node.balances ≡ total_of self.now.book }
+        ensures told { TellsLegally self.now }
         ensures agree { AgreesWithAll self.now.node }
         ensures keeps_up { KeepsUp self.now.node }
         ensures is_final { IsFinal self.now.node }
         ensures prefixes { SharesPrefixes self.now.node }
         ensures shared { SharesBalances self.now.node }
+
+        // The same of the bytes that stand in the logs.
+        ensures grown { ReadsGrown self.now }
+        ensures agree_on_logs { AgreesOnLogs self.now }
+        ensures follows_on_logs { FollowsOnLogs self.now }
+        ensures prefixes_on_logs { SharesPrefixesOnLogs self.now }
+        ensures balances_on_logs { SharesBalancesOnLogs self.now }
     {
+        self.book.known();
         self.core.known();
+    }
+
+    /// How many logs there are.
+    pub fn logs(&self) -> u32
+        ensures { result ≡ self.now.node.book.logs }
+    {
+        self.core.logs()
+    }
+
+    /// The place of a log that is read next: so many were read.
+    pub fn next_place(&self, log: u32) -> u32
+        requires { log < self.now.node.book.logs }
+        ensures { result ≡ (tail_of self.now log).entries }
+    {
+        self.tails[log as usize].entries
+    }
+
+    /// How many messages of each log were told.
+    pub fn told(&self) -> LogCounts
+        ensures { result ≡ self.now.told }
+    {
+        self.told.copy()
     }
 
     /// How many messages of each log are validated.

@@ -10,7 +10,7 @@ log_of-requires c =
 
 pub returns-clause-some : goal.returns-clause-some
 returns-clause-some c =
-    let s : ReadingState = record { book = c.self.inside.book; hash = c.self.inside.hash; node = c.self.inside.core; tails = c.self.inside.tails.items } in
+    let s : ReadingState = record { book = c.self.inside.book; hash = c.self.inside.hash; node = c.self.inside.core; tails = c.self.inside.tails.items; told = c.self.inside.told } in
     let view : s ≡ c.args.self.now = c.self.view_is in
     let log : ℕ = c.in-Some.log in
     let known : log < s.node.book.logs = omega (arith, c.if-log-logs.false, c.logs.ensures) in

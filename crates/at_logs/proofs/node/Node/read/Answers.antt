@@ -1,5 +1,5 @@
 use Rattle.std.proofs.Common.{◌≡◌, ℕ, ◌+◌, ◌<◌, List, length, get_or, ap, sym, subst, ◌∙◌, arith}
-use Rattle.at_logs.proofs.Prelude.{All, get_or_read, ComesNext, EntryTerms, IsMessageOn, Message, ReadingState, Tail, no_tail, tail_after, tail_of, with_messages}
+use Rattle.at_logs.proofs.Prelude.{All, get_or_read, ComesNext, EntryTerms, IsMessageOn, Message, ReadingState, Tail, messages_in_log, no_tail, tail_after, tail_of, with_messages}
 use Rattle.at_logs.proofs.EntryLaws.{All-in_log}
 use Rattle.at_logs.proofs.ReadingLaws.{IsReading-read, accounts-logs_of, length-messages_in_log, same_tail}
 use Rattle.at_logs.proofs.node.Node.read.Goals.{After-index}
@@ -22,20 +22,25 @@ deliver_all-requires-clause-number_in c =
       length-messages_in_log c.args.entry.now c.args.log,
     )
 
-pub deliver_all-requires-clause-messages_in : goal.deliver_all-requires-clause-messages_in
-deliver_all-requires-clause-messages_in c =
+-- its messages are on the book
+named : (c : After-index) → All (IsMessageOn c.self.inside.core.book.logs (length c.self.inside.core.book.accounts)) (messages_in_log c.args.entry.now c.args.log)
+named c =
     let s : ReadingState = c.args.self.now in
     let accounts : length s.book.accounts ≡ length c.self.inside.core.book.accounts =
     ap (λ (s : ReadingState). length s.book.accounts) (sym c.self.view_is) ∙ sym (accounts-logs_of c.self.inside.core.book c.self.inside.book c.self.invariant.book) in
     let logs : s.node.book.logs ≡ c.self.inside.core.book.logs = ap (λ (s : ReadingState). s.node.book.logs) (sym c.self.view_is) in
-    subst (λ (n : ℕ). All (IsMessageOn c.self.inside.core.book.logs n) c.deref.result.now) accounts
-    (subst (λ (n : ℕ). All (IsMessageOn n (length s.book.accounts)) c.deref.result.now) logs
-    (subst (All (IsMessageOn s.node.book.logs (length s.book.accounts))) (sym (c.deref.ensures.value ∙ c.in_ok-messages.ensures))
-    (All-in_log s.node.book.logs (length s.book.accounts) s.book.processes c.args.entry.now c.args.log c.requires.on)))
+    subst (λ (n : ℕ). All (IsMessageOn c.self.inside.core.book.logs n) (messages_in_log c.args.entry.now c.args.log)) accounts
+    (subst (λ (n : ℕ). All (IsMessageOn n (length s.book.accounts)) (messages_in_log c.args.entry.now c.args.log)) logs
+    (All-in_log s.node.book.logs (length s.book.accounts) s.book.processes c.args.entry.now c.args.log c.requires.on))
+
+pub deliver_all-requires-clause-messages_in : goal.deliver_all-requires-clause-messages_in
+deliver_all-requires-clause-messages_in c =
+    subst (All (IsMessageOn c.self.inside.core.book.logs (length c.self.inside.core.book.accounts))) (sym (c.deref.ensures.value ∙ c.in_ok-messages.ensures))
+    (named ((goal.at.deliver_all-requires-clause-messages_in c).After-index))
 
 pub invariant_of-self-2 : goal.invariant_of-self-2
 invariant_of-self-2 c =
-    let s : ReadingState = record { book = c.self.inside.book; hash = c.self.inside.hash; node = c.self.inside.core; tails = c.self.inside.tails.items } in
+    let s : ReadingState = record { book = c.self.inside.book; hash = c.self.inside.hash; node = c.self.inside.core; tails = c.self.inside.tails.items; told = c.self.inside.told } in
     let log : ℕ = c.args.log in
     let e : EntryTerms = c.args.entry.now in
     let known : log < s.node.book.logs = omega (arith, c.requires.log_in, ap (λ (s : ReadingState). s.node.book.logs) c.self.view_is) in
@@ -51,4 +56,5 @@ invariant_of-self-2 c =
     ∙ ap (λ (l : List Message). with_messages s.node.messages log (tail_of s log).messages l) (c.deref.ensures.value ∙ c.in_ok-messages.ensures)) in
     let next : ComesNext (tail_of s log) log e = subst (λ (t : ReadingState). ComesNext (tail_of t log) log e) (sym c.self.view_is) c.requires.next in
     let logs : length e.deps ≡ s.node.book.logs = c.requires.on.names.deps ∙ ap (λ (s : ReadingState). s.node.book.logs) (sym c.self.view_is) in
-    rw same (IsReading-read s log c.args.bytes.now e c.deliver_all.new.self c.self.invariant c.known.ensures.node c.in_ok-deliver_all.ensures.book known messages next logs c.requires.on.bytes.some)
+    rw same (IsReading-read s log c.args.bytes.now e c.deliver_all.new.self c.self.invariant c.known.ensures.node c.in_ok-deliver_all.ensures.book known messages next logs c.requires.on.bytes.some
+    (named ((goal.at.invariant_of-self-2 c).After-index)))
