@@ -71,5 +71,6 @@ abbrev pub winner_in : ℕ → Entry → ℕ
 winner_in k (Own from targets) = 0
 winner_in k (Round account round decision targets) = winner_of k decision
 
+-- the process that the first round of the shared account names
 abbrev pub chosen : ℕ → List Publication → ℕ
 chosen k list = winner_in k (publication_at list (round_position (shared_account k) 0 list)).entry

@@ -10,6 +10,6 @@ begins_canonical text = (length text == 1) || nat_lt 48 (slice_index text 0)
 abbrev pub is_canonical : List ℕ → Bool
 is_canonical text = list_all is_ascii_digit text && begins_canonical text
 
--- the number below 2 ^ 64 that the text is
+-- the number below 2 ^ 64 whose canonical decimal the text is, if there is one
 unfoldable pub number_of : List ℕ → Option ℕ
 number_of text = if is_canonical text && nat_lt (digits_value 10 text) (2 ^ 64) then Some (digits_value 10 text) else None

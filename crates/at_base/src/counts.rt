@@ -47,6 +47,7 @@ impl Counts {
         &self.list[..self.processes as usize]
     }
 
+    /// How many counts there are.
     pub fn len(&self) -> u32
         ensures length { result ≡ length self.now }
         ensures some { 1 ≤ result }
@@ -72,6 +73,7 @@ impl Counts {
         self.list[p as usize] = c as u16;
     }
 
+    /// What the counts add up to.
     pub fn sum(&self) -> u32
         requires { sum self.now < 2 ^ 32 }
         ensures { result ≡ sum self.now }

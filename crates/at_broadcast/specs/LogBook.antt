@@ -7,6 +7,7 @@ use Rattle.at_broadcast.specs.declared.log_book.LogAccount.{LogAccount}
 abbrev pub most_logs : ℕ
 most_logs = 64
 
+-- what a node needs of a book: how many logs there are, and of each account its opening and the one log that debits it, if any
 pub record LogTerms : Type 0 where
   pub logs : ℕ
   pub accounts : List LogAccount

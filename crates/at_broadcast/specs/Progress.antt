@@ -6,6 +6,7 @@ use Rattle.at_broadcast.specs.Sender.{IsSender, SenderState}
 use Rattle.at_broadcast.specs.Validated.{Reached, came, went}
 use Rattle.at_broadcast.specs.declared.message.Message.{Message}
 
+-- a log of which no message was delivered
 abbrev pub no_sender : SenderState
 no_sender = record { messages = []; credits = [] }
 

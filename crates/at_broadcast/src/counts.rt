@@ -46,6 +46,7 @@ impl LogCounts {
         &self.list[..self.logs as usize]
     }
 
+    /// How many counts there are.
     pub fn len(&self) -> u32
         ensures length { result ≡ length self.now }
         ensures some { 1 ≤ result }

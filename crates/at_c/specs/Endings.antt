@@ -1,6 +1,6 @@
 -- How a ledger ends: all callers have given their passes back, the ledger is closed, and its report is made.
 use Rattle.std.specs.Prelude.{◌≡◌, ◌^◌, ◌<◌, ℕ, List, length, All}
-use Rattle.at_c.specs.Prelude.{Legal, Whole, last_state, balance_of, Line, balance_after, BoardTerms, AreNamesOf, NameList, calls_in, AreTimed, CallTimes, IsLinearizable, Coherent, journal_lines, journal_order, Receipt, AreAccountedFor, ClosedTerms, HasAllLogs, PassTerms, IsPrinted, report_text}
+use Rattle.at_c.specs.Prelude.{Legal, Whole, last_state, balance_of, Line, balance_after, BoardTerms, AreNamesOf, NameList, calls_in, AreTimed, CallTimes, IsLinearizable, Coherent, journal_lines, journal_order, Receipt, AreAccountedFor, ClosedTerms, HasAllLogs, KeepsNotes, PassTerms, IsPrinted, report_text}
 use Rattle.at_c.specs.Given.{AreReceipts}
 
 -- a ledger with the names of its book, all its passes and the receipts of all calls
@@ -36,6 +36,7 @@ pub record EndsAs (g : GatheredTerms) (e : EndedTerms) : Type 0 where
   pub passes_are : e.closed.passes ≡ g.passes
   pub logs : HasAllLogs g.passes e.closed
   pub coherent : Coherent e.closed.book e.closed.closing
+  pub after_notes : KeepsNotes e.closed
 
 -- the same with its report
 pub record ReportedTerms : Type 0 where

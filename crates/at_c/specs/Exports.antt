@@ -13,6 +13,7 @@ use Rattle.at_c.specs.declared.outcome.Answer.{Answer}
 use Rattle.at_c.specs.declared.outcome.Outcome.{Outcome}
 use Rattle.at_c.specs.declared.target.Target.{Target}
 
+-- the number of an outcome in C; of reply_number that of a reply
 abbrev pub outcome_number : Outcome → ℕ
 outcome_number Outcome.Done = 0
 outcome_number Outcome.WrongHandle = 1
@@ -35,7 +36,7 @@ reply_number reply.NotOwner = 2
 reply_number reply.Full = 3
 reply_number (reply.Balance amount) = 4
 
--- the balance that a read found
+-- the balance that a read found. 0 of each reply but a read's
 abbrev pub balance_in : Reply → ℕ
 balance_in reply.Done = 0
 balance_in reply.Short = 0
@@ -43,6 +44,7 @@ balance_in reply.NotOwner = 0
 balance_in reply.Full = 0
 balance_in (reply.Balance amount) = amount
 
+-- the answer of a reply with its steps and exchanges
 abbrev pub answer_with : Reply → ℕ → ℕ → Answer
 answer_with r steps exchanges = record { reply = reply_number r; balance = balance_in r; steps = steps; exchanges = exchanges }
 
@@ -85,7 +87,8 @@ HandlePays from targets before after was now outcome =
     (IsPayOut targets → HandleAnswers (Call.Pay from (pairs_of targets)) before after was now outcome)
     × ((¬ IsPayOut targets) → (outcome ≡ Outcome.NoPayOut) × (after ≡ before) × (now ≡ was))
 
--- a handle was to be filled with a ledger of the bytes
+-- a handle was to be filled with a ledger of the bytes. Want of memory may be the outcome of every handle that holds nothing, whatever the
+-- bytes spell
 abbrev pub Opens : List ℕ → Option Held → Option Held → ℕ → ℕ → Outcome → Type 0
 Opens bytes before after line why Outcome.Done =
     (before ≡ None) × ((l : OpenedTerms) × (after ≡ Some (Held.Ledger l)) × IsNewLedger bytes l)
@@ -165,6 +168,7 @@ abbrev pub steps_by_handle : Option Held → ℕ
 steps_by_handle None = 0
 steps_by_handle (Some held) = steps_of_held held
 
+-- the count of the caller's pass, and 0 where the handle holds none
 abbrev pub exchanges_by_handle : Option Held → ℕ
 exchanges_by_handle None = 0
 exchanges_by_handle (Some held) = exchanges_of_held held
@@ -257,6 +261,7 @@ report_of_held (Held.Ledger l) = []
 report_of_held (Held.Caller c) = []
 report_of_held (Held.Ending e) = report_of_ending e
 
+-- the report that a handle holds, none where it holds none
 abbrev pub report_by_handle : Option Held → List ℕ
 report_by_handle None = []
 report_by_handle (Some held) = report_of_held held

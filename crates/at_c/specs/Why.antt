@@ -14,6 +14,7 @@ limit_number BookError.RoomOutOfRange = 15
 limit_number (BookError.RoundsOverLimit account) = 16
 limit_number (BookError.TotalOverLimit account) = 17
 
+-- the numbers of causes for which bytes spell no book; of limit_number those of limits that a book would break
 abbrev pub why_number : BookWhy → ℕ
 why_number BookWhy.Version = 1
 why_number BookWhy.Shape = 2

@@ -1,6 +1,6 @@
 -- A call from one turn to the next, and what its answer leaves.
 use Rattle.std.proofs.Common.{◌≡◌, ℕ, ◌+◌, ◌-◌, ◌*◌, ◌<◌, ◌≤◌, ◌↔◌, List, [], ◌∷◌, ◌++◌, IfSome, IsSome, Option, length, None, Some, refl, sym, ap, subst, ◌∙◌, arith, false, true}
-use Rattle.at_calling.proofs.Prelude.{sum, is_shared, slots_of, BookTerms, account_of, IsCallOn, TargetPair, first_account, Call, Reply, IsPrefix-refl, AreRuns, IsPrefix, Publication, raised, BoardTerms, IsKept, IsOf, SeatTerms, record_width, Asking, Knowledge, RECORD_WORDS, IsBetweenCalls, HasCounted, StaysCounted, TotalSums, first_account-payout, IsPlaced, Previous, Receipt, between-IsPass, PaymentMade-refused, PaysAlone, PaysInRound, IsOfOnePass, pass_of, PassTerms, Stands, one_more_call, IsRefused, sent_after, single_steps, Rest, decides_made, decides_on, published-HasLoaded, HasLoaded, snapshot_steps, placed-CallMade, stands-CallMade, call_steps-payout, may_exchange-payout, with_one_call, CallingTerms, FollowsCall, IsCallWithin, IsWay, MakesCallStep, call_turns_left, exchanges_made, exchanges_of, pass_before, refusal_in, steps_made, steps_of, CallMade, StaysWithin, call_steps, IsCallStageSo, IsCallingSo, IsMakingStill, TakesCallTurn, IsWithin, IsWithinOneMore, look_turns_left, HasSameAsking, IsPayWithin, PayingAloneTerms, append_steps, pay_turns_left, DecidesFew, PayingSharedTerms, settling_steps, share_exchanges_made, share_steps, share_turns_left, share_turns_most, IsReadOf, LeavesTotals, ReadingTerms, counted_so_far, newly_seen, CallStage, PayAlone, PayShared, Refuse}
+use Rattle.at_calling.proofs.Prelude.{sum, is_shared, slots_of, BookTerms, account_of, IsCallOn, TargetPair, first_account, Call, Reply, IsPrefix-refl, AreRuns, IsPrefix, Publication, raised, BoardTerms, IsKept, IsOf, SeatTerms, record_width, Asking, Knowledge, RECORD_WORDS, IsBetweenCalls, HasCounted, StaysCounted, TotalSums, first_account-payout, IsPlaced, Previous, Receipt, between-IsPass, PaymentMade-refused, IsOfOnePass-counted, call-CallMade, PaysAlone, PaysInRound, IsOfOnePass, after_one_call, pass_of, PassTerms, Stands, refusal_of, one_more_call, IsRefused, sent_after, single_steps, Rest, decides_made, decides_on, published-HasLoaded, HasLoaded, snapshot_steps, placed-CallMade, stands-CallMade, call_steps-payout, may_exchange-payout, with_one_call, CallingTerms, FollowsCall, IsCallWithin, IsWay, MakesCallStep, call_turns_left, exchanges_made, exchanges_of, pass_before, refusal_in, steps_made, steps_of, CallMade, StaysWithin, call_steps, IsCallStageSo, IsCallingSo, IsMakingStill, TakesCallTurn, IsWithin, IsWithinOneMore, look_turns_left, HasSameAsking, IsPayWithin, PayingAloneTerms, append_steps, pay_turns_left, DecidesFew, PayingSharedTerms, settling_steps, share_exchanges_made, share_steps, share_turns_left, share_turns_most, IsReadOf, LeavesTotals, ReadingTerms, counted_so_far, newly_seen, CallStage, PayAlone, PayShared, Refuse}
 use Rattle.at_calling.proofs.PayingAloneLaws.{HasSameAsking-HasLoaded}
 use Rattle.at_calling.proofs.CallingLaws.{CallMade-PaysAlone, CallMade-PaysInRound, IsOfOnePass-IsReadOf, IsOfOnePass-PaysAlone, IsOfOnePass-PaysInRound, MakesWithin, ReadMade-IsReadOf, StaysWithin-MakesWithin, MakesWithin-IsReadOf, MakesWithin-PaysAlone, MakesWithin-PaysInRound, payment_steps-shared, payment_steps-single, refusal_in-payout, small-refusal_of, payout-IsCallOn}
 use Rattle.at_calling.specs.declared.call_stage.CallStage.TheVariants.{Read}
@@ -14,6 +14,20 @@ pub record Leaves (b : BookTerms) (t : CallingTerms) (after : SeatTerms) (rest :
   pub made : CallMade b (pass_before t) (pass_of after rest) t.call r
   pub kept : IsOfOnePass after rest
   pub within : MakesWithin b (pass_before t) (pass_of after rest) t.call steps exchanges r
+
+-- so the receipt is that of a call made
+pub made-Leaves : (b : BookTerms) (t : CallingTerms) (after : SeatTerms) (rest : Rest) (steps exchanges : ℕ) (r : Receipt)
+    → Leaves b t after rest steps exchanges r → CallMade b (pass_before t) (pass_of after rest) r.call r
+made-Leaves b t after rest steps exchanges r leaves =
+    subst (λ (k : Call). CallMade b (pass_before t) (pass_of after rest) k r)
+    (sym (call-CallMade b (pass_before t) (pass_of after rest) t.call r leaves.made)) leaves.made
+
+-- a call that is refused is so for the account that it pays from
+refusal_in-source : (b : BookTerms) (before : PassTerms) (call : Call) (reply : Reply) → refusal_in b before call ≡ Some reply
+    → (source : ℕ) × (refusal_of b before source ≡ Some reply)
+refusal_in-source b before (Call.Transfer from to amount) reply is = (from, is)
+refusal_in-source b before (Call.Read account) reply is = absurd (cc is)
+refusal_in-source b before (Call.Pay from targets) reply is = (from, is)
 
 -- a call that has made no exchange is within its bounds where its steps are
 pub IsCallWithin-none : (b : BookTerms) (before : PassTerms) (call : Call) (after : Knowledge) (counted : List ℕ) (steps : ℕ)
@@ -66,12 +80,21 @@ module _ (board : BoardTerms) (t : CallingTerms) (so : IsCallingSo t) (seat : Se
     pub was-refused : t.rest ≡ t.was
     was-refused = unmoved.1
 
+    pub pass-refused : IsOfOnePass seat t.rest
+    pass-refused = subst (λ (s : SeatTerms). IsOfOnePass s t.rest) (sym (same ∙ unmoved.0)) (subst (IsOfOnePass t.start) (sym unmoved.1) so.pass)
+
+    pub source-refused : (source : ℕ) × (refusal_of board.book (pass_of seat t.rest) source ≡ Some reply)
+    source-refused =
+        subst (λ (s : SeatTerms). (source : ℕ) × (refusal_of board.book (pass_of s t.rest) source ≡ Some reply)) (sym (same ∙ unmoved.0))
+        (subst (λ (q : Rest). (source : ℕ) × (refusal_of board.book (pass_of t.start q) source ≡ Some reply)) (sym unmoved.1)
+        (refusal_in-source board.book (pass_before t) t.call reply because))
+
     module _ (r : Receipt) (call_is : r.call ≡ t.call) (reply_is : r.reply ≡ reply) (at : r.at ≡ Previous) where
-      here : Leaves board.book t t.start (record t.was { calls = with_one_call t.was.calls }) 0 0 r
+      here : Leaves board.book t t.start (after_one_call t.start t.was) 0 0 r
       here = record {
         made = CallMade-refused board.book (pass_before t) t.call r so.kept book-IsCallingSo
             (between-IsPass board.book t.start.knows t.was.totals t.was.sent book-IsCallingSo so.pass.pass) known call_is at (because ∙ ap Some (sym reply_is));
-        kept = record { pass = so.pass.pass; calls = record { board = so.pass.calls.board; process = so.pass.calls.process } };
+        kept = IsOfOnePass-counted t.start t.was (after_one_call t.start t.was) refl so.pass.pass;
         within = record {
           few = omega arith;
           refused = λ refused. refl;
@@ -82,10 +105,10 @@ module _ (board : BoardTerms) (t : CallingTerms) (so : IsCallingSo t) (seat : Se
         };
       }
 
-      pub Leaves-refused : Leaves board.book t seat (record t.rest { calls = with_one_call t.rest.calls }) 0 0 r
+      pub Leaves-refused : Leaves board.book t seat (after_one_call seat t.rest) 0 0 r
       Leaves-refused =
-          subst (λ (s : SeatTerms). Leaves board.book t s (record t.rest { calls = with_one_call t.rest.calls }) 0 0 r) (sym (same ∙ unmoved.0))
-          (subst (λ (q : Rest). Leaves board.book t t.start (record q { calls = with_one_call q.calls }) 0 0 r) (sym unmoved.1) here)
+          subst (λ (s : SeatTerms). Leaves board.book t s (after_one_call s t.rest) 0 0 r) (sym (same ∙ unmoved.0))
+          (subst (λ (q : Rest). Leaves board.book t t.start (after_one_call t.start q) 0 0 r) (sym unmoved.1) here)
 
   -- after a turn with a step
   module _ (after : SeatTerms) (of_after : IsOf after board) where
@@ -135,7 +158,7 @@ module _ (board : BoardTerms) (t : CallingTerms) (so : IsCallingSo t) (seat : Se
       pub Leaves-read : (rest : Rest) (turns : ℕ) (receipt : Receipt) → IsKept after.knows
           → IsReadOf board.book r.looking.start after.knows r.account receipt
           → LeavesTotals board.book r.looking.start after.knows r.looking.was rest.totals 0 turns
-          → StaysCounted rest.totals board.book after.knows.seen → rest.sent ≡ t.rest.sent → rest.calls ≡ with_one_call t.was.calls
+          → StaysCounted rest.totals board.book after.knows.seen → rest.sent ≡ t.rest.sent → rest.calls ≡ with_one_call after t.was.calls
           → Leaves board.book t after rest turns 0 receipt
       Leaves-read rest turns receipt keeps read leaves stays sent calls =
           let v : Knowledge = t.start.knows in
@@ -189,7 +212,7 @@ module _ (board : BoardTerms) (t : CallingTerms) (so : IsCallingSo t) (seat : Se
           → PaysAlone board.book p.start after.knows p.from p.targets t.call receipt
           → LeavesTotals board.book p.start after.knows p.was rest.totals (append_steps (record_width board.book) receipt.reply) turns
           → StaysCounted rest.totals board.book after.knows.seen → rest.sent ≡ sent_after t.rest.sent receipt.reply
-          → rest.calls ≡ with_one_call t.was.calls → Leaves board.book t after rest turns 0 receipt
+          → rest.calls ≡ with_one_call after t.was.calls → Leaves board.book t after rest turns 0 receipt
       Leaves-alone rest turns receipt keeps paid leaves stays sent calls =
           let v : Knowledge = t.start.knows in
           let more = append_steps (record_width board.book) receipt.reply in
@@ -271,7 +294,7 @@ module _ (board : BoardTerms) (t : CallingTerms) (so : IsCallingSo t) (seat : Se
           → PaysInRound board.book p.start after.knows p.account t.call receipt
           → LeavesTotals board.book p.start after.knows p.was rest.totals (settling_steps board.book p.account) turns
           → HasCounted rest.totals board.book after.knows.seen → DecidesFew board.book p.start after.knows p.account
-          → exchanges ≡ decides_made p.account p.start after.knows → rest.sent ≡ t.rest.sent → rest.calls ≡ with_one_call t.was.calls
+          → exchanges ≡ decides_made p.account p.start after.knows → rest.sent ≡ t.rest.sent → rest.calls ≡ with_one_call after t.was.calls
           → Leaves board.book t after rest turns exchanges receipt
       Leaves-shared rest turns exchanges receipt keeps paid leaves counted few decided sent calls =
           let v : Knowledge = t.start.knows in
@@ -303,7 +326,7 @@ pub TakesCallTurn-stages : (b : BookTerms) (seen : List Publication) (t : Callin
     → IsCallWithin b (pass_before t) t.call after.knows now.totals.upto (steps_made next) (exchanges_made next)
     → (IsSome answer ↔ (call_turns_left b next ≡ 0)) → IsPrefix t.start.knows.seen after.knows.seen → AreRuns b after.knows.seen
     → exchanges_made next ≡ exchanges_made old + exchanges_of old
-    → IfSome answer (Leaves b t after now (steps_made next) (exchanges_made next)) → IfSome answer (λ r. now.calls ≡ with_one_call t.was.calls)
+    → IfSome answer (Leaves b t after now (steps_made next) (exchanges_made next)) → IfSome answer (λ r. now.calls ≡ with_one_call after t.was.calls)
     → after.steps ≡ raised t.start.steps (steps_made next) → after.exchanges ≡ raised t.start.exchanges (exchanges_made next)
     → TakesCallTurn b seen t (calling_next t next mark rest) before after now answer
 TakesCallTurn-stages b seen t before after mark mark_is now rest rest_is old next is answer turns step follows left so_far ends begins runs exchanges leaves calls made exchanged =

@@ -101,9 +101,10 @@ pub use Rattle.at_machines.specs.Looking.{IsWithin, IsWithinOneMore, LookingTerm
 pub use Rattle.at_machines.specs.Snapping.{MakesLoad, NextLoad}
 pub use Rattle.at_machines.specs.declared.look_stage.LookStage.{LookStage}
 pub use Rattle.at_object.proofs.Laws.Alone.{IsPass-alone, asking-alone, decided-alone}
-pub use Rattle.at_object.proofs.Laws.Calls.{placed-CallMade, process-CallMade, stands-CallMade}
+pub use Rattle.at_object.proofs.Laws.Calls.{call-CallMade, placed-CallMade, process-CallMade, stands-CallMade}
 pub use Rattle.at_object.proofs.Laws.InRound.{IsPass-round}
 pub use Rattle.at_object.proofs.Laws.Looked.{IsPass-HasLoaded, Told-HasLoaded, asking-HasLoaded, between-IsPass, own_part-HasLoaded, owns_of-HasLoaded}
+pub use Rattle.at_object.proofs.Laws.Looks.{look-Cut, place-IsSnapshot}
 pub use Rattle.at_object.proofs.Laws.Made.{PaymentMade-alone, PaymentMade-refused, PaymentMade-round, others-le}
 pub use Rattle.at_object.proofs.Laws.OnePass.{IsOfOnePass-counted}
 pub use Rattle.at_object.proofs.Laws.Room.{HasSlot-is_owner, MayStoreRequest-room, sent-room}
@@ -111,7 +112,7 @@ pub use Rattle.at_object.proofs.Laws.Within.{AreTargetsOn-single, call_steps-pay
 pub use Rattle.at_object.specs.CallCounts.{with_one_call}
 pub use Rattle.at_object.specs.Calls.{CallMade, PaymentMade, ReadMade, StaysWithin, call_steps, may_exchange}
 pub use Rattle.at_object.specs.Paid.{PaysAlone, PaysInRound}
-pub use Rattle.at_object.specs.Parted.{IsOfOnePass, pass_of}
+pub use Rattle.at_object.specs.Parted.{IsOfOnePass, after_one_call, pass_of}
 pub use Rattle.at_object.specs.Passes.{IsPass, PassTerms, Stands, counted_anew, one_more_call, others_counted}
 pub use Rattle.at_object.specs.Payments.{IsDecidedByBalance, IsRefused, has_used_up, payment_steps, refusal_of, sent_after, shared_steps, single_steps}
 pub use Rattle.at_object.specs.declared.parts.Rest.{Rest}

@@ -44,6 +44,7 @@ pub record BeginsWith (v : Knowledge) (counted : TotalSums) (start mark : Knowle
   pub was_is : was ≡ counted
   pub totals_are : totals ≡ counted
 
+-- a call begins with what its seat knows and its totals have counted
 abbrev pub StartsFrom : Knowledge → TotalSums → CallStage → Type 0
 StartsFrom v counted (Refuse reply) = Unit {0}
 StartsFrom v counted Refused = ⊥

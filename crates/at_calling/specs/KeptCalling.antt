@@ -65,7 +65,7 @@ pub record TakesCallTurn (b : BookTerms) (seen : List Publication) (t u : Callin
   pub placed : IfSome answer (λ r. (earlier : List Receipt) → Stands (pass_before t) earlier → IsPlaced b t.start.knows.first after.knows.seen earlier r)
   pub stands : IfSome answer (λ r. (earlier : List Receipt) → Stands (pass_before t) earlier → Stands (pass_of after now) (earlier ++ r ∷ []))
   pub kept : IfSome answer (λ r. IsOfOnePass after now)
-  pub calls : IfSome answer (λ r. now.calls ≡ with_one_call t.was.calls)
+  pub calls : IfSome answer (λ r. now.calls ≡ with_one_call after t.was.calls)
   pub begins : IsPrefix t.start.knows.seen after.knows.seen
   pub runs : AreRuns b after.knows.seen
   pub within : IfSome answer (StaysWithin b (pass_before t) (pass_of after now) t.call)

@@ -130,7 +130,7 @@ impl Calling {
             → Stands (pass_before self.old) earlier
             → Stands (pass_of seat.new rest.new) (earlier ++ r ∷ [])) }
         ensures kept { IfSome result (λ r. IsOfOnePass seat.new rest.new) }
-        ensures calls { IfSome result (λ r. rest.new.calls ≡ with_one_call self.old.was.calls) }
+        ensures calls { IfSome result (λ r. rest.new.calls ≡ with_one_call seat.new self.old.was.calls) }
         ensures begins { IsPrefix self.old.start.knows.seen seat.new.knows.seen }
         ensures runs { AreRuns board.now.book seat.new.knows.seen }
         ensures within { IfSome result (StaysWithin board.now.book (pass_before self.old)
@@ -169,7 +169,7 @@ impl Calling {
     {
         seat.known();
         become_next(&mut self.stage, CallStage::Refused);
-        let answer = rest.refuse(reply);
+        let answer = rest.refuse(board, seat, reply);
         self.rest = Snapshot::of(rest);
         receipt_of(&self.call, answer)
     }
@@ -203,7 +203,7 @@ impl Calling {
         self.mark = Snapshot::of(seat);
         self.rest = Snapshot::of(rest);
         let receipt = read?;
-        rest.calls.count_one();
+        rest.count_call(board, seat, &self.start, &self.was, &receipt);
         self.rest = Snapshot::of(rest);
         Some(receipt)
     }
@@ -238,9 +238,10 @@ impl Calling {
         self.rest = Snapshot::of(rest);
         let answer = paid?;
         rest.sent = sent_after(rest.sent, &answer.0);
-        rest.calls.count_one();
+        let receipt = receipt_of(&self.call, answer);
+        rest.count_call(board, seat, &self.start, &self.was, &receipt);
         self.rest = Snapshot::of(rest);
-        Some(receipt_of(&self.call, answer))
+        Some(receipt)
     }
 
     /// Makes the next step of the payment by one of the account's owners. The last one answers its receipt.
@@ -273,9 +274,10 @@ impl Calling {
         self.mark = Snapshot::of(seat);
         self.rest = Snapshot::of(rest);
         let answer = paid?;
-        rest.calls.count_one();
+        let receipt = receipt_of(&self.call, answer);
+        rest.count_call(board, seat, &self.start, &self.was, &receipt);
         self.rest = Snapshot::of(rest);
-        Some(receipt_of(&self.call, answer))
+        Some(receipt)
     }
 }
 

@@ -24,7 +24,7 @@ pub record IsAccountOf (b : BookTerms) (list : List Publication) (a : ℕ) (acco
   pub slots_room : length account_sums.slots ≡ slots_of (account_of b a)
   pub slots : (slot : ℕ) → slot < slots_of (account_of b a) → IsSlotOf b list a slot (slot_at account_sums slot)
 
--- the sums are those of the list
+-- the sums are those of the list: credits, debits, distinct rounds, and the answer to each request
 pub record AreSumsOf (b : BookTerms) (list : List Publication) (all_sums : List AccountSums) : Type 0 where
   pub sized : length all_sums ≡ length b.accounts
   pub accounts : (a : ℕ) → a < length b.accounts → IsAccountOf b list a (sums_at all_sums a)

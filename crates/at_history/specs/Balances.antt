@@ -26,7 +26,7 @@ credits a list = sum_by (λ x. credit_of a x.entry) (firsts list)
 abbrev pub debits : ℕ → List Publication → ℕ
 debits a list = sum_by (λ x. debit_of a x.entry) (firsts list)
 
--- the opening with what was added, less what was taken
+-- the opening with what was added, less what was taken. Each round is counted once, and only where its decision is a success
 abbrev pub balance_after : BookTerms → List Publication → ℕ → ℕ
 balance_after b list a = (account_of b a).opening + credits a list - debits a list
 

@@ -4,6 +4,7 @@ use Rattle.at_history.specs.Prelude.{TargetPair}
 use Rattle.at_history.specs.declared.publication.Entry.{Entry}
 use Rattle.at_history.specs.declared.publication.Entry.TheVariants.{Own, Round}
 
+-- the account that a record takes from
 abbrev pub source_of : Entry → ℕ
 source_of (Own from targets) = from
 source_of (Round account round decision targets) = account

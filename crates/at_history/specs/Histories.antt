@@ -41,7 +41,9 @@ IsShownEntry b process prefix (Round account round decision targets) =
     IsSoundRound b process prefix account round × AreTargets b targets × InRange decision
     × (decision.slot < slots_of (account_of b account))
 
--- what holds of the list that a seat or a note has seen
+-- what holds of the list that a seat or a note has seen. Each view is a cut of what stands before it and counts all earlier records of its
+-- process; own records are covered at their views; a round's record is of the next round at its view; two records of one round say the same;
+-- no process has more records than its log has room for, nor more own ones than its own room; and each prefix is a run
 pub record IsHistory (b : BookTerms) (list : List Publication) : Type 0 where
   pub views : (m : ℕ) → m < length list → HasView b (take m list) (publication_at list m)
   pub entries : (m : ℕ) → m < length list → let x : Publication = publication_at list m in

@@ -29,6 +29,6 @@ pub record IsRun (b : BookTerms) (list : List Publication) : Type 0 where
   pub covered : (a : ℕ) → a < length b.accounts → IsCovered b list a 0
   pub fits : (a : ℕ) → a < length b.accounts → balance_after b list a < 2 ^ 64
 
--- each prefix is a run
+-- each prefix is a run of the sequential ledger in which all its moves are done, with its balances
 abbrev pub AreRuns : BookTerms → List Publication → Type 0
 AreRuns b list = (m : ℕ) → m ≤ length list → IsRun b (take m list)

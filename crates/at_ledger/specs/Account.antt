@@ -18,7 +18,7 @@ is_single t = length t.owners == 1
 abbrev pub is_shared : AccountTerms → Bool
 is_shared t = nat_le 2 (length t.owners)
 
--- how many owners have slots: none where no two share the account
+-- how many owners have slots: all where two or more share the account, and else none
 abbrev pub slots_of : AccountTerms → ℕ
 slots_of t = if is_shared t then length t.owners else 0
 

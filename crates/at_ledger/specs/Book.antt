@@ -34,11 +34,11 @@ total_of b = sum_by (λ t. t.opening) b.accounts
 abbrev pub has_single : BookTerms → Bool
 has_single b = list_any is_single b.accounts
 
--- the book with the own room that can be used: the least that a book has, where no account has one owner
+-- the book with the own room that can be used: its own where some account has one owner, and else 1, the least that a book has
 abbrev pub with_usable_room : BookTerms → BookTerms
 with_usable_room b = record b { own_room = if has_single b then b.own_room else 1 }
 
--- the rounds of all accounts together
+-- the rounds of all accounts together: for each shared account the number of its owners times the request room, summed
 abbrev pub rounds_of : BookTerms → ℕ
 rounds_of b = sum_by (rounds_room b.request_room) b.accounts
 
@@ -71,7 +71,7 @@ pub record IsSummed (b : BookTerms) (rounds total : ℕ) : Type 0 where
   pub rounds_summed : rounds ≡ rounds_of b
   pub total_summed : total ≡ total_of b
 
--- what holds of every book
+-- what holds of every book: all limits, those of `IsBegun`, and there is an account
 pub record IsBook (b : BookTerms) : Type 0 where
   pub begun : IsBegun b
   pub some_account : 1 ≤ length b.accounts

@@ -21,7 +21,8 @@ limits_fault processes own_room request_room =
     else if is_within most_own_room own_room && is_within most_request_room request_room then None
     else Some RoomOutOfRange
 
--- why this owner can't follow `count` owners, where the next one has to be at least `least`
+-- why this owner can't follow `count` owners, where the next one has to be at least `least`. In this order: out of range, not rising, the
+-- ninth
 abbrev pub owner_fault : ℕ → ℕ → ℕ → ℕ → ℕ → Option BookError
 owner_fault processes account count least owner =
     if nat_le processes owner then Some (OwnerOutOfRange account)
@@ -42,7 +43,8 @@ sums_fault b t =
     else if nat_le (2 ^ 64) (total_of b + t.opening) then Some (TotalOverLimit (length b.accounts))
     else None
 
--- why this account can't follow those that the book has so far
+-- why this account can't follow those that the book has so far. In this order: too many accounts, its owners from left to right, the rounds,
+-- the total
 abbrev pub account_fault : BookTerms → AccountTerms → Option BookError
 account_fault b t =
     if nat_le most_accounts (length b.accounts) then Some TooManyAccounts
@@ -70,7 +72,7 @@ book_without_accounts processes own_room request_room =
 abbrev pub terms_of : DraftAccount → AccountTerms
 terms_of a = terms_with a.opening a.owners.items
 
--- the first fault of a draft: its limits, and then its accounts in turn
+-- the first fault of a draft: its limits, and then its accounts in turn. Last comes that there is no account
 abbrev pub book_fault : Draft → Option BookError
 book_fault d =
     option_or (limits_fault d.processes d.own_room d.request_room)

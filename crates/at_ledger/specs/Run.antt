@@ -21,7 +21,7 @@ unfoldable pub run_from : LedgerState → List (ℕ × Call) → Run
 run_from s [] = record { replies = []; last = s }
 run_from s (c ∷ cs) = run_after (step s c.0 c.1).reply (run_from (step s c.0 c.1).ledger cs)
 
--- the same from the openings
+-- the replies of calls made one after another from the openings, and the last state
 abbrev pub run : BookTerms → List (ℕ × Call) → Run
 run b calls = run_from (opening_state b) calls
 

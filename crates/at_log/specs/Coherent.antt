@@ -45,7 +45,9 @@ IsCoherentEntry b c process prefix (Entry.Round account round decision targets) 
     IsSoundRound b process prefix account round × AreTargets b targets × IsAgreed c account round decision targets
     × IsProposed b c account round decision targets × IsNumbered b c account round decision
 
--- the laws of a closing: of its cuts, of each record's view and entry, of own records' number, and of each process's receipts
+-- the laws of a closing: of its cuts, of each record's view and entry, of own records' number, and of each process's receipts. Held cuts are a
+-- chain, each record knows its number, entries have the laws of a sound state in the journal's order, and each process's receipts account for
+-- what it has there
 pub record Coherent (b : BookTerms) (c : ClosingTerms) : Type 0 where
   pub logs : length c.logs ≡ b.processes
   pub receipts : length c.receipts ≡ b.processes

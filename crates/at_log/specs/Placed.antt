@@ -44,7 +44,7 @@ pub record MayPay (b : BookTerms) (process : ℕ) (earlier : List Receipt) (sour
   pub owner : is_owner b process source ≡ true
   pub room : has_no_room b source earlier ≡ false
 
--- a receipt that is right in a list, after the earlier receipts of its process
+-- a receipt that is right in a list, after the earlier receipts of its process. One of six cases, each with the reason of its reply
 pub data IsPlaced (b : BookTerms) (process : ℕ) (list : List Publication) (earlier : List Receipt) (r : Receipt) : Type 0 where
   read : (account balance : ℕ) → r.call ≡ Read account → r.reply ≡ Balance balance → IsAtCut b list account balance r
       → IsPlaced b process list earlier r

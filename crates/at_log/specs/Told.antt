@@ -29,6 +29,7 @@ key_at process list previous call moved (Round round place) =
     if moved then 2 * round_position (first_account call) round list + 1 else 2 * place
 key_at process list previous call moved Previous = previous
 
+-- the key of a receipt in the order of the calls (`key_at`)
 abbrev pub key_of : ℕ → List Publication → ℕ → Receipt → ℕ
 key_of process list previous r = key_at process list previous r.call (is_success r.reply) r.at
 

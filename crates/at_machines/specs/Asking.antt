@@ -34,6 +34,7 @@ abbrev pub ask_step_of : AskingTerms → Option ℕ → Option BoardStep
 ask_step_of a None = None
 ask_step_of a (Some slot) = if a.stored == REQUEST_WORDS + 1 then None else Some (ask_step_in a slot)
 
+-- the next store as a step
 abbrev pub ask_step : BookTerms → AskingTerms → Option BoardStep
 ask_step b a = ask_step_of a (slot_in (account_of b a.account) a.mark.first)
 

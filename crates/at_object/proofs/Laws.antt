@@ -5,9 +5,10 @@ pub mod Looked
 pub mod Alone
 pub mod InRound
 pub mod Made
--- the same of any call, and what it may take
+-- the same of any call, what it may take, and what its look had seen
 pub mod Calls
 pub mod Within
+pub mod Looks
 -- the seat and the rest of one pass, and what is left of it where the seat takes in what another has seen
 pub mod OnePass
 pub mod Learning
@@ -16,3 +17,7 @@ pub mod Room
 pub mod Covered
 -- the passes of a new ledger
 pub mod NewPasses
+-- each prefix of a history is one; the keys and the looks of receipts stay in a longer list, with more receipts; calls after notes
+pub mod Histories
+pub mod Keys
+pub mod Notes

@@ -5,6 +5,7 @@ use Rattle.at_object.specs.Prelude.{BookTerms, Read, Transfer, Receipt, decides_
 use Rattle.at_object.specs.Calls.{StaysWithin}
 use Rattle.at_object.specs.Passes.{PassTerms, counted_anew}
 
+-- a book of three processes with an account of all three and one of the first, of which the bounds' numbers are
 abbrev pub three_processes : BookTerms
 three_processes = record {
   processes = 3;

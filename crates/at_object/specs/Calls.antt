@@ -1,6 +1,6 @@
 -- What a call of the object leaves of its pass, and what it may take.
 use Rattle.std.specs.Prelude.{◌≡◌, ◌≢◌, ℕ, ◌+◌, ◌*◌, ◌≤◌, ◌++◌, Bool, true, false, List, [], ◌∷◌, length}
-use Rattle.at_object.specs.Prelude.{is_shared, is_single, slots_of, BookTerms, account_of, TargetPair, first_account, Call, Balance, balance_after, prefix_of, IsHistory, IsPrefix, raised, RECORD_WORDS, IsPlaced, At, Receipt, decides_made, decides_on, StandsAfter, cut_behind, IsSnapshot, snapshot_steps}
+use Rattle.at_object.specs.Prelude.{is_shared, is_single, slots_of, BookTerms, account_of, TargetPair, first_account, Call, Balance, balance_after, prefix_of, IsHistory, IsPrefix, raised, RECORD_WORDS, IsPlaced, At, Receipt, look_at, decides_made, decides_on, StandsAfter, cut_behind, IsSnapshot, snapshot_steps}
 use Rattle.at_object.specs.Paid.{HasLoadedFresh, PaysAlone, PaysInRound}
 use Rattle.at_object.specs.Passes.{PassTerms, Stands, asked_by, counted_anew, one_more_call, others_counted, sent_by}
 use Rattle.at_object.specs.Payments.{IsDecidedByBalance, IsRefused, payment_steps, reply_of}
@@ -12,6 +12,7 @@ pub record PaymentMade (book : BookTerms) (before after : PassTerms) (source : �
   pub placed : (earlier : List Receipt) → Stands before earlier → IsPlaced book before.knows.first after.knows.seen earlier receipt
   pub stands : (earlier : List Receipt) → Stands before earlier → Stands after (earlier ++ receipt ∷ [])
   pub after_seen : IsDecidedByBalance receipt → StandsAfter (length before.knows.seen) after.knows receipt
+  pub looked : IsDecidedByBalance receipt → length before.knows.seen ≤ look_at after.knows.first after.knows.seen receipt.at
   pub loads : IsDecidedByBalance receipt → HasLoadedFresh book before after
   pub alone : IsDecidedByBalance receipt → is_single (account_of book source) ≡ true → PaysAlone book before.knows after.knows source targets call receipt
   pub in_round : IsDecidedByBalance receipt → is_shared (account_of book source) ≡ true → PaysInRound book before.knows after.knows source call receipt
@@ -31,6 +32,7 @@ pub record ReadMade (book : BookTerms) (before after : PassTerms) (account : ℕ
   pub placed : (earlier : List Receipt) → Stands before earlier → IsPlaced book before.knows.first after.knows.seen earlier receipt
   pub stands : (earlier : List Receipt) → Stands before earlier → Stands after (earlier ++ receipt ∷ [])
   pub after_seen : StandsAfter (length before.knows.seen) after.knows receipt
+  pub looked : length before.knows.seen ≤ look_at after.knows.first after.knows.seen receipt.at
   pub begins : IsPrefix before.knows.seen after.knows.seen
   pub history : IsHistory book after.knows.seen
   pub process_is : after.knows.first ≡ before.knows.first

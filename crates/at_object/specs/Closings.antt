@@ -1,7 +1,9 @@
 -- The closing of a ledger.
-use Rattle.std.specs.Prelude.{◌≡◌, ℕ, ◌<◌, List, [], length, slice_index_or, All, None}
-use Rattle.at_object.specs.Prelude.{BoardState, IsHistory, IsPrefix, count_of, publications_of, Sound, BookTerms, BoardTerms, ClosingTerms, log_published, KeepsTime, Receipt}
+use Rattle.std.specs.Prelude.{◌≡◌, ℕ, ◌+◌, ◌<◌, List, [], length, take, slice_index_or, All, None}
+use Rattle.at_object.specs.Prelude.{BoardState, IsHistory, IsPrefix, count_of, publications_of, Sound, BookTerms, BoardTerms, Call, ClosingTerms, IsNotBehind, KeepsTime, Receipt, log_published, receipt_at, receipts_of}
+use Rattle.at_object.specs.Calls.{CallMade}
 use Rattle.at_object.specs.Passes.{IsPassOf, PassTerms, Stands}
+use Rattle.at_object.specs.Payments.{IsRefused}
 
 -- the pass is the ledger's for the process, these receipts stand with it, and they are as many as the calls that were made with it
 pub record IsAccountedFor (ledger : BoardTerms) (process : ℕ) (pass : PassTerms) (receipts : List Receipt) : Type 0 where
@@ -36,3 +38,27 @@ pub record HasAllLogs (passes : List PassTerms) (closed : ClosedTerms) : Type 0 
   pub counted : (p : ℕ) (d : PassTerms) → p < closed.book.processes →
       count_of p state.published ≡ count_of p (slice_index_or passes p d).knows.seen
   pub in_time : KeepsTime state.published closed.closing
+
+-- call j of process q isn't refused, and its pass had learned a note of process p before it. The note's pass is `noted`: call i had ended,
+-- so the receipts up to it stand with that pass. All that it had seen `before` had seen, and `after` is what the call left of its pass
+pub record ComesAfterNote (closed : ClosedTerms) (p i q j : ℕ) : Type 0 where
+  pub noted : PassTerms
+  pub noted_of : IsPassOf noted closed.ledger
+  pub noted_process : noted.knows.first ≡ p
+  pub ended : Stands noted (take (i + 1) (receipts_of closed.closing p))
+  pub before : PassTerms
+  pub before_of : IsPassOf before closed.ledger
+  pub process_is : before.knows.first ≡ q
+  pub stood : Stands before (take j (receipts_of closed.closing q))
+  pub learned : IsPrefix noted.knows.seen before.knows.seen
+  pub after : PassTerms
+  pub call : Call
+  pub made : CallMade closed.ledger.book before after call (receipt_at (receipts_of closed.closing q) j)
+  pub decided : ¬ IsRefused (receipt_at (receipts_of closed.closing q) j)
+  pub last : IsPrefix after.knows.seen (slice_index_or closed.passes q after).knows.seen
+
+-- no call is behind one that was made after a note of it, in the journal's order
+abbrev pub KeepsNotes : ClosedTerms → Type 0
+KeepsNotes closed = (p i q j : ℕ) → p < length closed.closing.receipts → i < length (receipts_of closed.closing p)
+    → q < length closed.closing.receipts → j < length (receipts_of closed.closing q) → ComesAfterNote closed p i q j
+    → IsNotBehind closed.closing p i q j

@@ -11,6 +11,7 @@ place_at process list call moved (Own number) = own_position process number list
 place_at process list call moved (Round round at) = if moved then round_position (first_account call) round list else at
 place_at process list call moved Previous = 0
 
+-- where a receipt stands in what the pass has seen (`place_at`)
 abbrev pub place_of : PassTerms → Receipt → ℕ
 place_of pass r = place_at pass.knows.first pass.knows.seen r.call (is_success r.reply) r.at
 
@@ -36,11 +37,11 @@ reply_of b before after source targets r =
     then (if has_used_up b before source then Full else payment_reply b (prefix_before after r) source targets)
     else NotOwner
 
--- the call was refused before it looked at any balance
+-- the call was refused before it looked at any balance. Not-owner or full
 abbrev pub IsRefused : Receipt → Type 0
 IsRefused r = (r.reply ≡ NotOwner) ⊎ (r.reply ≡ Full)
 
--- it was decided by a balance
+-- it was decided by a balance. Done or short
 abbrev pub IsDecidedByBalance : Receipt → Type 0
 IsDecidedByBalance r = (r.reply ≡ Done) ⊎ (r.reply ≡ Short)
 

@@ -27,11 +27,11 @@ pub use Rattle.at_ledger.specs.declared.call.Call.TheVariants.{Read, Transfer}
 pub use Rattle.at_ledger.specs.declared.call.Reply.{Reply}
 pub use Rattle.at_ledger.specs.declared.call.Reply.TheVariants.{Balance, Done, Full, NotOwner, Short}
 pub use Rattle.at_log.specs.BetweenCalls.{IsBetweenCalls}
-pub use Rattle.at_log.specs.ClosingTerms.{ClosingTerms, log_published}
+pub use Rattle.at_log.specs.ClosingTerms.{ClosingTerms, log_published, receipts_of}
 pub use Rattle.at_log.specs.Coherent.{Coherent}
-pub use Rattle.at_log.specs.InTime.{KeepsTime}
+pub use Rattle.at_log.specs.InTime.{IsNotBehind, KeepsTime, look_at}
 pub use Rattle.at_log.specs.Placed.{IsPlaced}
-pub use Rattle.at_log.specs.Receipts.{asks_in, is_success, owns_in}
+pub use Rattle.at_log.specs.Receipts.{asks_in, is_success, owns_in, receipt_at}
 pub use Rattle.at_log.specs.Told.{Told, own_position, round_position}
 pub use Rattle.at_log.specs.declared.receipt.At.{At}
 pub use Rattle.at_log.specs.declared.receipt.At.TheVariants.{Cut, Own, Previous, Round}

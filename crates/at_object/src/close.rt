@@ -2,7 +2,7 @@
 
 ghost use Rattle.std.specs.Prelude.{◌≡◌, ℕ, ◌<◌, ◌≤◌, IfErr, IfOk, [], length, map, slice_index_or, All};
 ghost use Rattle.at_object.specs.Prelude.{vec_capacity, own_part, Coherent};
-ghost use Rattle.at_object.specs.Closings.{AreAccountedFor, HasAllLogs};
+ghost use Rattle.at_object.specs.Closings.{AreAccountedFor, HasAllLogs, KeepsNotes};
 ghost use Rattle.at_object.specs.Parted.{HasMemoryFor, IsAtRest};
 ghost use Rattle.at_object.specs.Passes.{seat_of};
 
@@ -40,6 +40,7 @@ impl Ledger {
         ensures passes { IfOk result (λ c. c.passes ≡ passes.items) }
         ensures logs { IfOk result (HasAllLogs passes.items) }
         ensures coherent { IfOk result (λ c. Coherent c.book c.closing) }
+        ensures after_notes { IfOk result KeepsNotes }
         ensures refused { IfErr result (λ r. (r.ledger ≡ self) × (r.passes.items ≡ passes.items)
             × (r.receipts.items ≡ receipts.items)) }
     {

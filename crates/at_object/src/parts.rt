@@ -1,25 +1,27 @@
 //! Passes taken apart, for whoever makes their calls step by step, and what both ways to make a call do with the parts.
 
-ghost use Rattle.std.specs.Prelude.{◌≡◌, ◌<◌, length};
+ghost use Rattle.std.specs.Prelude.{◌≡◌, ◌<◌, ℕ, Some, length};
 ghost use Rattle.at_object.specs.Prelude.{IsOf, At};
 ghost use Rattle.at_object.specs.CallCounts.{with_one_call};
-ghost use Rattle.at_object.specs.Parted.{IsCountOf, IsOfOnePass, pass_of};
+ghost use Rattle.at_object.specs.Calls.{CallMade};
+ghost use Rattle.at_object.specs.Parted.{IsCountOf, IsOfOnePass, after_one_call, pass_of};
 ghost use Rattle.at_object.specs.Payments.{refusal_of, sent_after};
 
 use crate::pass::Pass;
 use at_board::{Board, BoardSeat};
 use at_fold::Totals;
 use at_ledger::Reply;
-use at_log::At;
+use at_log::{At, Receipt};
 use std::marker::Model;
 use std::snapshot::Snapshot;
 
 /// How many calls were made with a pass. Only the pass itself gives one, and there is one for each seat, so that no call is left out
-/// where a pass that was taken apart is put together again.
+/// where a pass that was taken apart is put together again. Only `Rest::count_call` and `Rest::refuse` count one more.
 #[derive(Drop)]
 pub struct CallCount {
     count: u64,
-    of: Snapshot<BoardSeat>,
+    /// The seat when the last call was counted, or when the pass was made, for contracts alone.
+    last: Snapshot<BoardSeat>,
 }
 
 impl Model for CallCount {
@@ -27,11 +29,7 @@ impl Model for CallCount {
 
     ghost Value = { CallCountTerms };
 
-    ghost view = { λ c. record {
-      count = c.count;
-      board = c.of.value.board;
-      process = c.of.value.knows.first;
-    } };
+    ghost view = { λ c. record { count = c.count; last = c.last.value } };
 }
 
 impl CallCount {
@@ -42,7 +40,7 @@ impl CallCount {
     {
         CallCount {
             count: 0,
-            of: Snapshot::of(seat),
+            last: Snapshot::of(seat),
         }
     }
 
@@ -53,11 +51,12 @@ impl CallCount {
         self.count
     }
 
-    /// One more call was made.
-    pub fn count_one(&mut self)
-        ensures { self.new ≡ with_one_call self.old }
+    /// One more call was made, which has left the seat so.
+    pub(crate) fn count_one(&mut self, seat: &BoardSeat)
+        ensures { self.new ≡ with_one_call seat.now self.old }
     {
         self.count = self.count.saturating_add(1);
+        self.last = Snapshot::of(seat);
     }
 }
 
@@ -91,14 +90,39 @@ impl Rest {
         if used_up { Some(Reply::Full) } else { None }
     }
 
-    /// A call that is refused changes nothing but the count of calls.
-    pub fn refuse(&mut self, reply: Reply) -> (Reply, At)
+    /// A call that is refused changes nothing but the count of calls. It is refused for some account that the process can't pay from.
+    pub fn refuse(&mut self, board: &Board, seat: &BoardSeat, reply: Reply) -> (Reply, At)
+        requires board { IsOf seat.now board.now }
+        requires pass { IsOfOnePass seat.now self.old }
+        requires refused { (source : ℕ)
+            × (refusal_of board.now.book (pass_of seat.now self.old) source ≡ Some reply) }
         ensures reply { result.0 ≡ reply }
         ensures at { result.1 ≡ At.Previous }
-        ensures rest { self.new ≡ record self.old { calls = with_one_call self.old.calls } }
+        ensures rest { self.new ≡ after_one_call seat.now self.old }
     {
-        self.calls.count_one();
+        self.calls.count_one(seat);
         (reply, At::Previous)
+    }
+
+    /// Counts a call that was made step by step, from the seat and the rest of one pass as they were when it began. No call is counted
+    /// that wasn't made: this is the receipt of one. Nor is a call counted twice, but for a refused one: since the last count the seat
+    /// has loaded what this call asks for.
+    pub fn count_call(
+        &mut self,
+        board: &Board,
+        seat: &BoardSeat,
+        start: &Snapshot<BoardSeat>,
+        was: &Snapshot<Rest>,
+        receipt: &Receipt,
+    )
+        requires board { IsOf seat.now board.now }
+        requires start { IsOfOnePass start.now.value was.now.value }
+        requires calls { self.old.calls ≡ was.now.value.calls }
+        requires made { CallMade board.now.book (pass_of start.now.value was.now.value)
+            (pass_of seat.now (after_one_call seat.now self.old)) receipt.now.call receipt.now }
+        ensures { self.new ≡ after_one_call seat.now self.old }
+    {
+        self.calls.count_one(seat);
     }
 }
 

@@ -38,7 +38,7 @@ impl Ledger {
     {
         pass.seat.known();
         match pass.rest.refusal(&self.board, &pass.seat, source) {
-            Some(reply) => pass.rest.refuse(reply),
+            Some(reply) => pass.rest.refuse(&self.board, &pass.seat, reply),
             None if self.book().owner_count(source) == 1 => {
                 self.pay_from_single(pass, source, targets)
             }
@@ -74,7 +74,7 @@ impl Ledger {
         );
         pass.seat.known();
         pass.rest.sent = sent_after(pass.rest.sent, &paid.0);
-        pass.rest.calls.count_one();
+        pass.rest.calls.count_one(&pass.seat);
         paid
     }
 
@@ -111,7 +111,7 @@ impl Ledger {
             targets,
         );
         pass.seat.known();
-        pass.rest.calls.count_one();
+        pass.rest.calls.count_one(&pass.seat);
         paid
     }
 }

@@ -24,7 +24,7 @@ impl Ledger {
         pass.seat.known();
         let receipt = read_account(&self.board, &mut pass.seat, &mut pass.rest.totals, account);
         pass.seat.known();
-        pass.rest.calls.count_one();
+        pass.rest.calls.count_one(&pass.seat);
         receipt
     }
 }

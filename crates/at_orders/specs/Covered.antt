@@ -21,7 +21,7 @@ asked_by_call b process account (Pay from targets) = asked_by_pay b process acco
 abbrev pub asked_in_file : BookTerms → ℕ → ℕ → List Call → ℕ
 asked_in_file b process account calls = sum_by (asked_by_call b process account) calls
 
--- what the first files ask of the account
+-- what the first files ask of the account. The sum of the amounts of each payment from it by an owner
 abbrev pub asked_in_files : BookTerms → ℕ → List (List Call) → ℕ → ℕ
 asked_in_files b account files count = sum_below count (λ process. asked_in_file b process account (slice_index_or files process []))
 

@@ -7,6 +7,7 @@ use Rattle.at_payments.specs.HelpingTerms.{HelpingTerms}
 abbrev pub decides_on : Knowledge → ℕ → ℕ
 decides_on v a = (asking_on (own_part v) a).decides
 
+-- how many rounds of the account the process had heard there when it last asked
 abbrev pub heard_on : Knowledge → ℕ → ℕ
 heard_on v a = (asking_on (own_part v) a).heard
 
@@ -41,7 +42,8 @@ pub record IsHelpingAt (b : BookTerms) (v : Knowledge) (list : List Publication)
   pub loaded : (l : LoadedWord) → Contains (asking_on (own_part v) h.account).loaded l →
       IsAmong h.account h.asked l.request ⊎ (is_settled h.account l.request.slot l.request.number list ≡ true)
 
--- the same of all that the seat has seen
+-- the same of all that the seat has seen. The request is the last of the seat's process on the account, whose rows it has loaded since; it
+-- holds no cell, and what it may propose is among the collected requests, but for settled ones
 abbrev pub IsHelping : BookTerms → Knowledge → HelpingTerms → Type 0
 IsHelping b v h = IsHelpingAt b v v.seen h
 

@@ -20,7 +20,8 @@ IsVerdictBy c process now Repeated = c.last ≡ now
 IsVerdictBy c process now (Lent p) = (c.last ≢ now) × IsLeastRisen process c.first now p
 IsVerdictBy c process now Undecided = (c.last ≢ now) × ((p : ℕ) → ¬ HasRisen process c.first now p)
 
--- the first collect says nothing
+-- the first collect says nothing. What a whole collect says by those before it: one more is needed, or it equals the last one, or another
+-- process's last view serves
 abbrev pub IsVerdictOn : Option Collects → ℕ → List ℕ → Verdict → Type 0
 IsVerdictOn None process now verdict = verdict ≡ Undecided
 IsVerdictOn (Some c) process now verdict = IsVerdictBy c process now verdict

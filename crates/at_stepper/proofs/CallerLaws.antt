@@ -1,10 +1,9 @@
 -- A caller whose call goes on, or is answered.
 use Rattle.std.specs.Prelude.{IfSome, IsSome, is_some, ◌↔◌}
 use Rattle.std.proofs.Common.{◌≡◌, ℕ, zero, suc, ◌+◌, ◌<◌, ◌⊎◌, Bool, true, false, cond, List, [], ◌∷◌, ◌++◌, drop, length, get_or, take, None, Option, Some, refl, sym, ap, subst, ◌∙◌, arith, inl, inr, length-append}
-use Rattle.at_stepper.proofs.Prelude.{cases_Bool, map-append, take_more, sum_by-drop_more, BookTerms, is_owner, Call, Pay, Read, Transfer, Reply, Balance, Done, Full, NotOwner, Short, own_part, LearnsOverview, IsKept, SeatTerms, Knowledge, calls_of, Receipt, IsOfOnePass, pass_of, CallCountTerms, with_one_call, PassTerms, Stands, sent_by, IsRefused, has_used_up, Rest, process-CallMade, CallerTerms, HasLearned, IsAnswered, IsFile, IsStillCalling, caller_turns_left, calls_left_of, is_refused, most_turns, next_call, own_seen, steps_in, CallingTerms, IsCallWithin, IsWay, MakesCallStep, StartsFrom, call_turns_left, exchanges_made, exchanges_of, first_step, next_step, pass_before, publishes_of, refusal_in, steps_made, steps_of, CallMade, StaysWithin, IsPrefix, Publication, IsPrefix-refl, IsCallerOf, IsNextInMaking, StartsNext, TakesTurn, caller_of, stage_in, EndsCall, FollowsCall, raised, CallStage, PayAlone, PayShared, Refuse, Refused, Turned, Answer, Step}
+use Rattle.at_stepper.proofs.Prelude.{cases_Bool, map-append, take_more, sum_by-drop_more, BookTerms, is_owner, Call, Pay, Read, Transfer, Reply, Balance, Done, Full, NotOwner, Short, own_part, LearnsOverview, IsKept, SeatTerms, Knowledge, calls_of, Receipt, IsOfOnePass, pass_of, CallCountTerms, call-CallMade, look-CallMade, refused_at-CallMade, with_one_call, PassTerms, Stands, sent_by, IsRefused, has_used_up, Rest, process-CallMade, CallerTerms, HasLearned, IsAnswered, IsFile, IsStillCalling, caller_turns_left, calls_left_of, is_refused, most_turns, next_call, own_seen, steps_in, CallingTerms, IsCallWithin, IsWay, MakesCallStep, StartsFrom, call_turns_left, exchanges_made, exchanges_of, first_step, next_step, pass_before, publishes_of, refusal_in, steps_made, steps_of, CallMade, StaysWithin, IsPrefix, Publication, IsPrefix-refl, IsCallerOf, IsNextInMaking, StartsNext, TakesTurn, caller_of, stage_in, EndsCall, FollowsCall, raised, CallStage, PayAlone, PayShared, Refuse, Refused, Turned, Answer, Step}
 use Rattle.std.specs.Prelude.{sum_by}
 use Rattle.at_stepper.proofs.PublishedLaws.{longer-IsPrefix}
-use Rattle.at_stepper.proofs.LookLaws.{look-CallMade}
 use Rattle.at_calling.specs.declared.call_stage.CallStage.TheVariants.{Read as ReadOn}
 
 -- a turn that isn't a call's last makes a step
@@ -63,12 +62,6 @@ steps_in-Answer b before after call (PayShared paying) r made none way left =
       | inl refused ↦ absurd (omega (arith, none (IsRefused-is_refused r refused)))
       | inr other ↦ ap (λ t. cond t 0 1) (sym other)
     ]
-
--- the call of what a call leaves
-pub call-CallMade : (b : BookTerms) (before after : PassTerms) (call : Call) (r : Receipt) → CallMade b before after call r → r.call ≡ call
-call-CallMade b before after (Transfer from to amount) r made = made.call_is
-call-CallMade b before after (Read account) r made = made.call_is
-call-CallMade b before after (Pay from targets) r made = made.call_is
 
 -- an answer is some receipt
 none_answered : (answer : Option Receipt) → IsSome answer → ((r : Receipt) → answer ≡ Some r → ⊥) → ⊥
@@ -306,7 +299,7 @@ module _ (b : BookTerms) (seat : SeatTerms) (rest : Rest) (calls : List Call) (r
     -- the call is answered
     module _ (r : Receipt) (made : CallMade b (pass_before c) (pass_of after_seat after_rest) c.call r)
         (stands : (earlier : List Receipt) → Stands (pass_before c) earlier → Stands (pass_of after_seat after_rest) (earlier ++ r ∷ []))
-        (one_pass : IsOfOnePass after_seat after_rest) (one_more : after_rest.calls ≡ with_one_call c.was.calls)
+        (one_pass : IsOfOnePass after_seat after_rest) (one_more : after_rest.calls ≡ with_one_call after_seat c.was.calls)
         (within : StaysWithin b (pass_before c) (pass_of after_seat after_rest) c.call r) (none : IsRefused r → steps_made d.stage ≡ 0) (all : List Receipt)
         (pushed : all ≡ receipts ++ r ∷ []) where
       abbrev answered : CallerTerms
@@ -331,7 +324,8 @@ module _ (b : BookTerms) (seat : SeatTerms) (rest : Rest) (calls : List Call) (r
         seat = refl;
         within = subst (λ (call : Call). StaysWithin b (pass_before c) (pass_of after_seat after_rest) call r) next.call_is within;
         history = kept.history;
-        looked = look-CallMade b (pass_before c) (pass_of after_seat after_rest) c.call r made kept same_book;
+        looked = λ placed. look-CallMade b (pass_before c) (pass_of after_seat after_rest) c.call r made
+            (λ refused. placed (refused_at-CallMade b (pass_before c) (pass_of after_seat after_rest) c.call r made refused));
         idle = refl;
       }
 

@@ -12,7 +12,6 @@ pub mod BeginningLaws
 pub mod NextLaws
 pub mod ReplayLaws
 pub mod TurnTimes
-pub mod KeyLaws
 pub mod PublishedTurns
 pub mod TimedCallers
 pub mod TimedTurns

@@ -2,16 +2,14 @@
 pub use Rattle.std.proofs.Math.Seq.{get_or-append_seam, take-append_seam}
 pub use Rattle.std.proofs.lemmas.Bool.{and_from, and_left, and_parts, and_right, cases_Bool, cases_eq, cases_lt, eq-eqb, eqb-false, eqb-true, le-ltb, leb-false, lt-ltb, ne_eqb}
 pub use Rattle.std.proofs.lemmas.Grind.{common_steps}
-pub use Rattle.std.proofs.lemmas.List.{append-nil, drop_more, get_or-map, get_or-set_other, get_or-set_same, get_or_append_left, get_or_default, get_or_past, get_or_push, get_or_read, length-append, length-drop, length-map, length-take, length_push, map-append, map-id, map-set, set-get_or, take-append-le, take_all, take_more, with_items_is}
+pub use Rattle.std.proofs.lemmas.List.{append-nil, drop_more, get_or-map, get_or-set_other, get_or-set_same, get_or_append_left, get_or_default, get_or_past, get_or_push, get_or_read, length-append, length-drop, length-map, length_push, map-append, map-id, map-set, set-get_or, take-append-le, take_all, take_more, with_items_is}
 pub use Rattle.std.proofs.lemmas.List.Elements.{All-append, All-map, All-nil, All-push, filter-append, filter_map-append}
-pub use Rattle.std.proofs.lemmas.List.Folds.{sum_by-replicate}
 pub use Rattle.std.proofs.lemmas.List.FromFn.{get_or-range_with_len, length-range_with_len, map-range_with_len_more}
 pub use Rattle.std.proofs.lemmas.List.Sums.{sum_by-drop_more, sum_by-set, sum_by-take-le, sum_by_more, sum_by_push}
 pub use Rattle.std.specs.Global.{Global}
 pub use Rattle.std.specs.List.{cons_option, range_with_len}
 pub use Rattle.std.specs.Vec.{vec_capacity, vec_len, with_item}
 pub use Rattle.at_board.specs.Counting.{raised}
-pub use Rattle.at_board.specs.Knowledge.Agreement.{AgreesOnEntry}
 pub use Rattle.at_board.specs.Knowledge.Fresh.{IsBorrowed}
 pub use Rattle.at_board.specs.Knowledge.Overviews.{IsOverviewOf, LearnsOverview, OverviewTerms, TakesIn}
 pub use Rattle.at_board.specs.Knowledge.Parts.{asking_on, loads_of, no_part, own_part, part_asking, seen_as, with_asking, with_part}
@@ -46,13 +44,13 @@ pub use Rattle.at_calling.specs.declared.share_stage.ShareStage.{ShareStage}
 pub use Rattle.at_calling.specs.declared.start_stage.StartStage.{StartStage}
 pub use Rattle.at_calling.specs.declared.turn_stage.TurnStage.{TurnStage}
 pub use Rattle.at_fold.specs.Sums.{TotalSums}
-pub use Rattle.at_history.proofs.Laws.Counts.{count_of-append, count_of-push_own, count_of-take_mono, get_or-publications_of}
-pub use Rattle.at_history.proofs.Laws.Cuts.{length-IsCut, place-IsCut-le}
+pub use Rattle.at_history.proofs.Laws.Counts.{count_of-append, count_of-push_own, count_of-take_mono}
+pub use Rattle.at_history.proofs.Laws.Cuts.{length-IsCut}
 pub use Rattle.at_history.proofs.Laws.Histories.{ArePublishedBy-IsHistory}
-pub use Rattle.at_history.proofs.Laws.Prefixes.{ArePublishedBy-take, IsPrefix-count_of, IsPrefix-length, IsPrefix-refl, IsPrefix-trans, publications_of-IsPrefix, take-IsPrefix, take-IsPrefix-le, take-publication_at}
-pub use Rattle.at_history.specs.BoardState.{publication_at, request_at}
-pub use Rattle.at_history.specs.Cuts.{place, prefix_of}
-pub use Rattle.at_history.specs.Histories.{IsHistory, IsShownDecision, IsShownEntry}
+pub use Rattle.at_history.proofs.Laws.Prefixes.{IsPrefix-count_of, IsPrefix-length, IsPrefix-refl, IsPrefix-trans, publications_of-IsPrefix, take-IsPrefix, take-IsPrefix-le, take-publication_at}
+pub use Rattle.at_history.specs.BoardState.{publication_at}
+pub use Rattle.at_history.specs.Cuts.{place}
+pub use Rattle.at_history.specs.Histories.{IsHistory}
 pub use Rattle.at_history.specs.Publications.{ArePublishedBy, IsPrefix, count_of, longer, no_publication, publications_of}
 pub use Rattle.at_history.specs.Rounds.{rounds}
 pub use Rattle.at_history.specs.declared.publication.Publication.{Publication}
@@ -60,9 +58,9 @@ pub use Rattle.at_history.specs.declared.request.Request.{Request}
 pub use Rattle.at_journal.proofs.WholeLaws.{map-lines_of}
 pub use Rattle.at_journal.specs.Calls.{calls_in}
 pub use Rattle.at_journal.specs.Linearizable.{AreTimed, CallTimes, IsLinearizable}
-pub use Rattle.at_ledger.specs.Account.{is_shared, is_single, slot_in}
-pub use Rattle.at_ledger.specs.Book.{BookTerms, HasSlot, account_of, is_owner}
-pub use Rattle.at_ledger.specs.Call.{TargetPair, first_account}
+pub use Rattle.at_ledger.specs.Account.{is_shared, is_single}
+pub use Rattle.at_ledger.specs.Book.{BookTerms, account_of, is_owner}
+pub use Rattle.at_ledger.specs.Call.{TargetPair}
 pub use Rattle.at_ledger.specs.Files.{contents_of}
 pub use Rattle.at_ledger.specs.Run.{lines_of}
 pub use Rattle.at_ledger.specs.declared.call.Call.{Call}
@@ -71,18 +69,14 @@ pub use Rattle.at_ledger.specs.declared.call.Line.{Line}
 pub use Rattle.at_ledger.specs.declared.call.Reply.{Reply}
 pub use Rattle.at_ledger.specs.declared.call.Reply.TheVariants.{Balance, Done, Full, NotOwner, Short}
 pub use Rattle.at_log.proofs.Laws.Buckets.{range_with_len-more}
-pub use Rattle.at_log.proofs.Laws.Keys.{length-keys_from}
-pub use Rattle.at_log.proofs.Laws.Positions.{own_position-at}
-pub use Rattle.at_log.proofs.Laws.Replies.{first_account-payout}
-pub use Rattle.at_log.proofs.LeftLaws.Keys.{keys_of-IsPrefix, keys_of-le, publication_at-IsPrefix}
+pub use Rattle.at_log.proofs.LeftLaws.Keys.{publication_at-IsPrefix}
 pub use Rattle.at_log.specs.ClosingTerms.{ClosingTerms, log_published, receipts_of}
 pub use Rattle.at_log.specs.Coherent.{Coherent}
 pub use Rattle.at_log.specs.InTime.{IsNotBehind, KeepsTime, look_at}
 pub use Rattle.at_log.specs.JournalOrder.{journal_lines}
-pub use Rattle.at_log.specs.Placed.{IsAtCut, IsAtOwn, IsAtRound, IsPlaced, done, full, not_owner, read, round, short}
-pub use Rattle.at_log.specs.Receipts.{asks_in, calls_of, is_at_round, is_payout_from, receipt_at}
-pub use Rattle.at_log.specs.Told.{Told, key_of, keys_of, own_position}
-unfoldable pub use Rattle.at_log.specs.Told.{keys_from}
+pub use Rattle.at_log.specs.Placed.{IsPlaced, done, full, not_owner, read, round, short}
+pub use Rattle.at_log.specs.Receipts.{calls_of, receipt_at}
+pub use Rattle.at_log.specs.Told.{keys_of}
 pub use Rattle.at_log.specs.declared.receipt.At.{At}
 pub use Rattle.at_log.specs.declared.receipt.At.TheVariants.{Cut, Own, Previous, Round}
 pub use Rattle.at_log.specs.declared.receipt.Receipt.{Receipt}
@@ -92,11 +86,12 @@ pub use Rattle.at_machines.specs.LoadingRow.{MakesLoadOf, NextRowLoad}
 pub use Rattle.at_machines.specs.Looking.{MakesLookLoad, length_at}
 pub use Rattle.at_machines.specs.Snapping.{MakesLoad, NextLoad, length_in}
 pub use Rattle.at_machines.specs.declared.look_stage.LookStage.{LookStage}
-pub use Rattle.at_object.proofs.Laws.Calls.{begins-CallMade, process-CallMade}
+pub use Rattle.at_object.proofs.Laws.Calls.{begins-CallMade, call-CallMade, process-CallMade}
+pub use Rattle.at_object.proofs.Laws.Keys.{key-in, key-le, key-same, look-in, look-le, look-same}
+pub use Rattle.at_object.proofs.Laws.Looks.{decided_or_refused, look-CallMade, refused_at-CallMade}
 pub use Rattle.at_object.specs.CallCounts.{CallCountTerms, with_one_call}
 pub use Rattle.at_object.specs.Calls.{CallMade, PaymentMade, StaysWithin}
 pub use Rattle.at_object.specs.Closings.{AreAccountedFor, ClosedTerms, HasAllLogs, IsAccountedFor}
-pub use Rattle.at_object.specs.Paid.{PaysAlone, PaysInRound}
 pub use Rattle.at_object.specs.Parted.{HasMemoryFor, IsOfOnePass, pass_of}
 pub use Rattle.at_object.specs.Passes.{AreNewPasses, IsNewPass, IsPassOf, PassTerms, Stands, asked_by, seat_of, sent_by}
 pub use Rattle.at_object.specs.Payments.{IsDecidedByBalance, IsRefused, has_used_up, refusal_of}

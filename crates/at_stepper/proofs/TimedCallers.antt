@@ -1,7 +1,6 @@
 -- What a turn leaves of its caller, for the order of calls in time.
 use Rattle.std.proofs.Common.{◌≡◌, ◌≢◌, ◌⊎◌, ℕ, ◌+◌, ◌*◌, ◌<◌, ◌≤◌, List, [], ◌∷◌, ◌++◌, None, Option, Some, append-nil, append_assoc, length, refl, sym, ap, subst, ◌∙◌, arith, inl, inr, slice_index}
-use Rattle.at_stepper.proofs.Prelude.{get_or_append_left, get_or_push, length_push, BookTerms, IsPrefix-refl, IsPrefix-trans, IsHistory, IsPrefix, Publication, SeatTerms, look_at, receipt_at, keys_of, Previous, Receipt, begins-CallMade, process-CallMade, PassTerms, Stands, seat_of, CallStage, BeginsCall, CallerTerms, IsReadyToTurn, IsReadyFrom, IsTurned, LeavesCaller, answers_in, next_call, Turned, Answer, Step}
-use Rattle.at_stepper.proofs.KeyLaws.{key-in, key-le, key-same, look-in, look-le, look-same}
+use Rattle.at_stepper.proofs.Prelude.{get_or_append_left, get_or_push, length_push, BookTerms, IsPrefix-refl, IsPrefix-trans, IsHistory, IsPrefix, Publication, SeatTerms, look_at, receipt_at, keys_of, Previous, Receipt, begins-CallMade, process-CallMade, key-in, key-le, key-same, look-in, look-le, look-same, PassTerms, Stands, seat_of, CallStage, BeginsCall, CallerTerms, IsReadyToTurn, IsReadyFrom, IsTurned, LeavesCaller, answers_in, next_call, Turned, Answer, Step}
 use Rattle.at_stepper.proofs.LookLaws.{RestsOnSnapshot, snapshot-CallMade}
 
 -- the key and the look of a caller's receipt, in what its pass has seen

@@ -91,6 +91,7 @@ abbrev pub IsReadyFrom : BookTerms → List Publication → CallerTerms → Call
 IsReadyFrom b published before ready stage None = BeginsCall b published before ready stage
 IsReadyFrom b published before ready stage (Some going_on) = ready ≡ before
 
+-- what a turn goes on from
 pub record IsReadyToTurn (b : BookTerms) (published : List Publication) (before ready : CallerTerms) (stage : CallStage) : Type 0 where
   pub stage_is : ready.stage ≡ Some stage
   pub from : IsReadyFrom b published before ready stage before.stage

@@ -37,7 +37,9 @@ AgreesOnEntry v (Round account round decision targets) =
     AgreesOnDecision v account round decision
     × ((r : Request) → SeesRequest v account decision.slot decision.number r → r.targets ≡ targets)
 
--- what the seat has seen agrees: its requests, its decisions and its records say the same
+-- what the seat has seen agrees: its requests, its decisions and its records say the same. One request for a slot and number; one decision for
+-- a round; no request decided in two rounds, or at a place before its `since`; a round's record has the decision and the targets that were
+-- seen
 pub record AgreesWithSeen (v : Knowledge) : Type 0 where
   pub requests : (account slot number : ℕ) (r q : Request) → SeesRequest v account slot number r →
       SeesRequest v account slot number q → r ≡ q

@@ -27,7 +27,7 @@ IsCandidate w a slot x =
 abbrev pub ComesFirst : ℕ → Request → ℕ → Request → Type 0
 ComesFirst slot r other q = (r.since < q.since) ⊎ ((r.since ≡ q.since) × (slot ≤ other))
 
--- of the candidates that are unsettled in a list this one comes first
+-- of the candidates that are unsettled in a list this one comes first. It has the least `since`, and then the least slot
 pub record IsOldest (w : Asking) (own : ℕ) (list : List Publication) (a slot number : ℕ) (r : Request) : Type 0 where
   pub candidate : IsCandidate w a own (seen_as a slot number r)
   pub unsettled : is_settled a slot number list ≡ false

@@ -50,7 +50,8 @@ pub record Knows (b : BookTerms) (words : List ℕ) (s : BoardState) (v : Knowle
   pub decisions : All (IsDecided s) v.decisions
   pub parts : (k : ℕ) → k < length v.parts → HasPart b words s v (v.first + k) (part_at v k)
 
--- a sound state has published just what the seat has seen, announced its requests and made its decisions
+-- a sound state has published just what the seat has seen, announced its requests and made its decisions. A publishing step tells it, with its
+-- record at the end of the list, and an announcing one, with its request at the end of its row
 pub record SeesAll (b : BookTerms) (v : Knowledge) : Type 0 where
   pub state : BoardState
   pub sound : Sound b state

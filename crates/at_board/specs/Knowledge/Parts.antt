@@ -20,6 +20,7 @@ no_part = record { published = 0; stored = []; held = None; loads = []; asking =
 abbrev pub part_at : Knowledge → ℕ → Part
 part_at v k = slice_index_or v.parts k no_part
 
+-- the part of the seat's own process
 abbrev pub own_part : Knowledge → Part
 own_part v = part_at v 0
 

@@ -17,7 +17,8 @@ pub record BoardTerms : Type 0 where
   pub id : TableId
   pub book : BookTerms
 
--- a seat by the identity of its board, what it knows, and how many steps it has made, how many of them exchanges
+-- a seat by the identity of its board, what it knows, and how many steps it has made, how many of them exchanges. The same of a note, which
+-- has made no step
 pub record SeatTerms : Type 0 where
   pub board : TableId
   pub knows : Knowledge

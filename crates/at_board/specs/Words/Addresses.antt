@@ -68,7 +68,7 @@ start_of sizes i = sum (take i sizes)
 abbrev pub blocks_of : BookTerms → ℕ → List ℕ
 blocks_of b group = slice_index_or (groups b) group []
 
--- the index of a word
+-- the index of a word. Two addresses have one index only if they are one
 unfoldable pub index_of : BookTerms → Address → ℕ
 index_of b x =
     start_of (map sum (groups b)) (group_of x) + start_of (blocks_of b (group_of x)) (block_of x) + number_in b x

@@ -32,6 +32,7 @@ entry_words e = head_of e ∷ targets_word (accounts_of (targets_of e)) ∷ deci
 abbrev pub record_words : Publication → List ℕ
 record_words x = entry_words x.entry ++ x.view
 
+-- the words of a request
 abbrev pub request_words : Request → List ℕ
 request_words r = targets_word (accounts_of r.targets) ∷ amount_words r.targets ++ r.since ∷ []
 

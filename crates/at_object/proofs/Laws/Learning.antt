@@ -1,6 +1,6 @@
 -- What is left of a pass whose seat takes in what a note or an overview has.
 use Rattle.std.proofs.Common.{◌≡◌, ℕ, List, length, refl, sym, ap, subst, ◌∙◌, arith, get_or}
-use Rattle.at_object.proofs.Prelude.{HasSlot, IsPrefix, named, owns_of, Publication, asking_on, own_part, IsKept, SeatTerms, Knowledge, SeenDecision, SeenRequest, named-IsBetweenCalls, AsksNothing, HasMoved, IsBetweenCalls-still, owns_of-still, Told-IsPrefix, IsBetweenCalls, StaysCounted-HasCounted, Told, Receipt, IsOfOnePass, pass_of, Stands, sent_by, Rest}
+use Rattle.at_object.proofs.Prelude.{HasSlot, IsPrefix, named, owns_of, Publication, asking_on, loads_of, own_part, IsKept, SeatTerms, Knowledge, SeenDecision, SeenRequest, named-IsBetweenCalls, AsksNothing, HasMoved, IsBetweenCalls-still, owns_of-still, Told-IsPrefix, IsBetweenCalls, StaysCounted-HasCounted, Told, Receipt, IsOfOnePass, pass_of, Stands, sent_by, Rest}
 use Rattle.at_object.proofs.Laws.Alone.{IsPass-HasMoved}
 use Rattle.at_object.proofs.Laws.OnePass.{IsOfOnePass-same}
 
@@ -44,7 +44,8 @@ module _ (before after : SeatTerms) (rest : Rest) (list : List Publication) (req
   IsOfOnePass-learned board =
       let was = rest.totals in
       let sent = rest.sent in
-      IsOfOnePass-same before after rest rest pass board moved.process refl
+      IsOfOnePass-same before after rest rest pass board moved.process
+      (λ p. omega (arith, ap (λ (t : Knowledge). (loads_of (own_part t) p).times) same)) refl
       (IsPass-HasMoved v.book v w was was sent sent moved between
       (StaysCounted-HasCounted was v.book v.seen pass.pass.counted w.seen more)
       (ap (λ p. get_or was.upto p 0) moved.process ∙ (pass.pass.own_counted ∙ sym published)) (pass.pass.sent_is ∙ sym owns)

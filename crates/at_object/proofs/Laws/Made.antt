@@ -1,9 +1,10 @@
 -- What a payment leaves of its pass, whichever way it went.
 use Rattle.std.proofs.Common.{◌≡◌, ℕ, ◌+◌, ◌<◌, ◌≤◌, ◌⊎◌, ◌&&◌, ◌||◌, ◌==◌, Bool, true, false, cond, List, ◌∷◌, [], ◌++◌, None, Some, length, refl, sym, ap, subst, ◌∙◌, arith, inl, inr}
-use Rattle.at_object.proofs.Prelude.{cases_Bool, is_shared, is_single, BookTerms, HasSlot, account_of, is_owner, TargetPair, payout_of, Call, Reply, Done, Short, Full, NotOwner, single_or_shared, prefix_of, IsHistory, own_part, IsKept, Knowledge, length-prefix_of-le, Told-call, asks_in-push_still, owns_in-push, named-IsBetweenCalls, HasMoved, IsBetweenCalls, TotalSums, IsPrefix-refl, one_if, IsPlaced, has_no_room, full, not_owner, asks_in, is_at_own, is_at_round, owns_in, Told, Previous, Receipt, PaysAlone, PaysInRound, PaymentMade, IsPass, PassTerms, Stands, asked_by, one_more_call, others_counted, sent_by, IsDecidedByBalance, IsRefused, has_used_up, prefix_before, refusal_of, reply_of, StandsAfter, IsOnlyOwner, cut_behind, payment_reply}
+use Rattle.at_object.proofs.Prelude.{cases_Bool, is_shared, is_single, BookTerms, HasSlot, account_of, is_owner, TargetPair, first_account, first_account-payout, payout_of, Call, Reply, Done, Short, Full, NotOwner, single_or_shared, prefix_of, IsHistory, own_part, IsKept, Knowledge, length-prefix_of-le, Told-call, asks_in-push_still, owns_in-push, named-IsBetweenCalls, HasMoved, IsBetweenCalls, TotalSums, IsPrefix-refl, one_if, IsPlaced, has_no_room, full, not_owner, asks_in, is_at_own, is_at_round, owns_in, Told, Previous, Receipt, PaysAlone, PaysInRound, PaymentMade, IsPass, PassTerms, Stands, asked_by, one_more_call, others_counted, sent_by, IsDecidedByBalance, IsRefused, has_used_up, prefix_before, refusal_of, reply_of, StandsAfter, IsOnlyOwner, cut_behind, payment_reply}
 use Rattle.std.specs.Prelude.{slice_index, sum}
 use Rattle.at_object.proofs.Laws.Alone.{moved-done, moved-short, nothing-done, nothing-short, reply-done, reply-short, short_or_done, told-done, told-short}
 use Rattle.at_object.proofs.Laws.InRound.{asks-round, loads-round, moved-round, placed-round, reply-round, told-round}
+use Rattle.at_object.proofs.Laws.Looks.{look-PaysAlone, look-PaysInRound}
 use Rattle.at_object.proofs.Laws.Room.{HasSlot-is_owner}
 
 -- no call is both decided and refused
@@ -58,6 +59,7 @@ module _ (b : BookTerms) (before after : PassTerms) (source : ℕ) (targets : Li
                 stands = told-pass book same_book (λ earlier told.
                     told-short b v w kept keeps book same_book was sent pass source targets call r paid short earlier told (paid.placed earlier (sym told.owns)));
                 after_seen = λ decided. at_start moved;
+                looked = look-PaysAlone b v w source targets call r paid;
                 loads = λ decided. paid.snapshot.fresh.loaded;
                 alone = λ decided single. paid;
                 in_round = λ decided shared. absurd (single_or_shared (account_of b source) only.single shared);
@@ -79,6 +81,7 @@ module _ (b : BookTerms) (before after : PassTerms) (source : ℕ) (targets : Li
                 stands = told-pass book same_book (λ earlier told.
                     told-done b v w kept keeps book same_book was sent pass source targets call r paid done earlier told (paid.placed earlier (sym told.owns)));
                 after_seen = λ decided. at_start moved;
+                looked = look-PaysAlone b v w source targets call r paid;
                 loads = λ decided. paid.snapshot.fresh.loaded;
                 alone = λ decided single. paid;
                 in_round = λ decided shared. absurd (single_or_shared (account_of b source) only.single shared);
@@ -109,6 +112,8 @@ module _ (b : BookTerms) (before after : PassTerms) (source : ℕ) (targets : Li
               (subst (λ t. Told t v.first v.seen earlier) book stands);
           stands = told-pass book same_book (told-round b v w kept keeps book same_book was sent pass source slot has call r paid targets payout);
           after_seen = λ _. paid.after_start;
+          looked = λ _. look-PaysInRound b v w source call r paid
+              (ap first_account (sym paid.call_is) ∙ first_account-payout source targets r.call payout) keeps same_book;
           loads = λ _. loads-round b v w kept keeps book same_book was sent pass source slot has call r paid;
           alone = λ _ single. absurd (single_or_shared (account_of b source) single shared);
           in_round = λ _ _. paid;
@@ -191,6 +196,7 @@ module _ (b : BookTerms) (before : PassTerms) (source : ℕ) (kept : IsKept befo
       stands = λ earlier stands. subst (λ t. Told t before.knows.first before.knows.seen (earlier ++ r ∷ [])) (sym book)
           (told-refused earlier (subst (λ t. Told t before.knows.first before.knows.seen earlier) book stands));
       after_seen = λ decided. absurd (not_both r decided refused);
+      looked = λ decided. absurd (not_both r decided refused);
       loads = λ decided. absurd (not_both r decided refused);
       alone = λ decided. absurd (not_both r decided refused);
       in_round = λ decided. absurd (not_both r decided refused);

@@ -1,7 +1,7 @@
 use Rattle.std.proofs.Common.{◌≡◌, ℕ, ◌<◌, ◌≤◌, ◌↔◌, IfSome, IsSome, Option, None, Some, false, true, refl, sym, ap, subst, ◌∙◌, arith}
-use Rattle.at_calling.proofs.Prelude.{sum, BookTerms, AreRuns, IsPrefix, raised, SeatTerms, Knowledge, TotalSums, payout_of, Receipt, Rest, with_one_call, CallingTerms, MakesCallStep, call_turns_left, exchanges_made, steps_made, IsCallingSo, TakesCallTurn, calling_of, PayingSharedTerms, share_exchanges_made, share_turns_left, share_turns_most, newly_seen, CallStage, PayShared}
-use Rattle.at_calling.proofs.CallingTurns.{Leaves, TakesCallTurn-stages, calling_next, IsCallingSo-shared, Leaves-shared, few-shared, still-shared, way-shared}
-use Rattle.at_calling.proofs.calling.Calling.pay_shared_on.Goals.{After-known, After-count_one, After-self}
+use Rattle.at_calling.proofs.Prelude.{sum, BookTerms, AreRuns, IsPrefix, raised, SeatTerms, Knowledge, TotalSums, payout_of, Receipt, Rest, after_one_call, pass_of, CallMade, with_one_call, CallingTerms, MakesCallStep, call_turns_left, exchanges_made, pass_before, steps_made, IsCallingSo, TakesCallTurn, calling_of, PayingSharedTerms, share_exchanges_made, share_turns_left, share_turns_most, newly_seen, CallStage, PayShared}
+use Rattle.at_calling.proofs.CallingTurns.{Leaves, TakesCallTurn-stages, calling_next, made-Leaves, IsCallingSo-shared, Leaves-shared, few-shared, still-shared, way-shared}
+use Rattle.at_calling.proofs.calling.Calling.pay_shared_on.Goals.{After-known, After-receipt_of-receipt, After-self}
 use Rattle.at_calling.proofs.calling.Calling.pay_shared_on.Goals as goal
 
 -- the call before the turn
@@ -49,7 +49,7 @@ turned : (c : After-known) (mark : SeatTerms) → mark ≡ c.turn-paid.new.seat 
     → rest ≡ now → (answer : Option Receipt)
     → (IsSome answer ↔ (call_turns_left c.args.board.now.book (PayShared c.turn-paid.new.self) ≡ 0))
     → IfSome answer (Leaves c.args.board.now.book c.args.self.now c.turn-paid.new.seat now c.turn-paid.new.self.turns (share_exchanges_made c.turn-paid.new.self))
-    → IfSome answer (λ r. now.calls ≡ with_one_call c.args.self.now.was.calls)
+    → IfSome answer (λ r. now.calls ≡ with_one_call c.turn-paid.new.seat c.args.self.now.was.calls)
     → TakesCallTurn c.args.board.now.book c.args.overview.now.seen c.args.self.now (calling_next (calling_of c.self.inside)
     (PayShared c.turn-paid.new.self) mark rest) c.args.seat.now c.turn-paid.new.seat now answer
 turned c mark mark_is now totals_are rest rest_is answer ends leaves calls =
@@ -80,38 +80,66 @@ returns-in_err-answer-clause-turned c =
     ) tt tt)
 
 -- the receipt of the call
-abbrev receipt : After-count_one → Receipt
+abbrev receipt : After-receipt_of-receipt → Receipt
 receipt c = record { call = c.args.self.now.call; reply = c.in_ok-answer.answer.0; at = c.in_ok-answer.answer.1 }
 
-abbrev rest_after : After-count_one → Rest
-rest_after c = record { totals = c.turn-paid.new.totals; sent = c.args.rest.now.sent; calls = c.count_one.new.self }
+-- the rest of the pass before the call is counted, and after
+abbrev rest_before : After-receipt_of-receipt → Rest
+rest_before c = record { totals = c.turn-paid.new.totals; sent = c.args.rest.now.sent; calls = c.args.rest.now.calls }
 
-calls_after : (c : After-count_one) → (rest_after c).calls ≡ with_one_call c.args.self.now.was.calls
-calls_after c =
-    let known = (goal.at.After-count_one c).After-known in
+abbrev rest_after : After-receipt_of-receipt → Rest
+rest_after c = after_one_call c.turn-paid.new.seat (rest_before c)
+
+calls_before : (c : After-receipt_of-receipt) → c.args.rest.now.calls ≡ c.args.self.now.was.calls
+calls_before c =
+    let known = (goal.at.After-receipt_of-receipt c).After-known in
     let first = (goal.at.After-known known).After-self in
-    c.count_one.ensures
-    ∙ (ap (λ (q : Rest). with_one_call q.calls) c.requires.rest
-    ∙ ap with_one_call (still-shared c.args.board.now c.args.self.now (so first) c.args.seat.now c.requires.mark c.requires.board c.turn-paid.new.seat c.turn-paid.ensures.board
-    c.in-PayShared.paying (stage_is known) (left known)).calls_are)
+    ap (λ (q : Rest). q.calls) c.requires.rest
+    ∙ (still-shared c.args.board.now c.args.self.now (so first) c.args.seat.now c.requires.mark c.requires.board c.turn-paid.new.seat c.turn-paid.ensures.board
+    c.in-PayShared.paying (stage_is known) (left known)).calls_are
+
+calls_after : (c : After-receipt_of-receipt) → (rest_after c).calls ≡ with_one_call c.turn-paid.new.seat c.args.self.now.was.calls
+calls_after c = ap (with_one_call c.turn-paid.new.seat) (calls_before c)
 
 -- it is one of the payment
-way : (c : After-count_one) → let p = c.in-PayShared.paying in payout_of c.args.self.now.call ≡ Some (p.account, p.targets)
+way : (c : After-receipt_of-receipt) → let p = c.in-PayShared.paying in payout_of c.args.self.now.call ≡ Some (p.account, p.targets)
 way c =
-    let known = (goal.at.After-count_one c).After-known in
+    let known = (goal.at.After-receipt_of-receipt c).After-known in
     (way-shared c.args.board.now c.args.self.now (so (goal.at.After-known known).After-self) c.args.seat.now c.requires.mark c.requires.board c.turn-paid.new.seat
     c.turn-paid.ensures.board c.in-PayShared.paying (stage_is known) (left known)).0
 
-leaves : (c : After-count_one)
+leaves : (c : After-receipt_of-receipt)
     → Leaves c.args.board.now.book c.args.self.now c.turn-paid.new.seat (rest_after c) c.turn-paid.new.self.turns (share_exchanges_made c.turn-paid.new.self) (receipt c)
 leaves c =
-    let known = (goal.at.After-count_one c).After-known in
+    let known = (goal.at.After-receipt_of-receipt c).After-known in
     let first = (goal.at.After-known known).After-self in
     let told = c.in_ok-answer.ensures in
     Leaves-shared c.args.board.now c.args.self.now (so first) c.args.seat.now c.requires.mark c.requires.board c.turn-paid.new.seat c.turn-paid.ensures.board
     c.in-PayShared.paying (stage_is known) (left known) (rest_after c) c.turn-paid.new.self.turns
     (share_exchanges_made c.turn-paid.new.self) (receipt c) c.known.ensures.seat (told.answer c.args.self.now.call (way c)) told.leaves told.counted told.few c.turn-paid.ensures.decided
     (ap (λ (q : Rest). q.sent) c.requires.rest) (calls_after c)
+
+-- it may be counted
+same_receipt : (c : After-receipt_of-receipt) → c.receipt_of-receipt.result ≡ receipt c
+same_receipt c =
+    c.receipt_of-receipt.ensures
+    ∙ ap (λ (s : CallingTerms). let r : Receipt = record { call = s.call; reply = c.in_ok-answer.answer.0; at = c.in_ok-answer.answer.1 } in r) c.self.view_is
+
+pub count_call-requires-clause-start : goal.count_call-requires-clause-start
+count_call-requires-clause-start c = c.self.invariant.pass
+
+pub count_call-requires-clause-calls : goal.count_call-requires-clause-calls
+count_call-requires-clause-calls c =
+    calls_before (goal.at.count_call-requires-clause-calls c).After-receipt_of-receipt ∙ sym (ap (λ (t : CallingTerms). t.was.calls) c.self.view_is)
+
+pub count_call-requires-clause-made : goal.count_call-requires-clause-made
+count_call-requires-clause-made c =
+    let ended = (goal.at.count_call-requires-clause-made c).After-receipt_of-receipt in
+    let b : BookTerms = c.args.board.now.book in
+    let after = pass_of c.turn-paid.new.seat (rest_after ended) in
+    subst (λ (t : CallingTerms). CallMade b (pass_before t) after c.receipt_of-receipt.result.call c.receipt_of-receipt.result) (sym c.self.view_is)
+    (subst (λ (r : Receipt). CallMade b (pass_before c.args.self.now) after r.call r) (sym (same_receipt ended))
+    (made-Leaves b c.args.self.now c.turn-paid.new.seat (rest_after ended) c.turn-paid.new.self.turns (share_exchanges_made c.turn-paid.new.self) (receipt ended) (leaves ended)))
 
 -- the call goes on
 pub invariant_of-self : goal.invariant_of-self
@@ -137,8 +165,8 @@ invariant_of-self c =
 -- the call is answered
 pub invariant_of-self-2 : goal.invariant_of-self-2
 invariant_of-self-2 c =
-    let ended = (goal.at.invariant_of-self-2 c).After-count_one in
-    let known = (goal.at.After-count_one ended).After-known in
+    let ended = (goal.at.invariant_of-self-2 c).After-receipt_of-receipt in
+    let known = (goal.at.After-receipt_of-receipt ended).After-known in
     let first = (goal.at.After-known known).After-self in
     let t : CallingTerms = c.args.self.now in
     let q : PayingSharedTerms = c.turn-paid.new.self in
@@ -154,13 +182,14 @@ invariant_of-self-2 c =
 
 pub returns-clause-turned : goal.returns-clause-turned
 returns-clause-turned c =
-    let ended = (goal.at.returns-clause-turned c).After-count_one in
-    let known = (goal.at.After-count_one ended).After-known in
+    let ended = (goal.at.returns-clause-turned c).After-receipt_of-receipt in
+    let known = (goal.at.After-receipt_of-receipt ended).After-known in
     let b : BookTerms = c.args.board.now.book in
     let next : CallingTerms = calling_next (calling_of c.self.inside) (PayShared c.turn-paid.new.self) c.of.result.value c.of-3.result.value in
-    let same : c.receipt_of.result ≡ receipt ended =
-    c.receipt_of.ensures
-    ∙ ap (λ (s : CallingTerms). let r : Receipt = record { call = s.call; reply = c.in_ok-answer.answer.0; at = c.in_ok-answer.answer.1 } in r) c.self.view_is in
-    subst (λ (r : Receipt). TakesCallTurn b c.args.overview.now.seen c.args.self.now next c.args.seat.now c.turn-paid.new.seat (rest_after ended) (Some r)) (sym same)
-    (turned known c.of.result.value c.of.ensures (rest_after ended) refl c.of-3.result.value c.of-3.ensures (Some (receipt ended))
-    (λ some. c.in_ok-answer.ensures.ends.0 refl, λ none. refl) (leaves ended) (calls_after ended))
+    let now : Rest = c.count_call.new.self in
+    let is : now ≡ rest_after ended = c.count_call.ensures in
+    subst (λ (r : Receipt). TakesCallTurn b c.args.overview.now.seen c.args.self.now next c.args.seat.now c.turn-paid.new.seat now (Some r)) (sym (same_receipt ended))
+    (turned known c.of.result.value c.of.ensures now (ap (λ (q : Rest). q.totals) is) c.of-3.result.value c.of-3.ensures (Some (receipt ended))
+    (λ some. c.in_ok-answer.ensures.ends.0 refl, λ none. refl)
+    (subst (λ (q : Rest). Leaves b c.args.self.now c.turn-paid.new.seat q c.turn-paid.new.self.turns (share_exchanges_made c.turn-paid.new.self) (receipt ended)) (sym is) (leaves ended))
+    (ap (λ (q : Rest). q.calls) is ∙ calls_after ended))

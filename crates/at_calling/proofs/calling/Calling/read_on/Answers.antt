@@ -1,8 +1,8 @@
 use Rattle.std.proofs.Common.{◌≡◌, ◌<◌, ◌↔◌, IfSome, IsSome, Option, None, Some, false, true, refl, sym, ap, subst, ◌∙◌, arith}
-use Rattle.at_calling.proofs.Prelude.{sum, BookTerms, AreRuns, IsPrefix, raised, SeatTerms, Knowledge, TotalSums, Receipt, Rest, with_one_call, CallingTerms, MakesCallStep, call_turns_left, exchanges_made, steps_made, IsCallingSo, TakesCallTurn, calling_of, ReadingTerms, CallStage}
+use Rattle.at_calling.proofs.Prelude.{sum, BookTerms, AreRuns, IsPrefix, raised, SeatTerms, Knowledge, TotalSums, Receipt, Rest, after_one_call, pass_of, CallMade, with_one_call, CallingTerms, MakesCallStep, call_turns_left, exchanges_made, pass_before, steps_made, IsCallingSo, TakesCallTurn, calling_of, IsReadOf, LeavesTotals, ReadingTerms, CallStage}
 use Rattle.at_calling.specs.declared.call_stage.CallStage.TheVariants.{Read}
-use Rattle.at_calling.proofs.CallingTurns.{Leaves, TakesCallTurn-stages, calling_next, Leaves-read, few-read, still-read}
-use Rattle.at_calling.proofs.calling.Calling.read_on.Goals.{After-known, After-count_one, After-self}
+use Rattle.at_calling.proofs.CallingTurns.{Leaves, TakesCallTurn-stages, calling_next, Leaves-read, few-read, made-Leaves, still-read}
+use Rattle.at_calling.proofs.calling.Calling.read_on.Goals.{After-known, After-self}
 use Rattle.at_calling.proofs.calling.Calling.read_on.Goals as goal
 
 -- the call before the turn
@@ -41,7 +41,7 @@ turned : (c : After-known) (mark : SeatTerms) → mark ≡ c.turn-read.new.seat 
     → rest ≡ now → (answer : Option Receipt)
     → (IsSome answer ↔ (call_turns_left c.args.board.now.book (Read c.turn-read.new.self) ≡ 0))
     → IfSome answer (Leaves c.args.board.now.book c.args.self.now c.turn-read.new.seat now c.turn-read.new.self.looking.turns 0)
-    → IfSome answer (λ r. now.calls ≡ with_one_call c.args.self.now.was.calls)
+    → IfSome answer (λ r. now.calls ≡ with_one_call c.turn-read.new.seat c.args.self.now.was.calls)
     → TakesCallTurn c.args.board.now.book c.args.overview.now.seen c.args.self.now (calling_next (calling_of c.self.inside)
     (Read c.turn-read.new.self) mark rest) c.args.seat.now c.turn-read.new.seat now answer
 turned c mark mark_is now totals_are rest rest_is answer ends leaves calls =
@@ -71,31 +71,60 @@ returns-in_err-receipt-clause-turned c =
       λ none. let wrong : false ≡ true = c.in_err-receipt.ensures.ends.1 none in absurd (cc wrong),
     ) tt tt)
 
-abbrev rest_after : After-count_one → Rest
-rest_after c = record { totals = c.turn-read.new.totals; sent = c.args.rest.now.sent; calls = c.count_one.new.self }
+-- the rest of the pass before the call is counted, and after
+abbrev rest_before : After-known → Rest
+rest_before c = record { totals = c.turn-read.new.totals; sent = c.args.rest.now.sent; calls = c.args.rest.now.calls }
 
-calls_after : (c : After-count_one) → (rest_after c).calls ≡ with_one_call c.args.self.now.was.calls
-calls_after c =
-    let known = (goal.at.After-count_one c).After-known in
-    let first = (goal.at.After-known known).After-self in
-    c.count_one.ensures
-    ∙ (ap (λ (q : Rest). with_one_call q.calls) c.requires.rest
-    ∙ ap with_one_call (still-read c.args.board.now c.args.self.now (so first) c.args.seat.now c.requires.mark c.requires.board c.turn-read.new.seat c.turn-read.ensures.board
-    c.in-Read.reading (stage_is known) (left known)).calls_are)
+abbrev rest_after : After-known → Rest
+rest_after c = after_one_call c.turn-read.new.seat (rest_before c)
 
-leaves : (c : After-count_one)
-    → Leaves c.args.board.now.book c.args.self.now c.turn-read.new.seat (rest_after c) c.turn-read.new.self.looking.turns 0 c.in_ok-receipt.receipt
-leaves c =
-    let known = (goal.at.After-count_one c).After-known in
-    let first = (goal.at.After-known known).After-self in
-    let told = c.in_ok-receipt.ensures in
+calls_before : (c : After-known) → c.args.rest.now.calls ≡ c.args.self.now.was.calls
+calls_before c =
+    let first = (goal.at.After-known c).After-self in
+    ap (λ (q : Rest). q.calls) c.requires.rest
+    ∙ (still-read c.args.board.now c.args.self.now (so first) c.args.seat.now c.requires.mark c.requires.board c.turn-read.new.seat c.turn-read.ensures.board
+    c.in-Read.reading (stage_is c) (left c)).calls_are
+
+calls_after : (c : After-known) → (rest_after c).calls ≡ with_one_call c.turn-read.new.seat c.args.self.now.was.calls
+calls_after c = ap (with_one_call c.turn-read.new.seat) (calls_before c)
+
+-- what the answer leaves
+leaves : (c : After-known) (receipt : Receipt)
+    → IsReadOf c.args.board.now.book c.in-Read.reading.looking.start c.turn-read.new.seat.knows c.in-Read.reading.account receipt
+    → LeavesTotals c.args.board.now.book c.in-Read.reading.looking.start c.turn-read.new.seat.knows c.in-Read.reading.looking.was c.turn-read.new.totals 0
+    c.turn-read.new.self.looking.turns
+    → Leaves c.args.board.now.book c.args.self.now c.turn-read.new.seat (rest_after c) c.turn-read.new.self.looking.turns 0 receipt
+leaves c receipt read totals =
+    let first = (goal.at.After-known c).After-self in
     Leaves-read c.args.board.now c.args.self.now (so first) c.args.seat.now c.requires.mark c.requires.board c.turn-read.new.seat c.turn-read.ensures.board
-    c.in-Read.reading (stage_is known) (left known) (rest_after c) c.turn-read.new.self.looking.turns c.in_ok-receipt.receipt
-    c.known.ensures.seat told.answer told.leaves c.turn-read.ensures.counted (ap (λ (q : Rest). q.sent) c.requires.rest) (calls_after c)
+    c.in-Read.reading (stage_is c) (left c) (rest_after c) c.turn-read.new.self.looking.turns receipt
+    c.known.ensures.seat read totals c.turn-read.ensures.counted (ap (λ (q : Rest). q.sent) c.requires.rest) (calls_after c)
+
+-- it may be counted
+pub count_call-requires-clause-start : goal.count_call-requires-clause-start
+count_call-requires-clause-start c = c.self.invariant.pass
+
+pub count_call-requires-clause-calls : goal.count_call-requires-clause-calls
+count_call-requires-clause-calls c =
+    calls_before (goal.at.count_call-requires-clause-calls c).After-known ∙ sym (ap (λ (t : CallingTerms). t.was.calls) c.self.view_is)
+
+pub count_call-requires-clause-made : goal.count_call-requires-clause-made
+count_call-requires-clause-made c =
+    let known = (goal.at.count_call-requires-clause-made c).After-known in
+    let told = c.in_ok-receipt.ensures in
+    let r : Receipt = c.in_ok-receipt.receipt in
+    subst (λ (t : CallingTerms). CallMade c.args.board.now.book (pass_before t) (pass_of c.turn-read.new.seat (rest_after known)) r.call r) (sym c.self.view_is)
+    (made-Leaves c.args.board.now.book c.args.self.now c.turn-read.new.seat (rest_after known) c.turn-read.new.self.looking.turns 0 r
+    (leaves known r told.answer told.leaves))
 
 pub returns-clause-turned : goal.returns-clause-turned
 returns-clause-turned c =
-    let ended = (goal.at.returns-clause-turned c).After-count_one in
-    let known = (goal.at.After-count_one ended).After-known in
-    turned known c.of.result.value c.of.ensures (rest_after ended) refl c.of-3.result.value c.of-3.ensures (Some c.in_ok-receipt.receipt)
-    (λ some. c.in_ok-receipt.ensures.ends.0 refl, λ none. refl) (leaves ended) (calls_after ended)
+    let known = (goal.at.returns-clause-turned c).After-known in
+    let told = c.in_ok-receipt.ensures in
+    let r : Receipt = c.in_ok-receipt.receipt in
+    let now : Rest = c.count_call.new.self in
+    let is : now ≡ rest_after known = c.count_call.ensures in
+    turned known c.of.result.value c.of.ensures now (ap (λ (q : Rest). q.totals) is) c.of-3.result.value c.of-3.ensures (Some r)
+    (λ some. c.in_ok-receipt.ensures.ends.0 refl, λ none. refl)
+    (subst (λ (q : Rest). Leaves c.args.board.now.book c.args.self.now c.turn-read.new.seat q c.turn-read.new.self.looking.turns 0 r) (sym is)
+    (leaves known r told.answer told.leaves)) (ap (λ (q : Rest). q.calls) is ∙ calls_after known)

@@ -1,8 +1,23 @@
-use Rattle.std.proofs.Common.{◌≡◌, Some, refl, sym, ap, subst, ◌∙◌, arith}
-use Rattle.at_calling.proofs.Prelude.{AreRuns, BookTerms, Reply, SeatTerms, At, Previous, Receipt, with_one_call, Rest, CallingTerms, exchanges_made, pass_before, steps_made, IsCallingSo, TakesCallTurn, calling_of, CallStage, Refuse, Refused}
-use Rattle.at_calling.proofs.CallingTurns.{IsCallWithin-none, Leaves, Leaves-refused, TakesCallTurn-stages, begins-refused, calling_next, undecided-refused, was-refused}
+use Rattle.std.proofs.Common.{◌≡◌, ℕ, Some, refl, sym, ap, subst, ◌∙◌, arith}
+use Rattle.at_calling.proofs.Prelude.{AreRuns, BookTerms, Reply, SeatTerms, At, Previous, Receipt, with_one_call, after_one_call, pass_of, refusal_of, IsOfOnePass, Rest, CallingTerms, exchanges_made, pass_before, steps_made, IsCallingSo, TakesCallTurn, calling_of, CallStage, Refuse, Refused}
+use Rattle.at_calling.proofs.CallingTurns.{IsCallWithin-none, Leaves, Leaves-refused, TakesCallTurn-stages, begins-refused, calling_next, pass-refused, source-refused, undecided-refused, was-refused}
 use Rattle.at_calling.proofs.calling.Calling.refuse.Goals.{After-self}
 use Rattle.at_calling.proofs.calling.Calling.refuse.Goals as goal
+
+-- the call that is refused is counted for the pass, and for its account
+pub refuse-answer-requires-clause-pass : goal.refuse-answer-requires-clause-pass
+refuse-answer-requires-clause-pass c =
+    let t : CallingTerms = c.args.self.now in
+    let so : IsCallingSo t = subst IsCallingSo c.self.view_is c.self.invariant in
+    subst (IsOfOnePass c.args.seat.now) (sym c.requires.rest)
+    (pass-refused c.args.board.now t so c.args.seat.now c.requires.mark c.requires.board c.args.reply c.requires.stage)
+
+pub refuse-answer-requires-clause-refused : goal.refuse-answer-requires-clause-refused
+refuse-answer-requires-clause-refused c =
+    let t : CallingTerms = c.args.self.now in
+    let so : IsCallingSo t = subst IsCallingSo c.self.view_is c.self.invariant in
+    subst (λ (q : Rest). (source : ℕ) × (refusal_of c.args.board.now.book (pass_of c.args.seat.now q) source ≡ Some c.args.reply)) (sym c.requires.rest)
+    (source-refused c.args.board.now t so c.args.seat.now c.requires.mark c.requires.board c.args.reply c.requires.stage)
 
 pub returns : goal.returns
 returns c = λ seen.
@@ -11,8 +26,7 @@ returns c = λ seen.
     let seat : SeatTerms = c.args.seat.now in
     let so : IsCallingSo t = subst IsCallingSo c.self.view_is c.self.invariant in
     let now : Rest = c.refuse-answer.new.self in
-    let now_is : now ≡ record t.rest { calls = with_one_call t.rest.calls } =
-    c.refuse-answer.ensures.rest ∙ ap (λ (q : Rest). record q { calls = with_one_call q.calls }) c.requires.rest in
+    let now_is : now ≡ after_one_call seat t.rest = c.refuse-answer.ensures.rest ∙ ap (after_one_call seat) c.requires.rest in
     let r : Receipt = record { call = t.call; reply = c.args.reply; at = Previous } in
     let receipt : c.receipt_of.result ≡ r =
     c.receipt_of.ensures
@@ -33,6 +47,6 @@ returns c = λ seen.
     (undecided-refused c.args.board.now t so seat c.requires.mark c.requires.board c.args.reply c.requires.stage) (omega arith) (omega arith)) (λ some. refl, λ none. refl)
     (begins-refused c.args.board.now t so seat c.requires.mark c.requires.board c.args.reply c.requires.stage)
     (subst (λ (k : BookTerms). AreRuns k seat.knows.seen) c.requires.board.book c.known.ensures.seat.history.runs) refl leaves
-    (ap (λ (q : Rest). q.calls) now_is ∙ ap (λ (q : Rest). with_one_call q.calls) was)
+    (ap (λ (q : Rest). q.calls) now_is ∙ ap (λ (q : Rest). with_one_call seat q.calls) was)
     (omega (arith, so.steps, ap (λ (s : SeatTerms). s.steps) c.requires.mark, ap steps_made c.requires.stage))
     (omega (arith, so.exchanges, ap (λ (s : SeatTerms). s.exchanges) c.requires.mark, ap exchanges_made c.requires.stage)))))

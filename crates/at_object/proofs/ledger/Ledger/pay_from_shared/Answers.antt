@@ -72,9 +72,7 @@ invariant_of-pass c =
     let here = slot c in
     let was = c.pass.inside.rest in
     let call = Pay c.args.source c.args.targets.now in
-    IsOfOnePass-counted c.pass.inside.seat c.pay_shared-paid.new.seat was (rest_after c) c.pass.invariant
-    (told.board.id ∙ sym (ap (λ (t : PassTerms). t.board) c.pass.view_is ∙ (c.requires.pass.id ∙ sym (ap (λ (t : BoardTerms). t.id) c.self.view_is))))
-    told.process c.count_one.ensures
+    IsOfOnePass-counted c.pay_shared-paid.new.seat was (rest_after c) c.count_one.ensures
     (IsPass-round c.self.inside.board.book c.pass.inside.seat.knows c.pay_shared-paid.new.seat.knows c.known.ensures.seat c.known-2.ensures.seat (book c)
     told.board.book was.totals was.sent c.pass.invariant.pass c.args.source here.0 here.1 call (receipt_of c call) (paid c call refl)
     c.pay_shared-paid.new.totals told.counted told.own_counted)

@@ -1,6 +1,6 @@
 use Rattle.std.proofs.Common.{◌≡◌, false, Some, length, refl, sym, ap, subst, ◌∙◌, arith}
 use Rattle.at_object.proofs.Prelude.{BookTerms, Call, Pay, owns_of, BoardTerms, asking_on, own_part, Asking, Knowledge, payout_of, Receipt, PaysAlone, PaymentMade, pass_of, IsPass, PassTerms, has_used_up, Rest, IsOnlyOwner}
-use Rattle.at_object.proofs.Laws.Alone.{IsPass-alone, asking-alone, process-alone}
+use Rattle.at_object.proofs.Laws.Alone.{IsPass-alone, asking-alone}
 use Rattle.at_object.proofs.Laws.Made.{PaymentMade-alone, others-le}
 use Rattle.at_object.proofs.Laws.OnePass.{IsOfOnePass-counted}
 use Rattle.at_object.proofs.Laws.Room.{sent-room}
@@ -83,10 +83,7 @@ invariant_of-pass c =
     let told = c.pay_single-paid.ensures in
     let p = paid c (paying c) refl in
     let was = c.pass.inside.rest in
-    IsOfOnePass-counted c.pass.inside.seat c.pay_single-paid.new.seat was (rest_after c) c.pass.invariant
-    (told.board.id ∙ sym (ap (λ (t : PassTerms). t.board) c.pass.view_is ∙ (c.requires.pass.id ∙ sym (ap (λ (t : BoardTerms). t.id) c.self.view_is))))
-    (process-alone c.self.inside.board.book c.pass.inside.seat.knows c.pay_single-paid.new.seat.knows c.known.ensures.seat c.known-2.ensures.seat (book c)
-    told.board.book was.totals was.sent c.pass.invariant.pass c.args.source c.args.targets.now (paying c) (receipt_of c (paying c)) p)
+    IsOfOnePass-counted c.pay_single-paid.new.seat was (rest_after c)
     c.count_one.ensures
     (subst (IsPass c.pay_single-paid.new.seat.knows c.pay_single-paid.new.totals) (sym c.sent_after-pass-inside.ensures)
     (IsPass-alone c.self.inside.board.book c.pass.inside.seat.knows c.pay_single-paid.new.seat.knows c.known.ensures.seat c.known-2.ensures.seat (book c)

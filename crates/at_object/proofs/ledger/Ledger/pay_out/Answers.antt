@@ -21,6 +21,10 @@ why c =
     ∙ (sym (ap (λ (t : BoardTerms). refusal_of t.book (pass_of c.pass.inside.seat c.pass.inside.rest) c.args.source) c.self.view_is)
     ∙ (sym c.refusal.ensures ∙ c.in-Some.is))
 
+-- for the account that is asked for
+pub refuse-requires-clause-refused : goal.refuse-requires-clause-refused
+refuse-requires-clause-refused c = (c.args.source, sym c.refusal.ensures ∙ c.in-Some.is)
+
 pub returns-in-Some-clause-made : goal.returns-in-Some-clause-made
 returns-in-Some-clause-made c = λ call payout.
     let b : BookTerms = c.args.self.now.book in

@@ -1,7 +1,8 @@
 use Rattle.std.proofs.Common.{rules, ◌≡◌, ℕ, ◌+◌, ◌-◌, ◌≤◌, ◌*◌, ◌++◌, List, [], ◌∷◌, sym, ap, subst, ◌∙◌, arith, length}
-use Rattle.at_object.proofs.Prelude.{get_or-le-sum_by, Balance, balance_after, place, prefix_of, owns_of, BoardTerms, SeatTerms, Asking, Knowledge, RECORD_WORDS, StandsBehind-cut, length-prefix_of-le, IsPlaced, is_at_own, is_at_round, Told, key_of, Receipt, PassTerms, Stands, others_counted, sent_by, Rest, asking_on-HasLoaded, decides_on, StandsAfter, IsSnapshot, snapshot_steps, cut_behind}
+use Rattle.at_object.proofs.Prelude.{get_or-le-sum_by, Balance, balance_after, place, prefix_of, owns_of, BoardTerms, SeatTerms, Asking, Knowledge, RECORD_WORDS, StandsBehind-cut, length-prefix_of-le, IsPlaced, is_at_own, is_at_round, look_at, Told, key_of, Receipt, PassTerms, Stands, others_counted, sent_by, Rest, asking_on-HasLoaded, decides_on, StandsAfter, IsSnapshot, snapshot_steps, cut_behind}
 use Rattle.std.specs.Prelude.{slice_index, sum}
 use Rattle.at_object.proofs.Laws.Looked.{IsPass-HasLoaded, Told-HasLoaded, owns_of-HasLoaded}
+use Rattle.at_object.proofs.Laws.Looks.{look-Cut, place-IsSnapshot}
 use Rattle.at_object.proofs.Laws.OnePass.{IsOfOnePass-counted}
 use Rattle.at_object.proofs.Laws.Within.{read_or_refused}
 use Rattle.at_object.proofs.ledger.Ledger.read.Goals.{After-known-2}
@@ -17,9 +18,7 @@ invariant_of-pass c =
     ap (λ (t : Knowledge). t.book) same ∙ (c.requires.pass.book ∙ sym (ap (λ (t : BoardTerms). t.book) c.self.view_is)) in
     let was = c.pass.inside.rest in
     let now : Rest = record was { totals = c.read_account-receipt.new.totals; calls = c.count_one.new.self } in
-    IsOfOnePass-counted c.pass.inside.seat c.read_account-receipt.new.seat was now c.pass.invariant
-    (told.board.id ∙ sym (ap (λ (t : PassTerms). t.board) c.pass.view_is ∙ (c.requires.pass.id ∙ sym (ap (λ (t : BoardTerms). t.id) c.self.view_is))))
-    (ap (λ (t : Knowledge). t.first) told.at_cut.loads.same) c.count_one.ensures
+    IsOfOnePass-counted c.read_account-receipt.new.seat was now c.count_one.ensures
     (IsPass-HasLoaded c.self.inside.board.book v c.read_account-receipt.new.seat.knows c.known.ensures.seat c.known-2.ensures.seat book told.board.book
     told.at_cut.loads was.totals c.read_account-receipt.new.totals was.sent c.pass.invariant.pass told.counted told.own_counted)
 
@@ -42,6 +41,20 @@ after_seen c = λ previous.
       arith,
       c.read_account-receipt.ensures.after_cut previous,
       length-prefix_of-le cut c.pass.inside.seat.knows.seen w.seen c.read_account-receipt.ensures.snapshot.begins,
+      ap (λ (t : PassTerms). length t.knows.seen) c.pass.view_is,
+    )
+
+-- and its look has seen all of that
+looked : (c : After-known-2) → let w : Knowledge = c.read_account-receipt.new.seat.knows in
+    length c.args.pass.now.knows.seen ≤ look_at w.first w.seen c.read_account-receipt.result.at
+looked c =
+    let told = c.read_account-receipt.ensures in
+    let w : Knowledge = c.read_account-receipt.new.seat.knows in
+    let at = c.read_account-receipt.result.at in
+    omega (
+      arith,
+      place-IsSnapshot c.self.inside.board.book c.pass.inside.seat.knows w (cut_behind w at) told.snapshot,
+      look-Cut w at told.at_cut.at_cut,
       ap (λ (t : PassTerms). length t.knows.seen) c.pass.view_is,
     )
 
@@ -127,6 +140,7 @@ returns-clause-made c =
       placed = λ earlier _. placed d earlier;
       stands = stands d;
       after_seen = after_seen d;
+      looked = looked d;
       begins = search rules;
       history = search rules;
       process_is = search rules;

@@ -1,6 +1,6 @@
 -- The keys and looks of receipts that stay while more receipts come and more is seen.
 use Rattle.std.proofs.Common.{◌≡◌, ℕ, zero, suc, ◌*◌, ◌<◌, ◌≤◌, List, [], ◌∷◌, ◌++◌, length, slice_index, take, refl, sym, ap, subst, ◌∙◌, arith}
-use Rattle.at_stepper.proofs.Prelude.{get_or_append_left, length-take, BookTerms, TargetPair, keys_of-IsPrefix, keys_of-le, get_or-publications_of, place-IsCut-le, ArePublishedBy-IsHistory, ArePublishedBy-take, publications_of-IsPrefix, publication_at, place, IsHistory, IsShownDecision, IsPrefix, no_publication, publications_of, Publication, length-keys_from, own_position-at, look_at, IsAtCut, IsAtOwn, IsAtRound, IsPlaced, read, not_owner, full, short, done, round, receipt_at, Told, key_of, keys_from, keys_of, own_position, Receipt}
+use Rattle.at_object.proofs.Prelude.{get_or_append_left, length-take, BookTerms, TargetPair, keys_of-IsPrefix, keys_of-le, get_or-publications_of, place-IsCut-le, ArePublishedBy-IsHistory, ArePublishedBy-take, publications_of-IsPrefix, publication_at, place, IsHistory, IsShownDecision, IsPrefix, no_publication, publications_of, Publication, length-keys_from, own_position-at, look_at, IsAtCut, IsAtOwn, IsAtRound, IsPlaced, read, not_owner, full, short, done, round, receipt_at, Told, key_of, keys_from, keys_of, own_position, Receipt}
 
 -- more receipts change no key of the earlier ones
 keys_from-append : (p : ℕ) (list : List Publication) (previous : ℕ) (receipts more : List Receipt) (i : ℕ) → i < length receipts
