@@ -316,7 +316,7 @@ class Book:
     def texts(self):
         """The text of each file."""
         lines = {"book": ["book,2", ",".join(["processes", *self.processes]), f"limits,{self.rooms[0]},{self.rooms[1]}"]}
-        lines |= {name: [] for name in self.processes}
+        lines |= {name: [f"process,{name}"] for name in self.processes}
         for name in self.accounts:
             owners = " ".join(process for process in self.processes if process in self.owners.get(name, []))
             lines["book"].append(f"account,{name},{self.openings[name]},{owners}")
@@ -334,7 +334,7 @@ class Book:
             if self.openings[name] or self.least[name]:
                 yield f"  {name} {self.openings[name]}" + f", of {self.least[name]} needed" * (self.openings[name] < self.least[name])
         files = shlex.join(str(self.asked.to / f"{name}.csv") for name in ["book", *self.processes])
-        yield from (f"./bezglami {command} {files}" for command in ("kinds", "orders"))
+        yield from (f"./bezglami {command} {files}" for command in ("kinds", "needs", "orders"))
 
     def write(self):
         """Writes the files, all of them or none."""

@@ -53,15 +53,24 @@ def printed_by(folder, command, name):
     return book, [model.read_file(book, text) for text in texts[1:]], answer.out.decode()
 
 
+def takes(folder, text):
+    """Whether a journal is taken by hledger and by ledger-cli, each where it is there, with every account declared."""
+    journal = folder.path / folder.write("journal", text)
+    taken = True
+    for words in (["hledger", "-f", f"journal:{journal}", "check", "accounts"], ["ledger", "--pedantic", "-f", str(journal), "balance"]):
+        if not shutil.which(words[0]):
+            folder.missing.add(f"journals by {words[0]} itself, which isn't there")
+        else:
+            answer = subprocess.run(words, check=False, capture_output=True)
+            taken = taken and answer.returncode == 0 and not answer.stderr
+    return taken
+
+
 def adds_up(folder, name):
-    """The journal of an example adds up, by the plain ledger, and by hledger where that is there."""
+    """The journal of an example adds up, by the plain ledger, and by other programs where they are there."""
     book, files, text = printed_by(folder, "ledger", name)
     model.is_ledger(book, files, text)
-    if not shutil.which("hledger"):
-        folder.missing.add("journals by hledger itself, which isn't there")
-    else:
-        journal = folder.path / folder.write("journal", text)
-        subprocess.run(["hledger", "-f", f"journal:{journal}", "check"], check=True, capture_output=True)
+    is_true(takes(folder, text), "it isn't taken")
 
 
 def has_costs(folder, name):
@@ -96,6 +105,17 @@ def forged_read(folder):
     is_true(False, "it isn't found")
 
 
+def forged_payment(folder):
+    """A payment of which the journal tells another amount is found, though nobody reads its accounts."""
+    book, files, text = printed_by(folder, "ledger", "usual")
+    parts = text.split("\n\n")
+    unread = "\n\n".join(part for part in parts if " read\n" not in part)
+    forged = unread.replace("  -30\n", "  -31\n").replace("  30\n", "  31\n")
+    is_true(takes(folder, unread), "a right text is refused")
+    is_true(forged != unread, "nothing is forged")
+    is_true(shutil.which("hledger") is None and shutil.which("ledger") is None or not takes(folder, forged), "it isn't found")
+
+
 def cases():
     """The cases."""
     yield Case("the example usual", same, "run", "usual", "usual/usual.report")
@@ -114,6 +134,7 @@ def cases():
     yield Case("a forged report", forged_report)
     yield Case("a forged bound is found", forged_bound)
     yield Case("a forged read does not add up", forged_read)
+    yield Case("a forged payment that nobody reads does not add up", forged_payment)
     # A schedule fixes the order of the steps, so the report is the same at each run.
     for name in sorted(folder.name for folder in (EXAMPLES / "replay").iterdir() if folder.is_dir()):
         yield Case(f"the example replay/{name}, once", by_turns, "replay", name, "report")

@@ -4,6 +4,8 @@ what was made."""
 import os
 import random
 import shlex
+import shutil
+import subprocess
 import sys
 import time
 
@@ -32,9 +34,9 @@ def put(folder, content, beside):
 
 def takes(folder, told):
     """The built program takes what was made, by the commands that were told."""
-    kinds, orders = (shlex.split(line) for line in told.decode().splitlines()[-2:])
+    kinds, *later = (shlex.split(line) for line in told.decode().splitlines()[-3:])
     is_true(kinds[:2] == ["./bezglami", "kinds"], f"it tells {kinds}")
-    is_true(orders == ["./bezglami", "orders", *kinds[2:]], f"it tells {orders}")
+    is_true(later == [["./bezglami", command, *kinds[2:]] for command in ("needs", "orders")], f"it tells {later}")
     book, *files = [folder.read(word).decode() for word in kinds[2:]]
     book = model.read_book(book)
     files = [model.read_file(book, file) for file in files]
@@ -51,7 +53,7 @@ def makes(folder, content, words, wanted, beside=None, told=""):
     answer = imports(folder, "paid.csv", "--to", "made", *words)
     expect(answer, 0, answer.out, b"")
     for name, text in wanted.items():
-        same(folder.read(f"made/{name}.csv"), text)
+        same(folder.read(f"made/{name}.csv"), text if name == "book" else f"process,{name}\n{text}")
     names = sorted(path.name for path in (folder.path / "made").iterdir())
     is_true(names == sorted(f"{name}.csv" for name in wanted), f"it makes {names}")
     is_true(told.encode() in answer.out, f"it says {answer.out!r}")
@@ -327,13 +329,13 @@ def largest(folder):
     expect(answer, 0, answer.out, b"")
     is_true(took < MOST_SECONDS, f"it took {took:.0f} seconds")
     written = {path.stem: path.read_text("ascii").count("\n") for path in (folder.path / "made").iterdir()}
-    is_true(len(written) == 17 and sum(written.values()) - written["book"] == 200000, f"it makes {written}")
+    is_true(len(written) == 17 and sum(written.values()) - written["book"] == 200000 + 16, f"it makes {written}")
     takes(folder, answer.out)
     return f"{took:.1f} seconds"
 
 
 def example(folder, name, *words):
-    """An export of the example makes what stands beside it, and what `kinds` and `orders` print of that stands there too."""
+    """An export of the example makes what stands beside it, and what the commands that it tells print of that stands there too."""
     words = ["--joint", "export/joint.csv", "--openings", "export/openings.csv", *words]
     answer = imports(folder, f"export/{name}.csv", "--to", "made", *words)
     expect(answer, 0, answer.out, b"")
@@ -341,7 +343,7 @@ def example(folder, name, *words):
         same(folder.read(f"made/{path.name}"), path.read_bytes())
     takes(folder, answer.out)
     if PATHS["at_program"].exists():
-        for line in answer.out.decode().splitlines()[-2:]:
+        for line in answer.out.decode().splitlines()[-3:]:
             command, *files = shlex.split(line)[1:]
             printed(folder.run(command, *files), (EXAMPLES / "export" / f"export.{command}").read_bytes())
 
@@ -379,6 +381,32 @@ def guide(folder):
     answer = folder.run(*words, program=ROOT / "bezglami")
     expect(answer, 0, answer.out, b"")
     is_true(f"```\n{answer.out.decode()}```\n" in text, f"it says {answer.out!r}")
+
+
+JOURNAL = """2026-01-02 * (ann) Flat | rent
+    assets:joint      -600.00 EUR
+    expenses:rent
+
+2026-01-03 (bob) shop
+    assets:bob:cash    -12.50 EUR
+    expenses:food       10.00 EUR
+    expenses:fees
+"""
+
+
+def by_hledger(folder):
+    """What hledger itself writes of a journal is taken."""
+    if not shutil.which("hledger"):
+        folder.missing.add("an export by hledger itself, which isn't there")
+        return
+    written = ["hledger", "-f", folder.path / folder.write("paid.journal", JOURNAL), "print", "-x", "-O", "csv"]
+    export = subprocess.run(written, check=True, capture_output=True).stdout
+    makes(folder, export, ["--payer", "code", "--joint", "joint.csv"], {
+        "book": book_of("ann,bob", "1,1", "assets-joint,60000,ann bob", "expenses-rent,0,", "assets-bob-cash,1250,bob",
+            "expenses-food,0,", "expenses-fees,0,"),
+        "ann": pays("assets-joint,expenses-rent,60000"),
+        "bob": "pay,assets-bob-cash,expenses-food,1000,expenses-fees,250\n",
+    }, {"joint.csv": "assets:joint,ann bob\n"})
 
 
 def by_script(folder):
@@ -425,5 +453,6 @@ def cases():
     yield Case("the example", example, "payments")
     yield Case("the example in German", example, "zahlungen", "--decimal", ",", "--thousands", ".")
     yield Case("the guide", guide)
+    yield Case("what hledger writes", by_hledger)
     yield Case("by the script", by_script)
     yield Case("words and folders", without)

@@ -47,9 +47,9 @@ def read_book(text):
 
 
 def read_file(book, text):
-    """The calls of a plain file."""
+    """The calls of a plain file, whose first record may name its process."""
     numbers = {account.name: a for a, account in enumerate(book.accounts)}
-    records = (line.split(",") for line in text.split("\n") if line)
+    records = (line.split(",") for line in text.split("\n") if line and not line.startswith("process,"))
     return [Call(word, numbers[name], [(numbers[t], int(a)) for t, a in zip(rest[::2], rest[1::2])]) for word, name, *rest in records]
 
 
@@ -104,10 +104,13 @@ def report_text(book, journal, balances):
     return lines(f"journal {len(calls)}", *calls, f"balances {len(left)}", *left, f"total {sum(balances)}")
 
 
-def ledger_text(book, journal):
-    """The journal for hledger."""
+def ledger_text(book, journal, balances):
+    """The journal for hledger of lines and their last balances."""
     names = [f"    account:{account.name}  " for account in book.accounts]
-    texts = [lines("1970-01-01 openings", *(f"{n}{a.opening}" for n, a in zip(names, book.accounts)), "    equity:openings")]
+    texts = [
+        lines(*(f"account account:{account.name}" for account in book.accounts), "account equity:openings"),
+        lines("1970-01-01 openings", *(f"{n}{a.opening}" for n, a in zip(names, book.accounts)), "    equity:openings"),
+    ]
     for line in journal:
         who, call = f"{book.processes[line.process]} {line.number}", line.call
         if call.word == "read":
@@ -117,6 +120,7 @@ def ledger_text(book, journal):
             texts.append(lines(f"1970-01-01 {who} {call.word}", paid, *(f"{names[a]}{amount}" for a, amount in call.pairs)))
         else:
             texts.append(lines(f"; {who} {' '.join(call_fields(book, call))} {line.answer}"))
+    texts.append(lines("1970-01-01 balances", *(f"{n}0 = {balance}" for n, balance in zip(names, balances))))
     return "\n".join(texts)
 
 
@@ -136,10 +140,10 @@ def is_report(book, files, text):
 
 
 def is_ledger(book, files, text):
-    """A journal for hledger is that of its own order: so every transaction adds up to 0, no balance falls below it, and every read finds
-    the balance that it asserts."""
+    """A journal for hledger is that of its own order: so every transaction adds up to 0, no balance falls below it, every read finds the
+    balance that it asserts, and each account ends with the last one."""
     titles = re.findall(r"^(?:1970-01-01|;) (\S+ \d+ .*)$", text, re.M)
-    same(text, ledger_text(book, play(book, files, order_of(book, files, titles))[0]))
+    same(text, ledger_text(book, *play(book, files, order_of(book, files, titles))))
 
 
 def use_of(account):

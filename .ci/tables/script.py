@@ -76,7 +76,7 @@ def helps(folder, *words):
     printed(answer, answer.out)
     lines = answer.out.decode().split("\n")
     is_true(lines[0] == "Runs the program, builds it, or passes all tests, from any folder.", "another first line")
-    commands = "run check make replay agree deliver verify kinds needs costs orders ledger trace show import build release test help".split()
+    commands = "run check make replay agree deliver verify kinds needs costs orders ledger trace show import build release docs test help".split()
     named = [line.split()[1] for line in lines if line.startswith("  bezglami ")]
     is_true(named == commands, f"it names {named}")
 

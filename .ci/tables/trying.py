@@ -134,12 +134,13 @@ def same(found, wanted):
 
 
 def refused(answer, status, text):
-    """It was refused with this status, and nothing was printed. The text is what was told; where it has one line, and a file was refused, some
-    second line of that file was told too."""
+    """It was refused with this status, and nothing was printed. The text is what was told; where it has one line, and a file was refused, or
+    how many there are, some second line of that file, or of the book, was told too."""
     said = bytes_of(text) + b"\n"
-    if status in OF_A_FILE and said.count(b"\n") == 1:
+    of_files = said.startswith(b"files: wanted ")
+    if (status in OF_A_FILE or of_files) and said.count(b"\n") == 1:
         second = answer.err.removeprefix(said)
-        place = rb": " if status in (5, 8) else rb", line [1-9][0-9]*: "
+        place = rb": " if status in (5, 8) or of_files else rb", line [1-9][0-9]*: "
         is_true(re.fullmatch(rb"  [^\n]*" + place + rb"[^\n]+\n", second), f"the second line is {second!r:.200}")
         said += second
     expect(answer, status, b"", said)

@@ -103,46 +103,51 @@ AreCallsOf-known b [] known = record { all = []; same = refl; known = All-nil (I
 AreCallsOf-known b (items ∷ counts) known =
     let first = known zero [] (omega arith) in
     let others = AreCallsOf-known b counts (λ k d below. known (suc k) d (omega arith)) in
-    let here : items ≡ call_count first.1.0 = first.1.2 in
+    let here : items ≡ call_count first.2.0 = first.2.2 in
     let rest : counts ≡ map call_count others.all = others.same in
     record {
-      all = first.1.0 ∷ others.all;
+      all = first.2.0 ∷ others.all;
       same = cc;
-      known = All-cons (IsSpelled (PaysBytes b)) first.1.0 others.all (first.0, first.1.1) others.known;
+      known = All-cons (IsSpelled (PaysBytes b)) first.2.0 others.all (first.0, first.1, first.2.1) others.known;
     }
 
+-- bytes spell so many calls as were counted
+abbrev Counted : (ℕ → List ℕ → List Call → Type 0) → ℕ → List ℕ → List ℕ → Type 0
+Counted pays process bytes given = (calls : List Call) × pays process bytes calls × (given ≡ call_count calls)
+
 -- the same where the files spell them
-record AreCallsIn (b : NamedBook) (files : Files) (words : List Word) (counts : List (List ℕ)) : Type 0 where
+record AreCallsIn (pays : ℕ → List ℕ → List Call → Type 0) (files : Files) (words : List Word) (counts : List (List ℕ)) : Type 0 where
   all : List (List Call)
   same : counts ≡ map call_count all
-  known : All (IsSpelled (PaysBytes b)) all
-  each : EachSpells (PaysBytes b) files words all
+  known : All (IsSpelled pays) all
+  each : EachSpells pays files words all
 
-EachSpells-cons : (b : NamedBook) (files : Files) (word : Word) (words : List Word) (calls : List Call) (all : List (List Call))
-    → SpellsFile (PaysBytes b) files word calls → EachSpells (PaysBytes b) files words all → EachSpells (PaysBytes b) files (word ∷ words) (calls ∷ all)
-EachSpells-cons b files word words calls all first rest zero below = first
-EachSpells-cons b files word words calls all first rest (suc p) below = rest p (omega arith)
+EachSpells-cons : (pays : ℕ → List ℕ → List Call → Type 0) (files : Files) (word : Word) (words : List Word) (calls : List Call) (all : List (List Call))
+    → SpellsFile (pays 0) files word calls → EachSpells (λ p. pays (suc p)) files words all → EachSpells pays files (word ∷ words) (calls ∷ all)
+EachSpells-cons pays files word words calls all first rest zero below = first
+EachSpells-cons pays files word words calls all first rest (suc p) below = rest p (omega arith)
 
-AreCallsIn-each : (b : NamedBook) (files : Files) (words : List Word) (counts : List (List ℕ)) → length words ≡ length counts
-    → EachSpells (CountsBytes b) files words counts → AreCallsIn b files words counts
-AreCallsIn-each b files words [] same each = record { all = []; same = refl; known = All-nil (IsSpelled (PaysBytes b)); each = λ p below. absurd (omega arith) }
-AreCallsIn-each b files [] (items ∷ counts) same each = absurd (omega arith)
-AreCallsIn-each b files (word ∷ words) (items ∷ counts) same each =
+AreCallsIn-each : (pays : ℕ → List ℕ → List Call → Type 0) (files : Files) (words : List Word) (counts : List (List ℕ)) → length words ≡ length counts
+    → EachSpells (Counted pays) files words counts → AreCallsIn pays files words counts
+AreCallsIn-each pays files words [] same each = record { all = []; same = refl; known = All-nil (IsSpelled pays); each = λ p below. absurd (omega arith) }
+AreCallsIn-each pays files [] (items ∷ counts) same each = absurd (omega arith)
+AreCallsIn-each pays files (word ∷ words) (items ∷ counts) same each =
     let first = each zero (omega arith) in
-    let others = AreCallsIn-each b files words counts (omega arith) (λ p below. each (suc p) (omega arith)) in
+    let others = AreCallsIn-each (λ p. pays (suc p)) files words counts (omega arith) (λ p below. each (suc p) (omega arith)) in
     let here : items ≡ call_count first.spelled.0 = first.spelled.2 in
     let rest : counts ≡ map call_count others.all = others.same in
+    let later : All (IsSpelled pays) others.all = λ k d below. let is = others.known k d below in (suc is.0, is.1, is.2) in
     record {
       all = first.spelled.0 ∷ others.all;
       same = cc;
-      known = All-cons (IsSpelled (PaysBytes b)) first.spelled.0 others.all (first.bytes, first.spelled.1) others.known;
-      each = EachSpells-cons b files word words first.spelled.0 others.all (record { bytes = first.bytes; held = first.held; spelled = first.spelled.1 }) others.each;
+      known = All-cons (IsSpelled pays) first.spelled.0 others.all (0, first.bytes, first.spelled.1) later;
+      each = EachSpells-cons pays files word words first.spelled.0 others.all (record { bytes = first.bytes; held = first.held; spelled = first.spelled.1 }) others.each;
     }
 
 -- each file gave one number
 pub All-IsCount : (b : NamedBook) (counts : List (List ℕ)) → All (IsSpelled (CountsBytes b)) counts → All IsCount counts
 All-IsCount b counts known = λ k d below.
-    let spelled = (known k d below).1 in
+    let spelled = (known k d below).2 in
     record { number = length spelled.0; one = spelled.2; few = spelled.1.few }
 
 -- the number that a file gave
@@ -187,7 +192,7 @@ counts-known files form l counts are = record {
 counts-spelled : (tells : Bool) (files : Files) (form : Form) (l : LoadedOf ℕ) → IsCounted form l
     → SpelledOf CountsBytes files form.book form.files l → CountsRead tells files form l.book (sum_by sum l.files)
 counts-spelled tells files form l counts is =
-    let are = AreCallsIn-each (named_book l.book l.names) files form.files l.files (is.files.enough ∙ sym is.files.count) is.files.each in
+    let are = AreCallsIn-each (PaysBytes (named_book l.book l.names)) files form.files l.files (is.files.enough ∙ sym is.files.count) is.files.each in
     let same : length are.all ≡ length l.files = sym (length-map are.all call_count) ∙ ap length (sym are.same) in
     let what : Loaded = record { book = l.book; names = l.names; files = are.all } in
     let spelled : SpelledOf PaysBytes files form.book form.files what =

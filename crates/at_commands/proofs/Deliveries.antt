@@ -8,11 +8,11 @@ use Rattle.at_commands.specs.Commanding.{AreRead}
 -- messages that message files spell can be delivered
 pub AreSent-spelled : (b : NamedBook) (all : List (List Message)) → All (IsSpelled (SendsBytes b)) all → All (AreSent b.book) all
 AreSent-spelled b all spelled k d below =
-    let sends = (spelled k d below).1 in
+    let sends = (spelled k d below).2 in
     record { known = λ i m within. (sends.each i m within).known; few = sends.few }
 
 pub few_each : (b : NamedBook) (all : List (List Message)) → All (IsSpelled (SendsBytes b)) all → All (λ messages. length messages ≤ most_messages) all
-few_each b all spelled k d below = (spelled k d below).1.few
+few_each b all spelled k d below = (spelled k d below).2.few
 
 pub few_counted : (all : List (List Message)) (counts : List ℕ) → ((k : ℕ) → k < length all → length (get_or all k []) ≤ most_messages) → counts ≡ map length all
     → All (λ count. count ≤ most_messages) counts

@@ -60,7 +60,7 @@ MakesForm t l made =
 -- bytes that spell something beside a book give it
 abbrev pub Accepts : {T : Type 0} → Spelling T → (NamedBook → Giving T) → Type 0
 Accepts {T} spells given =
-    (b : NamedBook) (process : ℕ) (bytes : List ℕ) (items : List T) → IsBook b.book → AreNamesOf b.book b.names → spells b bytes items → given b process bytes ≡ Ok items
+    (b : NamedBook) (process : ℕ) (bytes : List ℕ) (items : List T) → IsBook b.book → AreNamesOf b.book b.names → spells b process bytes items → given b process bytes ≡ Ok items
 
 -- what the files and the further file spell is read of them
 pub record AreRead {T X : Type 0} (gives : NamedBook → Giving T) (spells : Spelling T) (t : FurtherTerms T X) : Type 0 where

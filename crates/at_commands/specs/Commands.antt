@@ -58,9 +58,9 @@ unread_promise prints = record {
 abbrev pub KeepsNone : {W : Type 0} → Promise W → Type 0
 KeepsNone {W} P = (w : W) (kept : Option ClosedTerms) (text : List ℕ) → P.prints w kept text → kept ≡ None
 
--- a refusal that only some command has, of what was loaded
+-- a refusal that only some command has, of what was loaded. A report that isn't legal, or too many orders
 abbrev pub IsOwn : Status → Type 0
-IsOwn (NotLegal line) = ⊤
+IsOwn (NotLegal line expected) = ⊤
 IsOwn TooManyOrders = ⊤
 IsOwn _ = ⊥
 

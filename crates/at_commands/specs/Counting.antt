@@ -21,7 +21,7 @@ counted_given b process bytes = and_then (calls_given b process bytes) (λ calls
 
 -- the bytes spell so many calls
 abbrev pub CountsBytes : Spelling ℕ
-CountsBytes b bytes given = (calls : List Call) × PaysBytes b bytes calls × (given ≡ call_count calls)
+CountsBytes b process bytes given = (calls : List Call) × PaysBytes b process bytes calls × (given ≡ call_count calls)
 
 -- the book and so many calls are those of what was read of the words' files. Where the files are told, their bytes spell it
 pub record CountsRead (tells : Bool) (files : Files) (form : Form) (book : BookTerms) (calls : ℕ) : Type 0 where

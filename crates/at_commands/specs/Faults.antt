@@ -18,7 +18,8 @@ pub data Kind : Type 0 where
   messages : Kind
 
 -- when loading files of this kind may be refused so, over a shelf whose files lead to what is expected, by its counts of faults
--- before and now
+-- before and now. Want of memory may come at any time. A file that couldn't be read needs a counted fault, or a telling shelf that lacks the
+-- file. Every other refusal needs that the count of faults is as it was and, over a telling shelf, that it is the one that the files bring
 abbrev pub MayRefuseOf : {A : Type 0} → Kind → Bool → Result A Status → ℕ → ℕ → Status → Type 0
 MayRefuseOf kind tells expected before now NoMemory = ⊤
 MayRefuseOf kind tells expected before now (ReadFault file) = IsUnread tells expected before now (ReadFault file)

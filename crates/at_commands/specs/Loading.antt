@@ -77,12 +77,13 @@ abbrev pub calls_read : ℕ → List ℕ → Result (List Call) BadPayments → 
 calls_read process bytes (Ok calls) = Ok calls
 calls_read process bytes (Err bad) = Err (status.BadPayments process (location_of bytes bad.line) bad.why)
 
+-- what a payment file gives: its calls, or its fault; of messages_given the messages
 abbrev pub calls_given : NamedBook → Giving Call
-calls_given b process bytes = calls_read process bytes (payments_of b.names (file_records bytes))
+calls_given b process bytes = calls_read process bytes (payments_of b.names process (file_records bytes))
 
 -- the same of a payment file for a replay, which makes fewer calls
 abbrev pub replay_calls_given : NamedBook → Giving Call
-replay_calls_given b process bytes = calls_read process bytes (replay_payments_of b.names (file_records bytes))
+replay_calls_given b process bytes = calls_read process bytes (replay_payments_of b.names process (file_records bytes))
 
 -- a book with its names, and the calls of each process
 abbrev pub Loaded : Type 0
@@ -143,28 +144,29 @@ pub record SpellsBook (files : Files) (name : Word) (b : BookTerms) (names : Nam
   pub held : HoldsFile files name bytes
   pub spelled : Spells (file_records bytes) b names
 
--- this is the book that was read of the file of this name, and there is one of these files for each of its processes
+-- this is the book that was read of the file of this name, and there is one of these files for each of its processes. The file spells it where
+-- the files are told
 pub record IsBookRead (tells : Bool) (files : Files) (name : Word) (words : List Word) (b : NamedBook) : Type 0 where
   pub names : AreNamesOf b.book b.names
   pub enough : length words ≡ b.book.processes
   pub read : tells ≡ true → book_loaded files name ≡ Ok b
   pub spelled : tells ≡ true → SpellsBook files name b.book b.names
 
--- what bytes spell beside a book with its names
+-- what the bytes of a process's file spell beside a book with its names
 abbrev pub Spelling : Type 0 → Type 1
-Spelling T = NamedBook → List ℕ → List T → Type 0
+Spelling T = NamedBook → ℕ → List ℕ → List T → Type 0
 
 -- the calls of a payment file
 abbrev pub PaysBytes : Spelling Call
-PaysBytes b bytes calls = Pays b.book b.names (file_records bytes) calls
+PaysBytes b process bytes calls = Pays b.book b.names process (file_records bytes) calls
 
 -- the calls of a payment file for a replay
 abbrev pub PaysReplayBytes : Spelling Call
-PaysReplayBytes b bytes calls = PaysReplay b.book b.names (file_records bytes) calls
+PaysReplayBytes b process bytes calls = PaysReplay b.book b.names process (file_records bytes) calls
 
 -- the messages of a message file
 abbrev pub SendsBytes : Spelling Message
-SendsBytes b bytes messages = Sends b.book (file_records bytes) messages
+SendsBytes b process bytes messages = Sends b.book (file_records bytes) messages
 
 -- the file of this name spells these
 pub record SpellsFile {T : Type 0} (spells : List ℕ → List T → Type 0) (files : Files) (name : Word) (items : List T) : Type 0 where
@@ -172,17 +174,17 @@ pub record SpellsFile {T : Type 0} (spells : List ℕ → List T → Type 0) (fi
   pub held : HoldsFile files name bytes
   pub spelled : spells bytes items
 
--- some bytes spell these
-abbrev pub IsSpelled : {T : Type 0} → (List ℕ → List T → Type 0) → List T → Type 0
-IsSpelled spells items = (bytes : List ℕ) × spells bytes items
+-- some bytes spell these, as the file of some process
+abbrev pub IsSpelled : {T : Type 0} → (ℕ → List ℕ → List T → Type 0) → List T → Type 0
+IsSpelled spells items = (process : ℕ) × (bytes : List ℕ) × spells process bytes items
 
--- each of the files spells what it gave
-abbrev pub EachSpells : {T : Type 0} → (List ℕ → List T → Type 0) → Files → List Word → List (List T) → Type 0
+-- the file of each process spells what it gave
+abbrev pub EachSpells : {T : Type 0} → (ℕ → List ℕ → List T → Type 0) → Files → List Word → List (List T) → Type 0
 EachSpells spells files words all =
-    (p : ℕ) → p < length all → SpellsFile spells files (slice_index_or words p []) (slice_index_or all p [])
+    (p : ℕ) → p < length all → SpellsFile (spells p) files (slice_index_or words p []) (slice_index_or all p [])
 
 -- there are as many files as processes, and each spells what is its process's
-pub record SpellsFiles {T : Type 0} (spells : List ℕ → List T → Type 0) (files : Files) (words : List Word) (processes : ℕ) (all : List (List T)) : Type 0 where
+pub record SpellsFiles {T : Type 0} (spells : ℕ → List ℕ → List T → Type 0) (files : Files) (words : List Word) (processes : ℕ) (all : List (List T)) : Type 0 where
   pub enough : length words ≡ processes
   pub count : length all ≡ processes
   pub each : EachSpells spells files words all

@@ -64,6 +64,7 @@ pub use Rattle.at_report.specs.Nodes.{nodes_text}
 pub use Rattle.at_report.specs.Pieces.{joined}
 pub use Rattle.at_report.specs.Report.{agreed_line, checked_line, report_text, verified_line}
 pub use Rattle.at_report.specs.Summary.{is_read, summary_of, summary_text}
+pub use Rattle.at_report.specs.declared.report_line.ReportLine.{ReportLine}
 pub use Rattle.at_report.specs.declared.status.Status.{Status}
 pub use Rattle.at_report.specs.declared.status.Status.TheVariants.{BadBook, BadMessages, BadOrder, BadPayments, BadSchedule, Done, NoMemory, NotLegal, ReadFault, TooLong, TooManyOrders, Usage, WriteFault}
 pub use Rattle.at_report.specs.declared.status.UsageFault.TheVariants.{Words}
@@ -77,6 +78,6 @@ pub use Rattle.at_tables.specs.NeedsText.{needs_text, owner_asks}
 pub use Rattle.at_tables.specs.LedgerText.{ledger_text}
 pub use Rattle.at_tables.specs.OrdersText.{orders_text}
 pub use Rattle.at_tables.specs.TraceText.{trace_text}
-pub use Rattle.at_verify.specs.Right.{IsFirstWrong, IsReport, IsReportOf}
+pub use Rattle.at_verify.specs.Right.{IsExpected, IsFirstWrong, IsReport, IsReportOf}
 pub use Rattle.at_workers.specs.Costs.{CostTerms, TakeCalls, cost_so_far, sum_of_costs}
 pub use Rattle.at_workers.specs.Jobs.{IsReady, JobTerms}

@@ -1,6 +1,6 @@
 -- The word of the file that a refusal is of, and the lines that a sink takes of it.
 use Rattle.std.specs.Prelude.{◌≡◌, ℕ, ◌-◌, ◌==◌, ◌⊎◌, List, [], ◌++◌, slice_index_or, Option, Some, if◌then◌else◌}
-use Rattle.at_commands.specs.Prelude.{Rose, TakesPrefix, fault_lines, Status, BadBook, BadMessages, BadPayments, ReadFault, TooLong, Word}
+use Rattle.at_commands.specs.Prelude.{Rose, TakesPrefix, fault_lines, Status, BadBook, BadMessages, BadPayments, ReadFault, TooLong, Usage, Word}
 use Rattle.at_commands.specs.Words.{Wanted, usage}
 use Rattle.at_commands.specs.Words.Wanted.{Files, Further}
 
@@ -8,9 +8,11 @@ use Rattle.at_commands.specs.Words.Wanted.{Files, Further}
 abbrev pub word_numbered : Word → List Word → Word → ℕ → Word
 word_numbered book files further number = if number == 0 then book else slice_index_or files (number - 1) further
 
--- the word of the file that is refused so: where it is neither the book nor a process's it is the further file
+-- the word of the file that is refused so: the book's also where there are too many files or too few, and the further file's where it is
+-- neither the book nor a process's
 abbrev pub word_refused : Word → List Word → Word → Status → Word
 word_refused book files further (BadBook at why) = book
+word_refused book files further (Usage fault) = book
 word_refused book files further (BadPayments process at why) = slice_index_or files process further
 word_refused book files further (BadMessages process at why) = slice_index_or files process further
 word_refused book files further (ReadFault file) = word_numbered book files further file

@@ -49,7 +49,7 @@ promised (Further Deliver form) = promised_of (further_promise messages_given Se
 promised (Make m) = promised_of (make_promise m)
 promised (Agree values) = promised_of (agree_promise values)
 
--- what is left of what words ask for
+-- what is left of what words ask for: what that promises, and where they ask for nothing, that they are refused
 abbrev pub Leaves : Option Wanted → Found → Outcome → Type 0
 Leaves (Some wanted) s o = Answered (promised wanted).promise s o
 Leaves None s o = o.answer ≡ Usage Words

@@ -1,6 +1,6 @@
 //! The forms of the processes' files.
 
-ghost use Rattle.std.specs.Prelude.{◌≡◌, IfOk, IfErr, Ok};
+ghost use Rattle.std.specs.Prelude.{◌≡◌, ◌<◌, IfOk, IfErr, Ok};
 ghost use Rattle.at_commands.specs.Prelude.{NamedBook, AreNamesOf};
 ghost use Rattle.at_commands.specs.Faults.{Kind, RefusesFile};
 ghost use Rattle.at_commands.specs.Loading.{Giving, PaysBytes, PaysReplayBytes, SendsBytes, Spelling, calls_given, messages_given, named_book, replay_calls_given};
@@ -36,12 +36,13 @@ pub trait FileForm {
         process: u32,
         bytes: &[u8],
     ) -> Result<Vec<Self::Item>, Status>
-        requires { AreNamesOf book.now names.now }
+        requires names { AreNamesOf book.now names.now }
+        requires process { process < book.now.processes }
         ensures ok { IfOk result
             (λ items. given (named_book book.now names.now) process bytes.now ≡ Ok
             items.items) }
         ensures spelled { IfOk result
-            (λ items. spells (named_book book.now names.now) bytes.now items.items) }
+            (λ items. spells (named_book book.now names.now) process bytes.now items.items) }
         ensures err { IfErr result
             (RefusesFile kind
             (given (named_book book.now names.now) process bytes.now) process) };
@@ -66,7 +67,7 @@ impl FileForm for Payments {
         process: u32,
         bytes: &[u8],
     ) -> Result<Vec<Call>, Status> {
-        match read_payments(alloc, book, names, bytes) {
+        match read_payments(alloc, book, names, process, bytes) {
             Ok(calls) => Ok(calls),
             Err(ReadPaymentsFault::Bad(bad)) => Err(Status::BadPayments {
                 process,
@@ -97,7 +98,7 @@ impl FileForm for ReplayPayments {
         process: u32,
         bytes: &[u8],
     ) -> Result<Vec<Call>, Status> {
-        match read_replay_payments(alloc, book, names, bytes) {
+        match read_replay_payments(alloc, book, names, process, bytes) {
             Ok(fewer) => Ok(fewer),
             Err(ReadPaymentsFault::Bad(bad)) => Err(Status::BadPayments {
                 process,

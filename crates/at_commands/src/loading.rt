@@ -140,6 +140,7 @@ fn load_file<F: Shelf, P: FileForm>(
 ) -> Result<Vec<P::Item>, Status>
     requires names { AreNamesOf book.now names.now }
     requires process { process < 2 ^ 31 }
+    requires of { process < book.now.processes }
     ensures files { SameFiles (F.tells shelf.old) (F.tells shelf.new) (F.file shelf.old)
         (F.file shelf.new) }
     ensures later { F.faults shelf.old ≤ F.faults shelf.new }
@@ -150,7 +151,7 @@ fn load_file<F: Shelf, P: FileForm>(
         (F.file shelf.old) process name.now ≡ Ok items.items) }
     ensures spelled { F.tells shelf.old ≡ true
         → IfOk result
-        (λ items. SpellsFile (P.spells (named_book book.now names.now))
+        (λ items. SpellsFile (P.spells (named_book book.now names.now) process)
         (F.file shelf.old) name.now items.items) }
     ensures known { IfOk result
         (λ items. IsSpelled (P.spells (named_book book.now names.now)) items.items) }
@@ -178,6 +179,7 @@ fn load_files<F: Shelf, P: FileForm>(
 ) -> Result<Vec<Vec<P::Item>>, Status>
     requires names { AreNamesOf book.now names.now }
     requires few { length words.now < 2 ^ 31 }
+    requires enough { length words.now ≡ book.now.processes }
     ensures files { SameFiles (F.tells shelf.old) (F.tells shelf.new) (F.file shelf.old)
         (F.file shelf.new) }
     ensures later { F.faults shelf.old ≤ F.faults shelf.new }

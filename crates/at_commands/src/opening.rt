@@ -1,6 +1,6 @@
 //! Opening a ledger while the calls for it are read.
 
-ghost use Rattle.std.specs.Prelude.{◌≡◌, ◌≤◌, ℕ, length, true, All, Ok, Err, IfOk, IfErr, OnOk};
+ghost use Rattle.std.specs.Prelude.{◌≡◌, ◌≤◌, ◌⊎◌, ℕ, length, true, All, Ok, Err, IfOk, IfErr, IsErr, IsOk, OnOk};
 ghost use Rattle.at_commands.specs.Running.{HasNewPasses};
 ghost use Rattle.at_commands.specs.Prelude.{SameFiles, contents_of};
 ghost use Rattle.at_commands.specs.Faults.{HasFileNumbers, MayRefuse};
@@ -68,4 +68,23 @@ pub(crate) fn open_and_load<R: Threads, F: Shelf>(
         &mut move || open(alloc, book),
         &mut || load_payments(alloc, book, names, form, shelf),
     )
+}
+
+/// The ledger and the calls, where both could be had. A refusal of the files is told first, whatever memory there was for the ledger:
+/// that this had none is told only where each file was read and accepted.
+pub(crate) fn files_first(
+    opened: Result<(Ledger, Vec<Pass>), AllocError>,
+    files: Result<Vec<Vec<Call>>, Status>,
+) -> Result<((Ledger, Vec<Pass>), Vec<Vec<Call>>), Status>
+    ensures both { IfOk result (λ b. (opened ≡ Ok b.0) × (files ≡ Ok b.1)) }
+    ensures refused { IfErr result (λ refusal. (files ≡ Err refusal)
+        ⊎ (IsOk files × IsErr opened × (refusal ≡ Status.NoMemory))) }
+{
+    match files {
+        Ok(files) => match opened {
+            Ok(opened) => Ok((opened, files)),
+            Err(AllocError) => Err(Status::NoMemory),
+        },
+        Err(refusal) => Err(refusal),
+    }
 }

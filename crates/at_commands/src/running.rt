@@ -13,7 +13,7 @@ use crate::closing_journal::ClosingJournal;
 use crate::commanding::{Command, answer_by};
 use crate::ending::Printed;
 use crate::loading::{Loaded, load_book};
-use crate::opening::open_and_load;
+use crate::opening::{files_first, open_and_load};
 use crate::playing::play_in_order;
 use crate::words::Form;
 use at_io::{Shelf, Sink};
@@ -61,13 +61,9 @@ impl Command for Run<'_> {
         };
         book.known();
         let (opened, files) = open_and_load(rt, alloc, &book, &names, &self.form, shelf);
-        // A fault of the files is told even where there was no memory for the ledger.
-        let files = match files {
-            Ok(files) => files,
+        let (opened, files) = match files_first(opened, files) {
+            Ok(both) => both,
             Err(refusal) => return Err(refusal),
-        };
-        let Ok(opened) = opened else {
-            return Err(Status::NoMemory);
         };
         let loaded = Loaded { book, names, files };
         Ok(Opened { loaded, opened })

@@ -40,7 +40,7 @@ fn word_refused<'a>(
     ensures { result.now ≡ word_refused book.now (words_of files.now) further.now status.now }
 {
     match status {
-        Status::BadBook { .. } => book,
+        Status::BadBook { .. } | Status::Usage(_) => book,
         Status::BadPayments { process, .. } | Status::BadMessages { process, .. } => {
             process_word(files, further, *process)
         }

@@ -43,7 +43,7 @@ impl Further for Verifying {
         let _known = book.accounts();
         let files = files.as_slice();
         match verify(alloc, &book, &names, files, further.as_slice())? {
-            Verdict::No { line } => Err(Status::NotLegal { line }),
+            Verdict::No { line, expected } => Err(Status::NotLegal { line, expected }),
             Verdict::Yes => Printed::of(alloc, verified_text(alloc, count_calls(files))?, None),
         }
     }

@@ -3,7 +3,7 @@
 use at_files::{ReadPaymentsFault, read_book, read_payments};
 use std::alloc::Global;
 
-/// How many calls a payment file has beside a book, or why it is refused. A bad book is `None`.
+/// How many calls the payment file of the first process has beside a book, or why it is refused. A bad book is `None`.
 pub fn calls_in(
     alloc: Global,
     book: &[u8],
@@ -12,7 +12,7 @@ pub fn calls_in(
     let Ok((book, names)) = read_book(alloc, book) else {
         return None;
     };
-    match read_payments(alloc, &book, &names, payments) {
+    match read_payments(alloc, &book, &names, 0, payments) {
         Ok(calls) => Some(Ok(calls.len())),
         Err(fault) => Some(Err(fault)),
     }

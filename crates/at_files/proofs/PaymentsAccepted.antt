@@ -1,10 +1,12 @@
 -- A payment file that is calls, written out, is read as these calls.
-use Rattle.std.proofs.Common.{◌≡◌, ℕ, ◌+◌, ◌^◌, ◌<◌, ◌≤◌, Bool, true, false, ◌&&◌, ◌⊎◌, inl, inr, ◌==◌, nat_lt, Some, bytes_eq, List, [], ◌∷◌, length, All, Ok, Err, codes, decimal, refl, sym, ap, ◌∙◌, arith}
-use Rattle.at_files.proofs.Prelude.{IsDistinct, eq-eqb, nat_tests, All-head, All-tail, field_at, number_of-decimal, BookTerms, AreTargetsOn, IsCallOn, TargetPair, Call, Transfer, Pay, most_targets, AreNames, NameList, AreNamesOf, account_name, Fields, has_shape, plain_call_of, named_call_of, call_of, has_amounts, is_pay, targets_spelled, fields_of_targets, calls_or_fault, payments_of, fields_of_call, IsCallOfVersion, HasAmounts, Pays, most_calls, items_of, TooManyCalls, BadPayments, ReadPaymentsFault}
+use Rattle.std.proofs.Common.{Result, drop, get_or, if◌then◌else◌, map, ◌≡◌, ℕ, ◌+◌, ◌^◌, ◌<◌, ◌≤◌, Bool, true, false, ◌&&◌, ◌⊎◌, inl, inr, ◌==◌, nat_lt, Some, bytes_eq, List, [], ◌∷◌, length, All, Ok, Err, codes, decimal, refl, sym, ap, ◌∙◌, arith}
+use Rattle.at_files.proofs.Prelude.{IsDistinct, eq-eqb, nat_tests, All-head, All-tail, field_at, number_of-decimal, BookTerms, AreTargetsOn, IsCallOn, TargetPair, Call, Transfer, Pay, most_targets, AreNames, NameList, AreNamesOf, account_name, Fields, has_shape, plain_call_of, named_call_of, call_of, has_amounts, is_pay, targets_spelled, fields_of_targets, calls_or_fault, payments_of, fields_of_call, IsCallOfVersion, HasAmounts, Pays, most_calls, items_from, TooManyCalls, BadPayments, BadRecord, PaymentsWhy, ReadPaymentsFault, bytes_eq-Decides, calls_behind, field_of, fields_of_process, before_calls, names_process, is_of, process_name}
 use Rattle.at_ledger.specs.declared.call.Call.TheVariants.{Read}
-use Rattle.at_files.specs.declared.payments_fault.ReadPaymentsFault.TheVariants.{NoMemory}
+use Rattle.at_files.specs.declared.payments_fault.ReadPaymentsFault.TheVariants.{Bad, NoMemory}
 use Rattle.at_files.proofs.NameLaws.{known_version, position_of-at}
-use Rattle.at_files.proofs.SpelledLaws.{IsForm, items_of-map, items_of-written}
+use Rattle.at_files.specs.declared.payments_fault.PaymentsWhy.TheVariants.{Process}
+use Rattle.at_files.proofs.FieldLaws.{first-has_shape, length-has_shape, two_fields}
+use Rattle.at_files.proofs.SpelledLaws.{AreWritten, IsForm, items_from-map, items_from-written}
 use Rattle.at_files.proofs.PaymentsSpelled.{AreNumbered, MayCall, account_name-decimal, call_of-reads}
 
 plain_call_of-transfer : (accounts from to amount : ℕ) → from < accounts → to < accounts → accounts ≤ 2 ^ 64 → amount < 2 ^ 64
@@ -100,39 +102,111 @@ call_of-fields names call are few known amounts version = by (known_version name
         let test : (names.version == 2) ≡ true = eq-eqb names.version 2 second in
         rw test (named_call_of-fields names call are.distinct known amounts version)
 
+calls_or_fault-Ok : (spelled : Result (List Call) (BadRecord PaymentsWhy)) (calls : List Call) → calls_or_fault spelled ≡ Ok calls → spelled ≡ Ok calls
+calls_or_fault-Ok (Ok all) calls h = let same : all ≡ calls = cc in rw same refl
+calls_or_fault-Ok (Err bad) calls h = absurd (cc)
+
 IsForm-call : (names : NameList) → AreNames names.version names.accounts → length names.accounts ≤ 2 ^ 64 → IsForm (call_of names) (fields_of_call names) (MayCall names)
 IsForm-call names are few = record {
   reads = λ fields call h. call_of-reads names fields call are h;
   writes = λ call may. call_of-fields names call are few may.known may.amounts may.version;
 }
 
--- what the file pays is what its records spell
-pub payments_of-Pays : (b : BookTerms) (names : NameList) (records : List Fields) (calls : List Call) → AreNamesOf b names
-    → Pays b names records calls → payments_of names records ≡ Ok calls
-payments_of-Pays b names records calls are pays =
-    let known : All (IsCallOn (length names.accounts)) calls = rw are.accounts pays.known in
-    let may : All (MayCall names) calls = λ k call at. record { known = known k call at; amounts = pays.amounts k call at; version = pays.versions k call at } in
+-- the record of a call names no process
+call-names_none : (names : NameList) (call : Call) → names_process (fields_of_call names call) ≡ false
+unfolding field_at
+call-names_none names (Transfer from to amount) = refl
+call-names_none names (Read account) = refl
+call-names_none names (Pay from targets) = no_test (length (fields_of_call names (Pay from targets)) == 2)
+
+calls-name_none : (names : NameList) (calls : List Call) → names_process (get_or (map (fields_of_call names) calls) 0 []) ≡ false
+unfolding field_at
+calls-name_none names [] = refl
+calls-name_none names (call ∷ calls) = call-names_none names call
+
+naming-is_of : (names : NameList) (process : ℕ) (records : List Fields) → is_of names process (fields_of_process names process ∷ records) ≡ true
+unfolding field_at
+naming-is_of names process records = (bytes_eq-Decides (process_name names process) (process_name names process)).1 refl
+
+naming-before_calls : (names : NameList) (process : ℕ) (records : List Fields) → before_calls (fields_of_process names process ∷ records) ≡ 1
+unfolding field_at
+naming-before_calls names process records = refl
+
+calls_behind-map : (names : NameList) (skipped : ℕ) (calls : List Call) → AreNames names.version names.accounts → length names.accounts ≤ 2 ^ 64
+    → All (MayCall names) calls → length calls ≤ most_calls → calls_behind names skipped (map (fields_of_call names) calls) ≡ Ok calls
+calls_behind-map names skipped calls are small may few =
     ap calls_or_fault
-    (items_of-map (call_of names) (fields_of_call names) (MayCall names) most_calls TooManyCalls records calls
-    (IsForm-call names are.formed.accounts (omega (arith, are.formed.few_accounts))) pays.spelled may pays.few)
+    (items_from-map (call_of names) (fields_of_call names) (MayCall names) (skipped + most_calls) TooManyCalls (skipped + 1) calls
+    (IsForm-call names are small) may (omega arith))
+
+-- what the file pays is what its records spell
+pub payments_of-Pays : (b : BookTerms) (names : NameList) (process : ℕ) (records : List Fields) (calls : List Call) → AreNamesOf b names
+    → Pays b names process records calls → payments_of names process records ≡ Ok calls
+payments_of-Pays b names process records calls are pays = by pays.spelled
+  where
+    known : All (IsCallOn (length names.accounts)) calls
+    known = rw are.accounts pays.known
+
+    may : All (MayCall names) calls
+    may = λ k call at. record { known = known k call at; amounts = pays.amounts k call at; version = pays.versions k call at }
+
+    behind : (skipped : ℕ) → calls_behind names skipped (map (fields_of_call names) calls) ≡ Ok calls
+    behind skipped = calls_behind-map names skipped calls are.formed.accounts (omega (arith, are.formed.few_accounts)) may pays.few
+
+    by : (records ≡ map (fields_of_call names) calls) ⊎ (records ≡ fields_of_process names process ∷ map (fields_of_call names) calls)
+        → payments_of names process records ≡ Ok calls
+    by (inl plain) = rw (plain, calls-name_none names calls) (behind 0)
+    by (inr naming) =
+        rw (naming, naming-is_of names process (map (fields_of_call names) calls), naming-before_calls names process (map (fields_of_call names) calls)) (behind 1)
+
+-- the record that names the process
+naming_record : (names : NameList) (process : ℕ) (fields : Fields) → names_process fields ≡ true → bytes_eq (field_of fields 1) (process_name names process) ≡ true
+    → fields ≡ fields_of_process names process
+naming_record names process fields naming is =
+    two_fields fields (length-has_shape (codes "process") 2 fields naming)
+    ∙ rw (first-has_shape (codes "process") 2 fields naming, (bytes_eq-Decides (field_of fields 1) (process_name names process)).0 is) refl
+
+first_and_rest : (records : List Fields) (naming : Fields) → names_process (get_or records 0 []) ≡ true → get_or records 0 [] ≡ naming → records ≡ naming ∷ drop 1 records
+unfolding field_at
+first_and_rest [] naming is same = absurd (cc)
+first_and_rest (fields ∷ records) naming is same = rw same refl
 
 -- the calls that a file's records spell are what it pays
-pub Pays-items_of : (b : BookTerms) (names : NameList) (records : List Fields) (calls : List Call) → AreNamesOf b names
-    → items_of (call_of names) most_calls TooManyCalls records ≡ Ok calls → Pays b names records calls
-Pays-items_of b names records calls are h =
-    let all = items_of-written (call_of names) (fields_of_call names) (MayCall names) most_calls TooManyCalls records calls
-    (IsForm-call names are.formed.accounts (omega (arith, are.formed.few_accounts))) h in
-    record {
-      spelled = all.spelled;
+pub Pays-payments_of : (b : BookTerms) (names : NameList) (process : ℕ) (records : List Fields) (calls : List Call) → AreNamesOf b names
+    → payments_of names process records ≡ Ok calls → Pays b names process records calls
+Pays-payments_of b names process records calls are h = by (names_process (get_or records 0 [])) (bytes_eq (field_of (get_or records 0 []) 1) (process_name names process)) refl refl h
+  where
+    written : (skipped : ℕ) (rest : List Fields) → calls_behind names skipped rest ≡ Ok calls
+        → AreWritten (fields_of_call names) (MayCall names) (skipped + most_calls) (skipped + 1) rest calls
+    written skipped rest is =
+        items_from-written (call_of names) (fields_of_call names) (MayCall names) (skipped + most_calls) TooManyCalls (skipped + 1) rest calls
+        (IsForm-call names are.formed.accounts (omega (arith, are.formed.few_accounts))) (omega arith)
+        (calls_or_fault-Ok (items_from (call_of names) (skipped + most_calls) TooManyCalls (skipped + 1) rest) calls is)
+
+    pays : (skipped : ℕ) (rest : List Fields) → AreWritten (fields_of_call names) (MayCall names) (skipped + most_calls) (skipped + 1) rest calls
+        → (rest ≡ map (fields_of_call names) calls → (records ≡ map (fields_of_call names) calls) ⊎ (records ≡ fields_of_process names process ∷ map (fields_of_call names) calls))
+        → Pays b names process records calls
+    pays skipped rest all spelled = record {
+      spelled = spelled all.spelled;
       known = λ k call at. rw are.accounts at (all.each k call at).known;
       amounts = λ k call at. (all.each k call at).amounts;
       versions = λ k call at. (all.each k call at).version;
-      few = let few : length calls + 1 ≤ most_calls + 1 = all.few in omega arith;
+      few = let few : length calls + (skipped + 1) ≤ skipped + most_calls + 1 = all.few in omega arith;
     }
 
+    by : (naming same : Bool) → names_process (get_or records 0 []) ≡ naming → bytes_eq (field_of (get_or records 0 []) 1) (process_name names process) ≡ same
+        → (if (if naming then same else true) then calls_behind names (if naming then 1 else 0) (drop (if naming then 1 else 0) records) else Err (record { line = 1; why = Process })) ≡ Ok calls
+        → Pays b names process records calls
+    by false same none any is = pays 0 records (written 0 records is) (λ all. inl all)
+    by true false naming other is = absurd (cc)
+    by true true naming here is =
+        let first = first_and_rest records (fields_of_process names process) naming (naming_record names process (get_or records 0 []) naming here) in
+        pays 1 (drop 1 records) (written 1 (drop 1 records) is) (λ all. inr (first ∙ rw all refl))
+
 -- a file that pays calls isn't refused
-pub Pays-not_bad : (b : BookTerms) (names : NameList) (records : List Fields) (calls : List Call) (bad : BadPayments) (fault : ReadPaymentsFault) → AreNamesOf b names
-    → Pays b names records calls → payments_of names records ≡ Err bad → fault ≡ NoMemory
-Pays-not_bad b names records calls bad fault are pays is =
-    let wrong : Ok calls ≡ Err bad = sym (payments_of-Pays b names records calls are pays) ∙ is in
-    cc
+pub Pays-no_fault : (b : BookTerms) (names : NameList) (process : ℕ) (records : List Fields) (calls : List Call) (fault : ReadPaymentsFault) → AreNamesOf b names
+    → Pays b names process records calls → ((bad : BadPayments) → fault ≡ Bad bad → payments_of names process records ≡ Err bad) → fault ≡ NoMemory
+Pays-no_fault b names process records calls NoMemory are pays told = refl
+Pays-no_fault b names process records calls (Bad bad) are pays told =
+    let wrong : Ok calls ≡ Err bad = sym (payments_of-Pays b names process records calls are pays) ∙ told bad refl in
+    absurd (cc)

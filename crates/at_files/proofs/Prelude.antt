@@ -37,15 +37,15 @@ pub use Rattle.at_files.specs.Locations.{begins_line, ends_line, is_line_end}
 unfoldable pub use Rattle.at_files.specs.Locations.{line_from}
 pub use Rattle.at_files.specs.Messages.{IsSent, Sends, are_counts, fields_of_message, message_read, message_spelled, messages_spelled}
 pub use Rattle.at_files.specs.NameSet.{IsNameSet}
-pub use Rattle.at_files.specs.Names.{AreFormed, AreNames, AreNamesOf, NameList, account_name, decimals_below, has_name, is_name, is_name_byte, plain_names, position_of}
-pub use Rattle.at_files.specs.Payments.{HasAmounts, IsCallOfVersion, Pays, call_of, calls_or_fault, fields_of_call, is_pay, named_call_of, named_pay, named_read, named_transfer, payments_of, plain_call_of, read_of, target_of, transfer_of}
+pub use Rattle.at_files.specs.Names.{AreFormed, AreNames, AreNamesOf, NameList, account_name, decimals_below, has_name, is_name, is_name_byte, plain_names, position_of, process_name}
+pub use Rattle.at_files.specs.Payments.{HasAmounts, IsCallOfVersion, Pays, call_of, calls_behind, calls_or_fault, fields_of_call, fields_of_process, before_calls, names_process, is_of, is_pay, named_call_of, named_pay, named_read, named_transfer, payments_of, plain_call_of, read_of, target_of, transfer_of}
 unfoldable pub use Rattle.at_files.specs.Payments.{fields_of_targets, has_amounts, targets_spelled}
 pub use Rattle.at_files.specs.Reading.{IsBetweenRecords, IsPlain, IsPlainByte, line_records, records_left, records_read_from, texts_of}
 pub use Rattle.at_files.specs.Records.{Fields, before, field_of, has_shape, number_at}
 pub use Rattle.at_files.specs.ReplayPayments.{PaysReplay, replay_payments_of}
 pub use Rattle.at_files.specs.Results.{and_then}
 pub use Rattle.at_files.specs.Schedule.{Schedules, fields_of_turn, schedule_of, turn_of, turn_read}
-pub use Rattle.at_files.specs.Spelled.{bad_record, item_before, items_before, items_of, with_item}
+pub use Rattle.at_files.specs.Spelled.{bad_record, item_before, items_before, items_of, next_and_rest, with_item}
 unfoldable pub use Rattle.at_files.specs.Spelled.{items_from}
 pub use Rattle.at_files.specs.declared.book_fault.BadBook.{BadBook}
 pub use Rattle.at_files.specs.declared.book_fault.BookWhy.{BookWhy}

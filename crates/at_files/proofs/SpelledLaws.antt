@@ -33,7 +33,7 @@ item_before-written print P most line fields records items (Ok x) (Ok more) one 
     let Q : List _ → Type 0 = AreWritten print P most line (fields ∷ records) in
     subst Q is (AreWritten-cons print P most line fields records x more (one x refl) (all more refl))
 
-items_from-written : {T W : Type 0} (item : Fields → Result T W) (print : T → Fields) (P : T → Type 0) (most : ℕ) (over : W) (line : ℕ) (records : List Fields) (items : List T)
+pub items_from-written : {T W : Type 0} (item : Fields → Result T W) (print : T → Fields) (P : T → Type 0) (most : ℕ) (over : W) (line : ℕ) (records : List Fields) (items : List T)
     → IsForm item print P → line ≤ most + 1 → items_from item most over line records ≡ Ok items → AreWritten print P most line records items
 unfolding items_from
 items_from-written {T} item print P most over line [] items form within h =
@@ -58,7 +58,7 @@ pub items_of-written : {T W : Type 0} (item : Fields → Result T W) (print : T 
     → IsForm item print P → items_of item most over records ≡ Ok items → AreWritten print P most 1 records items
 items_of-written item print P most over records items form h = items_from-written item print P most over 1 records items form (omega arith) h
 
-items_from-map : {T W : Type 0} (item : Fields → Result T W) (print : T → Fields) (P : T → Type 0) (most : ℕ) (over : W) (line : ℕ) (items : List T)
+pub items_from-map : {T W : Type 0} (item : Fields → Result T W) (print : T → Fields) (P : T → Type 0) (most : ℕ) (over : W) (line : ℕ) (items : List T)
     → IsForm item print P → All P items → length items + line ≤ most + 1 → items_from item most over line (map print items) ≡ Ok items
 unfolding items_from
 items_from-map item print P most over line [] form each within = refl

@@ -1,10 +1,10 @@
 -- The walk over the records of a file of which each spells one thing.
 use Rattle.std.proofs.Common.{◌≡◌, ℕ, ◌+◌, ◌<◌, Bool, true, false, ◌==◌, List, [], ◌∷◌, ◌++◌, Result, Ok, Err, if◌then◌else◌, refl, sym, ◌∙◌, ap, append_assoc, append-nil, arith}
-use Rattle.at_files.proofs.Prelude.{nat_tests, Fields, bad_record, items_before, item_before, items_from, items_of, with_item, BadRecord, ReadFault, Bad}
+use Rattle.at_files.proofs.Prelude.{nat_tests, Fields, bad_record, items_before, item_before, items_from, next_and_rest, with_item, BadRecord, ReadFault, Bad}
 
 -- these items stand before the record of this line, and what comes later is that of the records from there on
-pub record AreSpelled {T W : Type 0} (item : Fields → Result T W) (most : ℕ) (over : W) (all : List Fields) (items : List T) (line : ℕ) (records : List Fields) : Type 0 where
-  pub walk : items_of item most over all ≡ items_before items (items_from item most over line records)
+pub record AreSpelled {T W : Type 0} (item : Fields → Result T W) (last : ℕ) (over : W) (first : ℕ) (all : List Fields) (items : List T) (line : ℕ) (records : List Fields) : Type 0 where
+  pub walk : items_from item last over first all ≡ items_before items (items_from item last over line records)
 
 items_before-none : {T W : Type 0} (later : Result (List T) (BadRecord W)) → items_before [] later ≡ later
 items_before-none (Ok later) = refl
@@ -15,20 +15,16 @@ items_before-push : {T W : Type 0} (items : List T) (item : T) (later : Result (
 items_before-push items item (Ok later) = ap Ok (sym (append_assoc items (item ∷ []) later))
 items_before-push items item (Err bad) = refl
 
-not_last : (most line : ℕ) → line < most + 1 → (line == most + 1) ≡ false
-not_last most line h = grind (arith, nat_tests)
+not_last : (last line : ℕ) → line < last + 1 → (line == last + 1) ≡ false
+not_last last line h = grind (arith, nat_tests)
 
-pub items_from-more : {T W : Type 0} (item : Fields → Result T W) (most : ℕ) (over : W) (line : ℕ) (fields : Fields) (records : List Fields) → line < most + 1
-    → items_from item most over line (fields ∷ records) ≡ item_before line (item fields) (items_from item most over (line + 1) records)
+pub items_from-more : {T W : Type 0} (item : Fields → Result T W) (last : ℕ) (over : W) (line : ℕ) (fields : Fields) (records : List Fields) → line < last + 1
+    → items_from item last over line (fields ∷ records) ≡ item_before line (item fields) (items_from item last over (line + 1) records)
 unfolding items_from
-items_from-more item most over line fields records h = rw (not_last most line h) refl
+items_from-more item last over line fields records h = rw (not_last last line h) refl
 
-pub AreSpelled-start : {T W : Type 0} (item : Fields → Result T W) (most : ℕ) (over : W) (all : List Fields) → AreSpelled item most over all [] 1 all
-AreSpelled-start item most over all = record { walk = sym (items_before-none (items_from item most over 1 all)) }
-
--- a record was read, or there was none
-abbrev pub IsNext : List Fields → Bool → Fields → List Fields → Type 0
-IsNext records found fields rest = records ≡ (if found then fields ∷ rest else [])
+pub AreSpelled-start : {T W : Type 0} (item : Fields → Result T W) (last : ℕ) (over : W) (first : ℕ) (all : List Fields) → AreSpelled item last over first all [] first all
+AreSpelled-start item last over first all = record { walk = sym (items_before-none (items_from item last over first all)) }
 
 -- the items with one more stand before what comes after its record
 items_before-with_item : {T W : Type 0} (line : ℕ) (items : List T) (spelled : Result T W) (more : List T) (later : Result (List T) (BadRecord W)) → with_item line items spelled ≡ Ok more
@@ -42,41 +38,36 @@ items_before-bad : {T W : Type 0} (line : ℕ) (items : List T) (spelled : Resul
 items_before-bad line items (Ok x) bad later h = absurd (cc)
 items_before-bad line items (Err why) bad later h = h
 
-pub AreSpelled-more : {T W : Type 0} (item : Fields → Result T W) (most : ℕ) (over : W) (all : List Fields) (items : List T) (line : ℕ) (records : List Fields) (found : Bool)
-    (fields : Fields) (rest : List Fields) (more : List T) → AreSpelled item most over all items line records → IsNext records found fields rest → found ≡ true → line < most + 1
-    → with_item line items (item fields) ≡ Ok more → AreSpelled item most over all more (line + 1) rest
-AreSpelled-more item most over all items line records found fields rest more are next some h is =
-    let here : records ≡ fields ∷ rest = next ∙ rw some refl in
-    record {
-      walk =
-          (rw here at are.walk)
-          ∙ rw (items_from-more item most over line fields rest h) (items_before-with_item line items (item fields) more (items_from item most over (line + 1) rest) is);
-    }
+pub AreSpelled-more : {T W : Type 0} (item : Fields → Result T W) (last : ℕ) (over : W) (first : ℕ) (all : List Fields) (items : List T) (line : ℕ) (found : Bool)
+    (fields : Fields) (rest left : List Fields) (more : List T) → AreSpelled item last over first all items line (next_and_rest found fields rest) → found ≡ true
+    → rest ≡ left → line < last + 1 → with_item line items (item fields) ≡ Ok more → AreSpelled item last over first all more (line + 1) left
+AreSpelled-more item last over first all items line found fields rest left more are some next h is = record {
+  walk =
+      (rw some at are.walk)
+      ∙ rw (items_from-more item last over line fields rest h, next)
+      (items_before-with_item line items (item fields) more (items_from item last over (line + 1) left) is);
+}
 
-pub AreSpelled-end : {T W : Type 0} (item : Fields → Result T W) (most : ℕ) (over : W) (all : List Fields) (items : List T) (line : ℕ) (records : List Fields) (found : Bool)
-    (fields : Fields) (rest : List Fields) → AreSpelled item most over all items line records → IsNext records found fields rest → found ≡ false
-    → items_of item most over all ≡ Ok items
+pub AreSpelled-end : {T W : Type 0} (item : Fields → Result T W) (last : ℕ) (over : W) (first : ℕ) (all : List Fields) (items : List T) (line : ℕ) (found : Bool)
+    (fields : Fields) (rest : List Fields) → AreSpelled item last over first all items line (next_and_rest found fields rest) → found ≡ false
+    → items_from item last over first all ≡ Ok items
 unfolding items_from
-AreSpelled-end item most over all items line records found fields rest are next none =
-    let here : records ≡ [] = next ∙ rw none refl in
-    (rw here at are.walk) ∙ ap Ok (append-nil items)
+AreSpelled-end item last over first all items line found fields rest are none = (rw none at are.walk) ∙ ap Ok (append-nil items)
 
-pub AreSpelled-bad : {T W : Type 0} (item : Fields → Result T W) (most : ℕ) (over : W) (all : List Fields) (items : List T) (line : ℕ) (records : List Fields) (found : Bool)
-    (fields : Fields) (rest : List Fields) (bad : BadRecord W) → AreSpelled item most over all items line records → IsNext records found fields rest → found ≡ true → line < most + 1
-    → with_item line items (item fields) ≡ Err bad → items_of item most over all ≡ Err bad
-AreSpelled-bad item most over all items line records found fields rest bad are next some h is =
-    let here : records ≡ fields ∷ rest = next ∙ rw some refl in
-    (rw here at are.walk)
-    ∙ rw (items_from-more item most over line fields rest h) (items_before-bad line items (item fields) bad (items_from item most over (line + 1) rest) is)
+pub AreSpelled-bad : {T W : Type 0} (item : Fields → Result T W) (last : ℕ) (over : W) (first : ℕ) (all : List Fields) (items : List T) (line : ℕ) (found : Bool)
+    (fields : Fields) (rest : List Fields) (bad : BadRecord W) → AreSpelled item last over first all items line (next_and_rest found fields rest) → found ≡ true → line < last + 1
+    → with_item line items (item fields) ≡ Err bad → items_from item last over first all ≡ Err bad
+AreSpelled-bad item last over first all items line found fields rest bad are some h is =
+    (rw some at are.walk)
+    ∙ rw (items_from-more item last over line fields rest h) (items_before-bad line items (item fields) bad (items_from item last over (line + 1) rest) is)
 
-pub AreSpelled-many : {T W : Type 0} (item : Fields → Result T W) (most : ℕ) (over : W) (all : List Fields) (items : List T) (line : ℕ) (records : List Fields) (found : Bool)
-    (fields : Fields) (rest : List Fields) → AreSpelled item most over all items line records → IsNext records found fields rest → found ≡ true → line ≡ most + 1
-    → items_of item most over all ≡ bad_record (most + 1) over
+pub AreSpelled-many : {T W : Type 0} (item : Fields → Result T W) (last : ℕ) (over : W) (first : ℕ) (all : List Fields) (items : List T) (line : ℕ) (found : Bool)
+    (fields : Fields) (rest : List Fields) → AreSpelled item last over first all items line (next_and_rest found fields rest) → found ≡ true → line ≡ last + 1
+    → items_from item last over first all ≡ bad_record (last + 1) over
 unfolding items_from
-AreSpelled-many item most over all items line records found fields rest are next some last =
-    let here : records ≡ fields ∷ rest = next ∙ rw some refl in
-    let test : (most + 1 == most + 1) ≡ true = grind (arith, nat_tests) in
-    (rw (here, last) at are.walk) ∙ rw test refl
+AreSpelled-many item last over first all items line found fields rest are some end =
+    let test : (last + 1 == last + 1) ≡ true = grind (arith, nat_tests) in
+    (rw (some, end) at are.walk) ∙ rw test refl
 
 -- the fault that an answer carries
 pub Bad-same : {T W : Type 0} (x b : BadRecord W) → ◌≡◌ {A = Result T (ReadFault W)} (Err (Bad x)) (Err (Bad b)) → x ≡ b

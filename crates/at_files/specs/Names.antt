@@ -28,7 +28,7 @@ has_name names name = list_any (bytes_eq name) names
 abbrev pub decimals_below : ℕ → List (List ℕ)
 decimals_below count = map decimal (range_with_len 0 count)
 
--- the names of version 1
+-- the names of version 1: the canonical decimals of its processes and accounts
 abbrev pub plain_names : BookTerms → NameList
 plain_names b = record { version = 1; processes = decimals_below b.processes; accounts = decimals_below (length b.accounts) }
 
@@ -56,7 +56,8 @@ pub record IsNameList (names : NameList) : Type 0 where
   pub accounts : AreNames names.version names.accounts
   pub few_accounts : length names.accounts ≤ most_accounts
 
--- these are the names of the book: one for each process and each account
+-- these are the names of the book: one for each process and each account. In version 1 each is its number; in version 2 each has the form of a
+-- name, and no two processes and no two accounts have one name
 pub record AreNamesOf (b : BookTerms) (names : NameList) : Type 0 where
   pub processes : length names.processes ≡ b.processes
   pub accounts : length names.accounts ≡ length b.accounts

@@ -1,13 +1,13 @@
 -- The payments of one process: the calls that the records of its file spell, or the first fault.
-use Rattle.std.specs.Prelude.{◌≡◌, ℕ, ◌^◌, ◌<◌, ◌≤◌, ◌==◌, Bool, true, false, ◌&&◌, ◌||◌, List, [], ◌∷◌, length, drop, is_some, map, All, codes, decimal, nat_lt, Option, Some, None, Result, Ok, Err, if◌then◌else◌}
+use Rattle.std.specs.Prelude.{◌≡◌, ℕ, ◌^◌, ◌+◌, ◌<◌, ◌≤◌, ◌==◌, Bool, true, false, ◌&&◌, ◌||◌, ◌⊎◌, List, [], ◌∷◌, length, drop, get_or, is_some, map, All, bytes_eq, codes, decimal, nat_lt, Option, Some, None, Result, Ok, Err, if◌then◌else◌}
 use Rattle.at_files.specs.Prelude.{number_of, BookTerms, TargetPair, IsCallOn, Call, Transfer, Read, Pay, most_targets, most_calls}
-use Rattle.at_files.specs.Names.{NameList, account_name, position_of}
+use Rattle.at_files.specs.Names.{NameList, account_name, position_of, process_name}
 use Rattle.at_files.specs.Records.{Fields, before, field_of, number_at, has_shape}
 use Rattle.at_files.specs.declared.payments_fault.PaymentsWhy.{PaymentsWhy}
-use Rattle.at_files.specs.declared.payments_fault.PaymentsWhy.TheVariants.{Shape, Number, UnknownAccount, TooManyCalls}
+use Rattle.at_files.specs.declared.payments_fault.PaymentsWhy.TheVariants.{Shape, Number, UnknownAccount, TooManyCalls, Process}
 use Rattle.at_files.specs.declared.payments_fault.BadPayments.{BadPayments}
 use Rattle.at_files.specs.declared.spelled.BadRecord.{BadRecord}
-use Rattle.at_files.specs.Spelled.{items_of}
+use Rattle.at_files.specs.Spelled.{items_from}
 
 -- a transfer between two of so many accounts
 abbrev pub transfer_of : ℕ → Option ℕ → Option ℕ → Option ℕ → Result Call PaymentsWhy
@@ -90,9 +90,39 @@ abbrev pub calls_or_fault : Result (List Call) (BadRecord PaymentsWhy) → Resul
 calls_or_fault (Ok calls) = Ok calls
 calls_or_fault (Err bad) = Err (payments_fault bad)
 
--- the calls of a file's records, or the first fault
-abbrev pub payments_of : NameList → List Fields → Result (List Call) BadPayments
-payments_of names records = calls_or_fault (items_of (call_of names) most_calls TooManyCalls records)
+-- whether the record names the process of its file
+abbrev pub names_process : Fields → Bool
+names_process fields = has_shape (codes "process") 2 fields
+
+-- so many records stand before those of the calls: one, where the first names a process
+abbrev pub before_calls : List Fields → ℕ
+before_calls records = if names_process (get_or records 0 []) then 1 else 0
+
+-- the file names no other process than this one
+abbrev pub is_of : NameList → ℕ → List Fields → Bool
+is_of names process records =
+    if names_process (get_or records 0 []) then bytes_eq (field_of (get_or records 0 []) 1) (process_name names process) else true
+
+-- the file names no other process, and these records are left behind those that are no calls, which are so many
+pub record BeginsBehind (names : NameList) (process : ℕ) (records : List Fields) (skipped : ℕ) (rest : List Fields) : Type 0 where
+  pub of : is_of names process records ≡ true
+  pub skipped_is : skipped ≡ before_calls records
+  pub rest_is : rest ≡ drop (before_calls records) records
+
+-- the file names another process, which is this fault
+pub record NamesAnother (names : NameList) (process : ℕ) (records : List Fields) (bad : BadRecord PaymentsWhy) : Type 0 where
+  pub of : is_of names process records ≡ false
+  pub fault_is : bad ≡ record { line = 1; why = Process }
+
+-- the calls of the records behind so many that are none, or the first fault
+abbrev pub calls_behind : NameList → ℕ → List Fields → Result (List Call) BadPayments
+calls_behind names skipped records = calls_or_fault (items_from (call_of names) (skipped + most_calls) TooManyCalls (skipped + 1) records)
+
+-- the calls of a file's records, or the first fault: that it names another process comes first
+abbrev pub payments_of : NameList → ℕ → List Fields → Result (List Call) BadPayments
+payments_of names process records =
+    if is_of names process records then calls_behind names (before_calls records) (drop (before_calls records) records)
+    else Err (record { line = 1; why = Process })
 
 -- the fields of a pay-out's targets, a name and an amount for each
 unfoldable pub fields_of_targets : NameList → List TargetPair → Fields
@@ -118,9 +148,14 @@ HasAmounts (Transfer from to amount) = amount < 2 ^ 64
 HasAmounts (Read account) = Unit {0}
 HasAmounts (Pay from targets) = All (λ t. t.1 < 2 ^ 64) targets
 
--- the records are these calls, written out one after another
-pub record Pays (b : BookTerms) (names : NameList) (records : List Fields) (calls : List Call) : Type 0 where
-  pub spelled : records ≡ map (fields_of_call names) calls
+-- the record that names a process, of which the file is
+abbrev pub fields_of_process : NameList → ℕ → Fields
+fields_of_process names process = codes "process" ∷ process_name names process ∷ []
+
+-- the records are these calls, written out one after another, as they are or behind one that names the process. They name accounts of the
+-- book, have amounts below 2 ^ 64, are of the book's version, and are at most 16,384
+pub record Pays (b : BookTerms) (names : NameList) (process : ℕ) (records : List Fields) (calls : List Call) : Type 0 where
+  pub spelled : (records ≡ map (fields_of_call names) calls) ⊎ (records ≡ fields_of_process names process ∷ map (fields_of_call names) calls)
   pub known : All (IsCallOn (length b.accounts)) calls
   pub amounts : All HasAmounts calls
   pub versions : All (IsCallOfVersion names.version) calls

@@ -1,5 +1,5 @@
 -- What the records of a file spell, one after another.
-use Rattle.std.specs.Prelude.{ℕ, ◌+◌, ◌==◌, List, [], ◌∷◌, ◌++◌, Result, Ok, Err, if◌then◌else◌}
+use Rattle.std.specs.Prelude.{ℕ, ◌+◌, ◌==◌, Bool, List, [], ◌∷◌, ◌++◌, Result, Ok, Err, if◌then◌else◌}
 use Rattle.at_files.specs.Records.{Fields}
 use Rattle.at_files.specs.declared.spelled.BadRecord.{BadRecord}
 
@@ -22,13 +22,17 @@ abbrev pub with_item : {T W : Type 0} → ℕ → List T → Result T W → Resu
 with_item line items (Ok item) = Ok (items ++ item ∷ [])
 with_item line items (Err why) = bad_record line why
 
--- what the records spell from this line on, by what one of them does: no more than `most`, and else `over` is the cause
+-- what the records spell from this line on, by what one of them does: up to the line `last`, and behind it `over` is the cause
 unfoldable pub items_from : {T W : Type 0} → (Fields → Result T W) → ℕ → W → ℕ → List Fields → Result (List T) (BadRecord W)
-items_from item most over line [] = Ok []
-items_from item most over line (fields ∷ records) =
-    if line == most + 1 then bad_record line over
-    else item_before line (item fields) (items_from item most over (line + 1) records)
+items_from item last over line [] = Ok []
+items_from item last over line (fields ∷ records) =
+    if line == last + 1 then bad_record line over
+    else item_before line (item fields) (items_from item last over (line + 1) records)
 
--- what a file's records spell, or the first fault
+-- what a file's records spell, no more than `most`, or the first fault
 abbrev pub items_of : {T W : Type 0} → (Fields → Result T W) → ℕ → W → List Fields → Result (List T) (BadRecord W)
 items_of item most over records = items_from item most over 1 records
+
+-- the records that are left where the next one was found, or where there is none
+abbrev pub next_and_rest : Bool → Fields → List Fields → List Fields
+next_and_rest found fields rest = if found then fields ∷ rest else []

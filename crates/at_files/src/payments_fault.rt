@@ -20,6 +20,9 @@ pub enum PaymentsWhy {
     /// The file goes on after the most calls that it may have.
     #[error("too many calls")]
     TooManyCalls,
+    /// Its first record names another process than that of the file's place.
+    #[error("process")]
+    Process,
 }
 
 /// A payment file's first fault. A line is the number of a record, from 1.

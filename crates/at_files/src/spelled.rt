@@ -1,8 +1,8 @@
 //! Files of which each record spells one thing.
 
-ghost use Rattle.std.specs.Prelude.{◌≡◌, ◌+◌, ◌^◌, ◌<◌, Result, Err, Ok, IfOk, OnOk, []};
+ghost use Rattle.std.specs.Prelude.{◌≡◌, ◌+◌, ◌^◌, ◌<◌, ◌≤◌, Result, Err, Ok, IfOk, OnOk, []};
 ghost use Rattle.at_files.specs.Records.{Fields, file_records};
-ghost use Rattle.at_files.specs.Spelled.{items_of, with_item};
+ghost use Rattle.at_files.specs.Spelled.{items_from, items_of, next_and_rest, with_item};
 
 use crate::record::Record;
 use crate::records::Records;
@@ -66,41 +66,46 @@ fn add_item<F: RecordForm>(
     Ok(())
 }
 
-/// Reads the records of a file into the items, of which there are none yet.
+/// Reads the records from the line `first` up to the line `last` into the items, of which there are none yet. The first of them, if it was
+/// `found`, stands in `fields` already.
 ///
 /// It holds only references: what is owned stands in its caller.
-fn read_into<'a, F: RecordForm>(
+pub(crate) fn read_into<'a, F: RecordForm>(
     form: &F,
-    most: u32,
+    first: u32,
+    last: u32,
     over: F::Why,
+    found: bool,
     records: &mut Records<'a>,
     fields: &mut Record<'a>,
     items: &mut Vec<F::Item>,
 ) -> Result<(), ReadFault<F::Why>>
-    requires most { most + 1 < 2 ^ 32 }
+    requires first { first ≤ last }
+    requires last { last + 1 < 2 ^ 32 }
     requires none { items.old.items ≡ [] }
     ensures ok { OnOk result
-        (items_of (F.item form.now) most over records.old ≡ Ok items.new.items) }
+        (items_from (F.item form.now) last over first (next_and_rest found fields.old records.old)
+        ≡ Ok items.new.items) }
     ensures bad { (b : BadRecord F.Why) → result ≡ Err (ReadFault.Bad b)
-        → items_of (F.item form.now) most over records.old ≡ Err b }
+        → items_from (F.item form.now) last over first
+        (next_and_rest found fields.old records.old) ≡ Err b }
 {
-    for line in 1..most + 1 {
-        let Ok(found) = records.next(fields) else {
-            return Err(ReadFault::NoMemory);
-        };
-        if !found {
+    let mut left = found;
+    for line in first..last + 1 {
+        if !left {
             return Ok(());
         }
         if let Err(fault) = add_item(form, line, fields, items) {
             return Err(fault);
         }
+        let Ok(next) = records.next(fields) else {
+            return Err(ReadFault::NoMemory);
+        };
+        left = next;
     }
-    let Ok(found) = records.next(fields) else {
-        return Err(ReadFault::NoMemory);
-    };
-    if found {
+    if left {
         return Err(ReadFault::Bad(BadRecord {
-            line: most + 1,
+            line: last + 1,
             why: over,
         }));
     }
@@ -110,7 +115,7 @@ fn read_into<'a, F: RecordForm>(
 /// How many records a file can have, of which at most `most` are read: each takes a byte, and a newline but for the last.
 ///
 /// Room that no record comes to lie in costs nothing, since no byte of it is touched.
-fn room_for(most: u32, bytes: &[u8]) -> usize {
+pub(crate) fn room_for(most: u32, bytes: &[u8]) -> usize {
     (most as usize).min(bytes.len() / 2 + 1)
 }
 
@@ -124,7 +129,8 @@ pub(crate) fn read_items<F: RecordForm>(
     over: F::Why,
     bytes: &[u8],
 ) -> Result<Vec<F::Item>, ReadFault<F::Why>>
-    requires { most + 1 < 2 ^ 32 }
+    requires some { 1 ≤ most }
+    requires most { most + 1 < 2 ^ 32 }
     ensures ok { IfOk result
         (λ items. items_of (F.item form.now) most over (file_records bytes.now) ≡ Ok items.items) }
     ensures bad { (b : BadRecord F.Why) → result ≡ Err (ReadFault.Bad b)
@@ -135,7 +141,19 @@ pub(crate) fn read_items<F: RecordForm>(
     };
     let mut records = Records::new(alloc, bytes);
     let mut fields = Record::new(alloc);
-    match read_into(form, most, over, &mut records, &mut fields, &mut items) {
+    let Ok(found) = records.next(&mut fields) else {
+        return Err(ReadFault::NoMemory);
+    };
+    match read_into(
+        form,
+        1,
+        most,
+        over,
+        found,
+        &mut records,
+        &mut fields,
+        &mut items,
+    ) {
         Ok(()) => Ok(items),
         Err(fault) => Err(fault),
     }

@@ -47,6 +47,7 @@ asker_of_word b (Announced a slot) = None
 asker_of_word b (Request a slot i j) = slice_get (account_of b a).owners slot
 asker_of_word b (Cell a round) = None
 
+-- the owner of the request that a step loads a word of
 abbrev pub asker_loaded : BookTerms → Option BoardStep → Option ℕ
 asker_loaded b None = None
 asker_loaded b (Some (Load word)) = asker_of_word b word
@@ -80,6 +81,7 @@ abbrev pub arrow_caption : NameList → ℕ → ℕ → ℕ → List ℕ
 arrow_caption names m p q =
     codes "<text class='caption'" ++ place_text (caption_place m) (caption_line p q) ++ codes ">" ++ arrow_words names q ++ codes "</text>\n"
 
+-- the arrow with its title and the caption beside it; of arrows_text all of them
 abbrev pub arrow_text : NameList → ℕ → ℕ → Option ℕ → List ℕ
 arrow_text names m p None = []
 arrow_text names m p (Some q) = arrow_stroke names m p q ++ arrow_caption names m p q

@@ -67,7 +67,7 @@ answer_text reply s =
     then codes "<text class='reply'" ++ place_text (bar_right s.last) (reply_line s.process) ++ codes ">" ++ reply ++ codes "</text>\n"
     else []
 
--- a bar, where the lane's next one begins at this turn
+-- a bar, where the lane's next one begins at this turn. The bar of a call, with its words and its reply where they fit
 abbrev pub bar_text : NameList → List (List Call) → ℕ → Span → List ℕ
 bar_text names files after s =
     let label = label_if names (spanned_call files s) in rect_text names label s ++ words_text label after s ++ answer_text (reply_field s.reply) s

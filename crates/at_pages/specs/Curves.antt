@@ -8,6 +8,7 @@ use Rattle.at_pages.specs.declared.loads.LoadNumbers.{LoadNumbers}
 abbrev pub is_publication_of : List TurnMade → ℕ → ℕ → Bool
 is_publication_of turns q m = ((turn_at turns m).process == q) && (turn_at turns m).published
 
+-- the turns in which a process publishes, in order
 abbrev pub publishing_turns : List TurnMade → ℕ → List ℕ
 publishing_turns turns q = filter (is_publication_of turns q) (range_with_len 0 (length turns))
 
@@ -61,6 +62,7 @@ is_view_word (Announced a slot) = false
 is_view_word (Request a slot i j) = false
 is_view_word (Cell a round) = false
 
+-- whether a step loads a word of a record's view
 abbrev pub loads_view : Option BoardStep → Bool
 loads_view None = false
 loads_view (Some (Load word)) = is_view_word word
@@ -86,6 +88,7 @@ borrow_text q m p = codes "<text class='caption'" ++ place_text (caption_place m
 abbrev pub borrow_caption : Bool → ℕ → ℕ → ℕ → List ℕ
 borrow_caption borrows q m p = if borrows then borrow_text q m p else []
 
+-- the curve with its title, and the caption `borrows` beside it where that turn loads a view; of curves_text all of them
 abbrev pub curve_text : ℕ → ℕ → TurnMade → Option ℕ → List ℕ
 curve_text q m t None = []
 curve_text q m t (Some s) = curve_stroke s q m t.process ++ borrow_caption (loads_view t.step) q m t.process

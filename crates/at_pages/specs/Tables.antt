@@ -36,6 +36,7 @@ row_words b names files s =
     ∷ (call_cells b names s.process (spanned_call files s) ++ reply_field s.reply
     ∷ (count_cells s ++ bound_cells b (spanned_call files s) s.new_records s.reply))
 
+-- the row of a call in the table
 abbrev pub row_text : BookTerms → NameList → List (List Call) → Span → List ℕ
 row_text b names files s = codes "<tr>" ++ cells_text (row_words b names files s) ++ codes "</tr>\n"
 

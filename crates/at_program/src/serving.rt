@@ -70,7 +70,7 @@ pub fn serve<R: Threads + Sync, F: Shelf, O: Sink, E: Sink, G: Gate + Sync>(
     ensures unread { ReadsNothing (wanted_of (words_of words.now)) → shelf.new ≡ shelf.old }
     ensures no_ledger { LeavesNoLedger (wanted_of (words_of words.now)) → kept.new ≡ None }
 
-    // What faults were calls_counted, and what a refusal leaves.
+    // What faults were counted, and what a refusal leaves.
     ensures done_kept { result ≡ Status.Done
         → (F.faults shelf.new ≡ F.faults shelf.old) × (O.faults out.new ≡ O.faults out.old) }
     ensures write_fault { result ≡ Status.WriteFault

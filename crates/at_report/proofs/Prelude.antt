@@ -1,10 +1,10 @@
 -- What this crate's proofs name of other crates and of its definitions, in one place.
-pub use Rattle.std.proofs.Math.Seq.{take-append_seam}
-pub use Rattle.std.proofs.lemmas.Bool.{and_parts}
+pub use Rattle.std.proofs.Math.Seq.{take-append-add, take-append_seam}
+pub use Rattle.std.proofs.lemmas.Bool.{and_parts, cases_lt}
 pub use Rattle.std.proofs.lemmas.Bool.Decides.{Decides-eqb}
 pub use Rattle.std.proofs.lemmas.Fmt.{decimal_digit, digits_decimal, first_decimal}
 pub use Rattle.std.proofs.lemmas.Grind.{common_steps, flat_map-append}
-pub use Rattle.std.proofs.lemmas.List.{append_cancel_left, get_or-map, length-append, length-map, length-take-le, map-append, map-id, take-take, take_all, take_more}
+pub use Rattle.std.proofs.lemmas.List.{append-nil, append_cancel_left, get_or-map, length-append, length-map, length-take-le, map-append, map-id, take-append-le, take-take, take_all, take_more}
 pub use Rattle.std.proofs.lemmas.List.FromFn.{map-range_with_len_more}
 pub use Rattle.std.proofs.lemmas.Slice.Eq.{strip_prefix_is}
 pub use Rattle.std.specs.Io.{StartsWith}

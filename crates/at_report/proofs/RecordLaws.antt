@@ -1,5 +1,5 @@
 -- Records of CSV texts and their fields.
-use Rattle.std.proofs.Common.{◌≡◌, ℕ, ◌+◌, ◌<◌, List, [], ◌∷◌, ◌++◌, flat_map, map, ap, ◌∙◌, sym, append_assoc, append-nil, arith}
+use Rattle.std.proofs.Common.{◌≡◌, ℕ, ◌+◌, List, [], ◌∷◌, ◌++◌, flat_map, map, ap, ◌∙◌, sym, append_assoc, append-nil, arith}
 use Rattle.at_report.proofs.Prelude.{join_with_byte, range_with_len, flat_map-append, map-id, map-range_with_len_more, Words, comma_led, record_text, records_text}
 
 -- a record is its first field, and then the others, each after a comma

@@ -42,6 +42,7 @@ payments_cause payments.Shape = codes "shape"
 payments_cause payments.Number = codes "number"
 payments_cause payments.UnknownAccount = codes "unknown account"
 payments_cause payments.TooManyCalls = codes "too many calls"
+payments_cause payments.Process = codes "process"
 
 -- the cause of a schedule's fault
 abbrev pub schedule_cause : ScheduleWhy → List ℕ
@@ -92,10 +93,10 @@ fault_words forms (TooLong file) = codes "too long: file " ++ decimal file
 fault_words forms (BadSchedule at why) = codes "schedule" ++ line_and_cause at.number (schedule_cause why)
 fault_words forms (BadOrder at why) = codes "order" ++ line_and_cause at.number (order_cause why)
 fault_words forms (BadMessages process at why) = codes "messages " ++ decimal process ++ line_and_cause at.number (messages_cause why)
-fault_words forms (NotLegal line) = codes "report" ++ line_and_cause line (codes "not legal")
+fault_words forms (NotLegal line expected) = codes "report" ++ line_and_cause line (codes "not legal")
 fault_words forms TooManyOrders = codes "too many orders"
 
--- the lines of a refusal: what is said of it, and for one of a file, whose word this is, what was expected in it
+-- the lines of a refusal: what is said of it, and for one of a file, whose word this is, what was expected in it. Nothing for `Done`
 abbrev pub fault_lines : List ℕ → List ℕ → Status → List ℕ
 fault_lines forms word Done = []
 fault_lines forms word status = fault_words forms status ++ 10 ∷ [] ++ advice_line word status

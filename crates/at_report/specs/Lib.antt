@@ -1,4 +1,5 @@
 pub mod Prelude
+pub mod ReportLines
 pub mod Status
 pub mod Advice
 pub mod FaultText

@@ -36,6 +36,6 @@ made_lines first processes calls done reads =
 abbrev pub summary_of : BookTerms → ℕ → ℕ → ℕ → ℕ → LedgerState → List ℕ
 summary_of b first calls done reads last = lines_text (made_lines first b.processes calls done reads ++ audit_lines (plain_names b) last)
 
--- the summary of a list of lines
+-- the summary of a list of lines. How many calls are done, how many are reads, the balances and the total at the end
 abbrev pub summary_text : BookTerms → List Line → ℕ → ℕ → List ℕ
 summary_text b lines first calls = summary_of b first calls (done_in lines) (read_in lines) (last_state b lines)

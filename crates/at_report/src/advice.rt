@@ -1,10 +1,11 @@
 //! The second line of the refusal of a file: the file's word, and what was expected in it, for a person.
 
 ghost use Rattle.std.specs.Prelude.{◌≡◌, ◌+◌, ◌≤◌, ◌++◌, length, map};
-ghost use Rattle.at_report.specs.Advice.{advice_at, advice_line, advice_of, book_advice, book_shape_advice, limit_advice, messages_advice, order_advice, payments_advice, schedule_advice, shown_byte, word_shown};
+ghost use Rattle.at_report.specs.Advice.{advice_at, advice_line, advice_of, advice_place, book_advice, book_shape_advice, expected_advice, limit_advice, messages_advice, order_advice, payments_advice, schedule_advice, shown_byte, word_shown};
 
-use crate::refusal::{FaultText, push_decimal, push_text};
-use crate::status::Status;
+use crate::refusal::{FaultText, push_bytes, push_decimal, push_text};
+use crate::report_line::ReportLine;
+use crate::status::{Status, UsageFault};
 use at_files::{BookWhy, MessagesWhy, OrderWhy, PaymentsWhy, ScheduleWhy};
 use at_ledger::BookError;
 
@@ -37,11 +38,12 @@ fn limit_advice(why: &BookError) -> &'static str
             "behind the limits there is at least one account, as account,0,500,0 or in a book,2 account,joint,300,ann bob",
         BookError::TooManyAccounts => "a book has at most 1024 accounts",
         BookError::OwnerOutOfRange { .. } =>
-            "an owner is the number of a process, counted from 0 (of two processes 0 or 1)",
+            "an owner is the number of a process, from 0 (of two processes 0 or 1); a process more in the second record needs a payment file more",
         BookError::OwnersNotRising { .. } =>
             "owners stand in the order of the processes, each once, with one space between two",
-        BookError::TooManyOwners { .. } => "an account has at most 8 owners",
-        BookError::RoomOutOfRange => "the first limit is from 1 to 4096, the second from 1 to 1024",
+        BookError::TooManyOwners { .. } => "an account has at most 8 owners: leave some out",
+        BookError::RoomOutOfRange =>
+            "the first limit is from 1 to 4096, the second from 1 to 1024: take the most where you want none",
         BookError::RoundsOverLimit { .. } =>
             "the second limit times the owners of all shared accounts is at most 8192: make that limit smaller",
         BookError::TotalOverLimit { .. } =>
@@ -59,16 +61,16 @@ fn book_advice(number: u32, why: &BookWhy) -> &'static str
             "the first record is book,1 (accounts are numbers) or book,2 (accounts have names)",
         BookWhy::Shape => book_shape_advice(number),
         BookWhy::Number =>
-            "a number is digits alone: no sign, point, space or leading zero (write 12.50 as 1250); names of accounts and owners need a book,2",
+            "a number is digits alone, at most 18446744073709551615: no sign, point, space or leading zero (12.50 is 1250 where the whole book counts hundredths); names of accounts and owners need a book,2",
         BookWhy::AccountOrder =>
             "accounts are numbered in their order: 0 in the fourth record, then 1, 2 and so on",
         BookWhy::Book(e) => limit_advice(e),
         BookWhy::Name =>
-            "a name is 1 to 16 small letters, digits and -, and begins with a letter, as ann or bob-2",
+            "a name is 1 to 16 small letters, digits and -, and begins with a letter, as ann or bob-2; the processes of a book,2 have names too, as processes,ann,bob",
         BookWhy::NameTwice =>
             "another one has this name already: each process has a name of its own, and so has each account",
         BookWhy::UnknownOwner =>
-            "an owner is the name of a process in the second record, with one space between two",
+            "an owner is a name of the second record, with one space between two; whoever isn't a process there is added to it, and has a payment file too",
     }
 }
 
@@ -79,13 +81,15 @@ fn payments_advice(why: &PaymentsWhy) -> &'static str
 {
     match why {
         PaymentsWhy::Shape =>
-            "a call is transfer,FROM,TO,AMOUNT or read,ACCOUNT, or beside a book,2 pay,FROM,TO,AMOUNT with up to four pairs TO,AMOUNT; there is no head, and commas part the fields",
+            "a call is transfer,FROM,TO,AMOUNT or read,ACCOUNT, beside a book,2 also pay,FROM and one to four pairs TO,AMOUNT; commas part the fields, and there is no head, no comment and no open quote",
         PaymentsWhy::Number =>
-            "an amount is digits alone: no sign, point, space or leading zero (write 12.50 as 1250)",
+            "an AMOUNT is digits alone, at most 18446744073709551615: no sign, point, space or leading zero (12.50 is 1250 where the whole book counts hundredths); beside a book,1 accounts are numbers too",
         PaymentsWhy::UnknownAccount =>
-            "an account is written as in the book, and the one that pays comes first: transfer,FROM,TO,AMOUNT",
+            "an account is written as in the book (beside a book,1 its number, from 0), and the one that pays comes first: transfer,FROM,TO,AMOUNT",
         PaymentsWhy::TooManyCalls =>
             "a payment file has at most 16384 calls, and beside a schedule at most 64",
+        PaymentsWhy::Process =>
+            "its first record names another process than the one whose file stands here: give the files in the order of the book's second record, or mend this one",
     }
 }
 
@@ -182,18 +186,47 @@ fn push_advice_of(out: &mut FaultText, word: &str, advice: &str)
     out.push(b'\n');
 }
 
-/// Adds the line about a line of a file.
-fn push_advice_at(out: &mut FaultText, word: &str, line: u64, advice: &str)
-    requires room { length out.old.items ≤ 801 }
-    requires short { length advice.now ≤ 200 }
-    ensures { out.new.items ≡ out.old.items ++ advice_at word.now line advice.now }
+/// Adds which line of a file a line is about.
+fn push_at_line(out: &mut FaultText, word: &str, line: u64)
+    requires { length out.old.items ≤ 801 }
+    ensures text { out.new.items ≡ out.old.items ++ advice_place word.now line }
+    ensures short { length out.new.items ≤ length out.old.items + 240 }
 {
     push_text(out, "  ");
     push_file_word(out, word.as_bytes());
     push_text(out, ", line ");
     push_decimal(out, line);
     push_text(out, ": ");
+}
+
+/// Adds the line about a line of a file.
+fn push_advice_at(out: &mut FaultText, word: &str, line: u64, advice: &str)
+    requires room { length out.old.items ≤ 801 }
+    requires short { length advice.now ≤ 200 }
+    ensures { out.new.items ≡ out.old.items ++ advice_at word.now line advice.now }
+{
+    push_at_line(out, word, line);
     push_text(out, advice);
+    out.push(b'\n');
+}
+
+/// Adds the line about a line of a report.
+fn push_expected_at(out: &mut FaultText, word: &str, line: u64, expected: &Option<ReportLine>)
+    requires { length out.old.items ≤ 801 }
+    ensures { out.new.items ≡ out.old.items ++ advice_at word.now line
+        (expected_advice expected.now) }
+{
+    push_at_line(out, word, line);
+    match expected {
+        Some(other) => {
+            push_text(out, "expected: ");
+            push_bytes(out, other.bytes());
+        }
+        None => push_text(
+            out,
+            "no run of these files prints this line here, or the report ends too early",
+        ),
+    }
     out.push(b'\n');
 }
 
@@ -216,16 +249,18 @@ pub(crate) fn push_advice(out: &mut FaultText, word: &str, status: &Status)
         Status::BadMessages { at, why, .. } => {
             push_advice_at(out, word, at.line, messages_advice(why))
         }
-        Status::NotLegal { line } => push_advice_at(
+        Status::NotLegal { line, expected } => {
+            push_expected_at(out, word, u64::from(*line), expected)
+        }
+        Status::Usage(UsageFault::Files { .. }) => push_advice_of(
             out,
             word,
-            u64::from(*line),
-            "no run of these files prints this line here, or the report ends too early",
+            "its second record has the processes: beside it stands one file for each of them, in that order",
         ),
         Status::ReadFault { .. } => push_advice_of(out, word, "not read"),
         Status::TooLong { .. } => push_advice_of(out, word, "a file has at most 8388608 bytes"),
         Status::Done
-        | Status::Usage(_)
+        | Status::Usage(UsageFault::Words)
         | Status::WriteFault
         | Status::NoMemory
         | Status::TooManyOrders => {}

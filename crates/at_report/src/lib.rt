@@ -18,6 +18,7 @@ mod pieces;
 mod records;
 mod refusal;
 mod replaying;
+mod report_line;
 mod run_report;
 mod run_summary;
 mod status;
@@ -30,6 +31,8 @@ pub use crate::nodes::nodes_text;
 pub use crate::pieces::Pieces;
 pub use crate::records::{push_field, push_number_field, push_reply_field};
 pub use crate::refusal::{FaultText, fault_text};
+pub use crate::replaying::replay;
+pub use crate::report_line::{LINE_MAX, ReportLine};
 pub use crate::run_report::{
     agreed_text, checked_text, push_audit, push_heading, report, verified_text,
 };

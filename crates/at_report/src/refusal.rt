@@ -55,6 +55,7 @@ fn payments_cause(why: &PaymentsWhy) -> &'static str
         PaymentsWhy::Number => "number",
         PaymentsWhy::UnknownAccount => "unknown account",
         PaymentsWhy::TooManyCalls => "too many calls",
+        PaymentsWhy::Process => "process",
     }
 }
 
@@ -96,11 +97,18 @@ fn messages_cause(why: &MessagesWhy) -> &'static str
     }
 }
 
+pub(crate) fn push_bytes(out: &mut FaultText, bytes: &[u8])
+    requires { length out.old.items + length bytes.now ≤ 1536 }
+    ensures { out.new.items ≡ out.old.items ++ bytes.now }
+{
+    out.try_extend_from_slice(bytes).unwrap();
+}
+
 pub(crate) fn push_text(out: &mut FaultText, text: &str)
     requires { length out.old.items + length text.now ≤ 1536 }
     ensures { out.new.items ≡ out.old.items ++ text.now }
 {
-    out.try_extend_from_slice(text.as_bytes()).unwrap();
+    push_bytes(out, text.as_bytes());
 }
 
 pub(crate) fn push_decimal(out: &mut FaultText, n: u64)
@@ -203,7 +211,7 @@ fn push_words(out: &mut FaultText, usage: &str, status: &Status)
             at.number,
             messages_cause(why),
         ),
-        Status::NotLegal { line } => push_bad(out, "report", *line, "not legal"),
+        Status::NotLegal { line, .. } => push_bad(out, "report", *line, "not legal"),
         Status::TooManyOrders => push_text(out, "too many orders"),
     }
 }

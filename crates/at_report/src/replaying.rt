@@ -8,11 +8,7 @@ use at_ledger::{Book, State};
 use std::alloc::{AllocError, Global};
 
 /// Makes the calls of the lines again, from the openings.
-pub(crate) fn replay<J: Journal>(
-    alloc: Global,
-    book: &Book,
-    journal: &J,
-) -> Result<State, AllocError>
+pub fn replay<J: Journal>(alloc: Global, book: &Book, journal: &J) -> Result<State, AllocError>
     requires { All (IsLineOn book.now.processes (length book.now.accounts)) (J.lines journal.now) }
     ensures last { IfOk result (λ s. s ≡ last_state book.now (J.lines journal.now)) }
     ensures book { IfOk result (λ s. s.book ≡ book.now) }

@@ -2,6 +2,7 @@
 
 ghost use Rattle.std.specs.Prelude.{◌≡◌};
 
+use crate::report_line::ReportLine;
 use at_files::{BookWhy, Location, MessagesWhy, OrderWhy, PaymentsWhy, ScheduleWhy};
 use std::alloc::AllocError;
 
@@ -61,9 +62,10 @@ pub enum Status {
         at: Location,
         why: MessagesWhy,
     },
-    /// The report is not one of a legal run.
+    /// The report is not one of a legal run: its first wrong line, and where there is one the line that was expected there.
     NotLegal {
         line: u32,
+        expected: Option<ReportLine>,
     },
     /// The orders of the calls are more than are walked.
     TooManyOrders,

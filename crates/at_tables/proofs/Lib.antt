@@ -10,4 +10,6 @@ pub mod FieldLaws
 -- how many calls of each process the first turns have answered
 pub mod TurnCountLaws
 pub mod LedgerTextLaws
+-- the entries of a journal add up, and what they assert of a legal run is right
+pub mod AddingUpLaws
 pub mod AskingLaws

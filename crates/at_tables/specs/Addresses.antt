@@ -9,7 +9,8 @@ process_word b names p = if nat_lt p b.processes then process_name names p else 
 abbrev pub account_word : BookTerms → NameList → ℕ → Word
 account_word b names a = if nat_lt a (length b.accounts) then account_name names a else decimal a
 
--- the parts of an address, with one space between
+-- the parts of an address, with one space between. What the word is of, and then its parts, processes and accounts by their names, or by their
+-- numbers where they had none
 abbrev pub address_text : BookTerms → NameList → BoardWord → Word
 address_text b names (Length p) = codes "length" ++ spaced (process_word b names p ∷ [])
 address_text b names (Record p i j) = codes "record" ++ spaced (process_word b names p ∷ decimal i ∷ decimal j ∷ [])

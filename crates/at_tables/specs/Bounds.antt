@@ -10,7 +10,7 @@ is_refusal NotOwner = true
 is_refusal Full = true
 is_refusal (Balance amount) = false
 
--- the most steps: those of the call without other traffic, and the words of each record that it counted anew
+-- the most steps: those of the call without other traffic, and the words of each record that it counted anew. 0 where the call was refused
 abbrev pub most_steps : BookTerms → Call → Reply → ℕ → ℕ
 most_steps b call reply new = if is_refusal reply then 0 else call_steps b call + RECORD_WORDS * new
 

@@ -31,7 +31,7 @@ abbrev pub costs_records : BookTerms → NameList → List (List Receipt) → Li
 costs_records b names receipts costs processes =
     flat_map (λ p. process_costs b names p (slice_index_or receipts p []) (slice_index_or costs p [])) (range_with_len 0 processes)
 
--- the whole text
+-- the whole text. The names of the fields, and a CSV record for each call, by process and then in order
 abbrev pub costs_text : BookTerms → NameList → List (List Receipt) → List (List CostTerms) → List ℕ
 costs_text b names receipts costs = record_text costs_head ++ records_text (costs_records b names receipts costs b.processes)
 

@@ -43,6 +43,6 @@ group_words names g = decimal g.payments ∷ owner_words names g.owners
 abbrev pub group_lines : NameList → List GroupTerms → List Words
 group_lines names groups = count_words (codes "groups") (length groups) ∷ map (group_words names) groups
 
--- the whole text
+-- the whole text. How many payments there are and of each kind, a line for each account, a line for each group
 abbrev pub kinds_text : BookTerms → NameList → List (List Call) → List ℕ
 kinds_text b names files = lines_text (head_lines b files ++ account_lines b names files ++ group_lines names (groups_of b files))

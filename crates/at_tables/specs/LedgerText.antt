@@ -1,76 +1,59 @@
--- The text of `ledger`: the lines of a journal in the plain-text format of hledger and ledger-cli.
-use Rattle.std.specs.Prelude.{ℕ, List, [], ◌∷◌, ◌++◌, codes, decimal, flat_map, length}
-use Rattle.at_tables.specs.Prelude.{range_with_len, BookTerms, account_of, TargetPair, amount_of, Call, Transfer, Read, Pay, Line, Reply, Done, Short, NotOwner, Full, Balance, NameList, account_name, process_name, Word, Words, journal_words, line_text}
+-- The text of `ledger`: its entries in the plain-text format of hledger and ledger-cli.
+use Rattle.std.specs.Prelude.{ℕ, List, [], ◌∷◌, ◌++◌, codes, decimal, flat_map, length, Option, None, Some}
+use Rattle.at_tables.specs.Prelude.{range_with_len, BookTerms, Line, NameList, account_name, process_name, Word, Words, journal_words, line_text}
+use Rattle.at_tables.specs.CallFields.{call_word}
+use Rattle.at_tables.specs.Entries.{Posting, Posts, TakesRest, Title, Openings, CallOf, Balances, JournalEntry, Enters, Comments, entries_of}
+use Rattle.at_tables.specs.declared.posting.Amount.{Amount}
+use Rattle.at_tables.specs.declared.posting.Amount.TheVariants.{Plus, Minus}
 
--- a posting: the account, and a number behind these bytes
-abbrev pub posting_text : NameList → ℕ → Word → ℕ → List ℕ
-posting_text names account before n =
-    codes "    account:" ++ account_name names account ++ codes "  " ++ before ++ decimal n ++ 10 ∷ []
+-- an amount with its sign, and the balance that is asserted behind it
+abbrev pub amount_text : Amount → List ℕ
+amount_text (Plus n) = decimal n
+amount_text (Minus n) = codes "-" ++ decimal n
 
--- what the account gives up, what it gets, and what it has to have
-abbrev pub debit_text : NameList → ℕ → ℕ → List ℕ
-debit_text names account n = posting_text names account (codes "-") n
+abbrev pub asserted_text : Option ℕ → List ℕ
+asserted_text None = []
+asserted_text (Some balance) = codes " = " ++ decimal balance
 
-abbrev pub credit_text : NameList → ℕ → ℕ → List ℕ
-credit_text names account n = posting_text names account [] n
+-- a posting, in a line of its own
+abbrev pub posting_text : NameList → Posting → List ℕ
+posting_text names (Posts account amount asserted) =
+    codes "    account:" ++ account_name names account ++ codes "  " ++ amount_text amount ++ asserted_text asserted ++ 10 ∷ []
+posting_text names TakesRest = codes "    equity:openings\n"
 
-abbrev pub assertion_text : NameList → ℕ → ℕ → List ℕ
-assertion_text names account n = posting_text names account (codes "0 = ") n
-
--- what each target gets
-abbrev pub credits_text : NameList → List TargetPair → List ℕ
-credits_text names targets = flat_map (λ t. credit_text names t.0 t.1) targets
+abbrev pub postings_text : NameList → List Posting → List ℕ
+postings_text names postings = flat_map (posting_text names) postings
 
 -- the one date of all transactions, whose order is that of the text
 abbrev pub entry_date : Word
 entry_date = codes "1970-01-01"
 
--- the first line of a transaction: who asked, which of its calls this is, and of which form
-abbrev pub title_text : NameList → Line → Word → List ℕ
-title_text names l form = line_text (entry_date ∷ process_name names l.process ∷ decimal l.number ∷ form ∷ [])
+-- the words of a title. A call's are who asked, which of its calls this is, and of which form
+abbrev pub title_words : NameList → Title → Words
+title_words names Openings = codes "openings" ∷ []
+title_words names (CallOf l) = process_name names l.process ∷ decimal l.number ∷ call_word l.call ∷ []
+title_words names Balances = codes "balances" ∷ []
 
--- a line that moves nothing is a comment
-abbrev pub comment_text : NameList → Line → List ℕ
-comment_text names l = codes "; " ++ line_text (journal_words names l)
+abbrev pub title_text : NameList → Title → List ℕ
+title_text names title = line_text (entry_date ∷ title_words names title)
 
--- a payment from the account to these targets, by its reply
-abbrev pub payment_text : NameList → Line → Word → ℕ → List TargetPair → Reply → List ℕ
-payment_text names l form from targets Done =
-    title_text names l form ++ debit_text names from (amount_of targets) ++ credits_text names targets
-payment_text names l form from targets Short = comment_text names l
-payment_text names l form from targets NotOwner = comment_text names l
-payment_text names l form from targets Full = comment_text names l
-payment_text names l form from targets (Balance n) = comment_text names l
+-- a transaction, or a comment with the words of the report, after an empty line
+abbrev pub entry_text : NameList → JournalEntry → List ℕ
+entry_text names (Enters t) = 10 ∷ (title_text names t.title ++ postings_text names t.postings)
+entry_text names (Comments l) = 10 ∷ (codes "; " ++ line_text (journal_words names l))
 
--- a read of the account, by its reply
-abbrev pub reading_text : NameList → Line → ℕ → Reply → List ℕ
-reading_text names l account (Balance n) = title_text names l (codes "read") ++ assertion_text names account n
-reading_text names l account Done = comment_text names l
-reading_text names l account Short = comment_text names l
-reading_text names l account NotOwner = comment_text names l
-reading_text names l account Full = comment_text names l
+-- the declaration of an account, and those of all that are posted to
+abbrev pub declaration_text : NameList → ℕ → List ℕ
+declaration_text names account = codes "account account:" ++ account_name names account ++ 10 ∷ []
 
--- a line by its call
-abbrev pub posted_text : NameList → Line → Call → List ℕ
-posted_text names l (Transfer from to amount) = payment_text names l (codes "transfer") from ((to, amount) ∷ []) l.reply
-posted_text names l (Read account) = reading_text names l account l.reply
-posted_text names l (Pay from targets) = payment_text names l (codes "pay") from targets l.reply
+abbrev pub declarations_text : BookTerms → NameList → List ℕ
+declarations_text b names =
+    flat_map (declaration_text names) (range_with_len 0 (length b.accounts)) ++ codes "account equity:openings\n"
 
--- an empty line, and then that of the journal
-abbrev pub entry_text : NameList → Line → List ℕ
-entry_text names l = 10 ∷ posted_text names l l.call
+-- entries as they are written
+abbrev pub written_text : BookTerms → NameList → List JournalEntry → List ℕ
+written_text b names entries = declarations_text b names ++ flat_map (entry_text names) entries
 
--- what each account opens with
-abbrev pub opening_text : BookTerms → NameList → ℕ → List ℕ
-opening_text b names account = credit_text names account (account_of b account).opening
-
--- the first transaction: what all accounts open with
-abbrev pub openings_text : BookTerms → NameList → List ℕ
-openings_text b names =
-    line_text (entry_date ∷ codes "openings" ∷ [])
-    ++ flat_map (opening_text b names) (range_with_len 0 (length b.accounts))
-    ++ line_text (codes "    equity:openings" ∷ [])
-
--- the whole text: the openings, and then each line of the journal
+-- the whole text: the entries of these lines, written
 abbrev pub ledger_text : BookTerms → NameList → List Line → List ℕ
-ledger_text b names lines = openings_text b names ++ flat_map (entry_text names) lines
+ledger_text b names lines = written_text b names (entries_of b lines)

@@ -15,4 +15,6 @@ pub mod NeedsText
 pub mod Asking
 pub mod Addresses
 pub mod TraceText
+pub mod Entries
+pub mod AddingUp
 pub mod LedgerText

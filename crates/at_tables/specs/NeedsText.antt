@@ -35,6 +35,6 @@ needs_of_account b names asks a =
 abbrev pub needs_records : BookTerms → NameList → (ℕ → ℕ → ℕ) → ℕ → List Words
 needs_records b names asks accounts = flat_map (λ a. needs_of_account b names (asks a) a) (range_with_len 0 accounts)
 
--- the whole text
+-- the whole text. The names of the fields, and a CSV record for each account and owner
 abbrev pub needs_text : BookTerms → NameList → List (List Call) → List ℕ
 needs_text b names files = record_text needs_head ++ records_text (needs_records b names (owner_asks b files) (length b.accounts))

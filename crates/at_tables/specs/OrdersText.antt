@@ -26,7 +26,8 @@ abbrev pub balances_words : Option Range → Words
 balances_words None = []
 balances_words (Some range) = range_words range
 
--- the replies of a call: of a read its balances, and else those of a payment
+-- the replies of a call: of a read its balances, and else those of a payment. Of a payment those of the four that it has, of a read its least
+-- and greatest balance, or the one that there is
 abbrev pub replies_words : Call → Replies → Words
 replies_words (Transfer from to amount) r = payment_words r
 replies_words (Read account) r = balances_words r.balances
@@ -55,6 +56,6 @@ abbrev pub replies_records : BookTerms → NameList → List (List Call) → Lis
 replies_records b names files answers processes =
     flat_map (λ p. process_replies b names p (slice_index_or files p []) (slice_index_or answers p [])) (range_with_len 0 processes)
 
--- the whole text
+-- the whole text. The names of the fields, and a CSV record for each call with its replies, by process and then in file order
 abbrev pub orders_text : BookTerms → NameList → List (List Call) → List (List Replies) → List ℕ
 orders_text b names files answers = record_text orders_head ++ records_text (replies_records b names files answers b.processes)

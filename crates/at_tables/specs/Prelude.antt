@@ -15,9 +15,11 @@ pub use Rattle.at_board.specs.declared.step.BoardWord.TheVariants.{Announced, Ce
 pub use Rattle.at_board.specs.declared.words.TheConstants.{RECORD_WORDS}
 pub use Rattle.at_files.specs.Names.{AreNamesOf, NameList, account_name, process_name}
 pub use Rattle.at_ledger.specs.Account.{AccountTerms, is_owner_in, is_shared, is_single, slots_of}
-pub use Rattle.at_ledger.specs.Book.{BookTerms, account_of}
+pub use Rattle.at_ledger.specs.Book.{BookTerms, account_of, total_of}
 pub use Rattle.at_ledger.specs.Call.{AreTargetsOn, IsCallOn, IsLineOn, TargetPair, amount_of, first_account}
 pub use Rattle.at_ledger.specs.Files.{IsPlayable, contents_of}
+pub use Rattle.at_ledger.specs.Run.{Legal, last_state}
+pub use Rattle.at_ledger.specs.State.{LedgerState, balance_of}
 pub use Rattle.at_ledger.specs.declared.call.Call.{Call}
 pub use Rattle.at_ledger.specs.declared.call.Call.TheVariants.{Pay, Read, Transfer}
 pub use Rattle.at_ledger.specs.declared.call.Line.{Line}

@@ -21,6 +21,6 @@ payments_text b files =
 abbrev pub agreement_text : NameList → GroupTerms → List ℕ
 agreement_text names g = codes "; " ++ decimal g.payments ++ codes " by the owners" ++ spaced (owner_words names g.owners)
 
--- the whole sentence
+-- the whole sentence. How many payments there are, how many of each kind, and how many each group has to agree on
 abbrev pub sentence_text : BookTerms → NameList → List (List Call) → List ℕ
 sentence_text b names files = payments_text b files ++ flat_map (agreement_text names) (groups_of b files) ++ codes "."

@@ -31,7 +31,8 @@ abbrev pub turn_fields_at : BookTerms → NameList → ℕ → ℕ → TurnMade 
 turn_fields_at b names turn line t =
     decimal turn ∷ process_name names t.process ∷ decimal line ∷ step_word t.step ∷ step_address b names t.step ∷ reply_field t.reply ∷ []
 
--- those of the turn with this number, from 0: it is one of the call that comes next of its process
+-- those of the turn with this number, from 0: it is one of the call that comes next of its process. Its number, its process, the number of its
+-- call, its step, the word's address, the reply
 abbrev pub turn_fields : BookTerms → NameList → List TurnMade → ℕ → Words
 turn_fields b names turns m =
     let t : TurnMade = turn_at turns m in turn_fields_at b names (m + 1) (answered_by t.process (take m turns) + 1) t
@@ -40,6 +41,6 @@ turn_fields b names turns m =
 abbrev pub trace_records : BookTerms → NameList → List TurnMade → List Words
 trace_records b names turns = map (turn_fields b names turns) (range_with_len 0 (length turns))
 
--- the whole text
+-- the whole text. The names of the fields, and a CSV record for each turn, in order
 abbrev pub trace_text : BookTerms → NameList → List TurnMade → List ℕ
 trace_text b names turns = record_text trace_head ++ records_text (trace_records b names turns)

@@ -1,63 +1,40 @@
 //! The entry of a line.
 
-ghost use Rattle.std.specs.Prelude.{◌≡◌, ◌<◌, ◌++◌, [], length, codes, OnOk};
+ghost use Rattle.std.specs.Prelude.{◌≡◌, ◌<◌, ◌++◌, ◌∷◌, [], length, codes, OnOk, Some};
 ghost use Rattle.at_tables.specs.Prelude.{AreTargetsOn, IsCallOn, IsLineOn};
-ghost use Rattle.at_tables.specs.LedgerText.{comment_text, credits_text, entry_text, payment_text, posted_text, posting_text, reading_text, title_text};
+ghost use Rattle.at_tables.specs.Entries.{CallOf, Comments, assertion, target_credits, entry_of, entry_with, balance_read, paid, posted};
+ghost use Rattle.at_tables.specs.LedgerText.{entry_text, postings_text, title_text};
 
+use crate::call_fields::call_word;
+use crate::posting::{Amount, push_posting};
 use at_files::Names;
 use at_ledger::{Call, Line, Reply, Targets};
 use at_report::{push_line, push_number, push_word};
 use std::alloc::AllocError;
 
-/// Adds a posting: the account, and a number behind these bytes.
-pub(crate) fn push_posting(
-    out: &mut Vec<u8>,
-    names: &Names,
-    account: u32,
-    before: &[u8],
-    n: u128,
-) -> Result<(), AllocError>
-    requires { account < length names.now.accounts }
-    ensures { OnOk result
-        (out.new.items ≡ out.old.items ++ posting_text names.now account before.now n) }
-{
-    out.extend_from_slice(b"    account:")?;
-    out.extend_from_slice(names.account(account))?;
-    out.extend_from_slice(b"  ")?;
-    out.extend_from_slice(before)?;
-    out.extend_from_slice(itoa::Buffer::new().format(n).as_bytes())?;
-    out.push(b'\n')?;
-    Ok(())
-}
-
 /// Adds what each target gets.
 fn push_credits(out: &mut Vec<u8>, names: &Names, targets: &Targets) -> Result<(), AllocError>
     requires { AreTargetsOn (length names.now.accounts) targets.now }
     ensures { OnOk result
-        (out.new.items ≡ out.old.items ++ credits_text names.now targets.now) }
+        (out.new.items ≡ out.old.items ++ postings_text names.now (target_credits targets.now)) }
 {
     for i in 0..targets.len() {
-        push_posting(
-            out,
-            names,
-            targets.to(i),
-            b"",
-            u128::from(targets.amount(i)),
-        )?;
+        let amount = Amount::Plus(u128::from(targets.amount(i)));
+        push_posting(out, names, targets.to(i), amount, None)?;
     }
     Ok(())
 }
 
-/// Adds the first line of a transaction, of a call of this form.
-fn push_title(out: &mut Vec<u8>, names: &Names, line: &Line, form: &[u8]) -> Result<(), AllocError>
+/// Adds the first line of a call's transaction.
+fn push_title(out: &mut Vec<u8>, names: &Names, line: &Line) -> Result<(), AllocError>
     requires { line.now.process < length names.now.processes }
     ensures { OnOk result
-        (out.new.items ≡ out.old.items ++ title_text names.now line.now form.now) }
+        (out.new.items ≡ out.old.items ++ title_text names.now (CallOf line.now)) }
 {
     out.extend_from_slice(b"1970-01-01")?;
     push_word(out, names.process(line.process))?;
     push_number(out, u64::from(line.number))?;
-    push_word(out, form)?;
+    push_word(out, call_word(&line.call))?;
     out.push(b'\n')?;
     Ok(())
 }
@@ -65,9 +42,10 @@ fn push_title(out: &mut Vec<u8>, names: &Names, line: &Line, form: &[u8]) -> Res
 /// Adds a line that moves nothing, as `run` prints it.
 fn push_comment(out: &mut Vec<u8>, names: &Names, line: &Line) -> Result<(), AllocError>
     requires { IsLineOn (length names.now.processes) (length names.now.accounts) line.now }
-    ensures { OnOk result (out.new.items ≡ out.old.items ++ comment_text names.now line.now) }
+    ensures { OnOk result
+        (out.new.items ≡ out.old.items ++ entry_text names.now (Comments line.now)) }
 {
-    out.extend_from_slice(b"; ")?;
+    out.extend_from_slice(b"\n; ")?;
     push_line(out, names, line)?;
     Ok(())
 }
@@ -77,7 +55,6 @@ fn push_done(
     out: &mut Vec<u8>,
     names: &Names,
     line: &Line,
-    form: &[u8],
     from: u32,
     targets: &Targets,
 ) -> Result<(), AllocError>
@@ -85,10 +62,11 @@ fn push_done(
     requires source { from < length names.now.accounts }
     requires targets { AreTargetsOn (length names.now.accounts) targets.now }
     ensures { OnOk result (out.new.items ≡ out.old.items
-        ++ payment_text names.now line.now form.now from targets.now Reply.Done) }
+        ++ entry_text names.now (entry_with line.now (paid from targets.now Reply.Done))) }
 {
-    push_title(out, names, line, form)?;
-    push_posting(out, names, from, b"-", targets.sum())?;
+    out.push(b'\n')?;
+    push_title(out, names, line)?;
+    push_posting(out, names, from, Amount::Minus(targets.sum()), None)?;
     push_credits(out, names, targets)?;
     Ok(())
 }
@@ -98,7 +76,6 @@ fn push_payment(
     out: &mut Vec<u8>,
     names: &Names,
     line: &Line,
-    form: &[u8],
     from: u32,
     targets: &Targets,
 ) -> Result<(), AllocError>
@@ -106,10 +83,10 @@ fn push_payment(
     requires source { from < length names.now.accounts }
     requires targets { AreTargetsOn (length names.now.accounts) targets.now }
     ensures { OnOk result (out.new.items ≡ out.old.items
-        ++ payment_text names.now line.now form.now from targets.now line.now.reply) }
+        ++ entry_text names.now (entry_with line.now (paid from targets.now line.now.reply))) }
 {
     match line.reply {
-        Reply::Done => push_done(out, names, line, form, from, targets),
+        Reply::Done => push_done(out, names, line, from, targets),
         Reply::Short | Reply::NotOwner | Reply::Full | Reply::Balance(_) => {
             push_comment(out, names, line)
         }
@@ -127,10 +104,11 @@ fn push_balance(
     requires process { line.now.process < length names.now.processes }
     requires account { account < length names.now.accounts }
     ensures { OnOk result (out.new.items ≡ out.old.items
-        ++ reading_text names.now line.now account (Reply.Balance balance)) }
+        ++ entry_text names.now (entry_with line.now (balance_read account (Reply.Balance balance)))) }
 {
-    push_title(out, names, line, b"read")?;
-    push_posting(out, names, account, b"0 = ", u128::from(balance))?;
+    out.push(b'\n')?;
+    push_title(out, names, line)?;
+    push_posting(out, names, account, Amount::Plus(0), Some(balance))?;
     Ok(())
 }
 
@@ -139,7 +117,7 @@ fn push_read(out: &mut Vec<u8>, names: &Names, line: &Line, account: u32) -> Res
     requires line { IsLineOn (length names.now.processes) (length names.now.accounts) line.now }
     requires account { account < length names.now.accounts }
     ensures { OnOk result (out.new.items ≡ out.old.items
-        ++ reading_text names.now line.now account line.now.reply) }
+        ++ entry_text names.now (entry_with line.now (balance_read account line.now.reply))) }
 {
     match line.reply {
         Reply::Balance(balance) => push_balance(out, names, line, account, balance),
@@ -149,28 +127,19 @@ fn push_read(out: &mut Vec<u8>, names: &Names, line: &Line, account: u32) -> Res
     }
 }
 
-/// Adds a line, by its call.
-fn push_posted(out: &mut Vec<u8>, names: &Names, line: &Line) -> Result<(), AllocError>
+/// Adds the entry of a line, after an empty line.
+pub(crate) fn push_entry(out: &mut Vec<u8>, names: &Names, line: &Line) -> Result<(), AllocError>
     requires { IsLineOn (length names.now.processes) (length names.now.accounts) line.now }
     ensures { OnOk result
-        (out.new.items ≡ out.old.items ++ posted_text names.now line.now line.now.call) }
+        (out.new.items ≡ out.old.items ++ entry_text names.now (entry_of line.now)) }
 {
     names.known();
     match &line.call {
         Call::Transfer { from, to, amount } => {
             let targets = Targets::one(*to, *amount);
-            push_payment(out, names, line, b"transfer", *from, &targets)
+            push_payment(out, names, line, *from, &targets)
         }
         Call::Read { account } => push_read(out, names, line, *account),
-        Call::Pay { from, targets } => push_payment(out, names, line, b"pay", *from, targets),
+        Call::Pay { from, targets } => push_payment(out, names, line, *from, targets),
     }
-}
-
-/// Adds an empty line, and then that of the journal.
-pub(crate) fn push_entry(out: &mut Vec<u8>, names: &Names, line: &Line) -> Result<(), AllocError>
-    requires { IsLineOn (length names.now.processes) (length names.now.accounts) line.now }
-    ensures { OnOk result (out.new.items ≡ out.old.items ++ entry_text names.now line.now) }
-{
-    out.push(b'\n')?;
-    push_posted(out, names, line)
 }

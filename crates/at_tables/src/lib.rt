@@ -19,6 +19,7 @@ mod kinds_table;
 mod ledger_table;
 mod needs_table;
 mod orders_table;
+mod posting;
 mod sentence;
 mod turns_table;
 

@@ -1,9 +1,9 @@
 -- The first lines of texts that have their first bytes in common.
-use Rattle.std.proofs.Common.{◌≡◌, ℕ, zero, suc, ◌+◌, ◌≤◌, ◌==◌, Bool, true, false, cond, List, [], ◌∷◌, ◌++◌, take, refl, sym, ap, ◌∙◌, arith}
-use Rattle.at_verify.proofs.Prelude.{ne_eqb, sum_by-cons, IsFirstWord, IsWord, first_lines, newlines}
+use Rattle.std.proofs.Common.{◌≡◌, ℕ, zero, suc, ◌+◌, ◌<◌, ◌≤◌, ◌==◌, Bool, true, false, cond, List, [], ◌∷◌, ◌++◌, length, get_or, take, drop, refl, sym, ap, ◌∙◌, arith, append_assoc}
+use Rattle.at_verify.proofs.Prelude.{drop-cons, drop-append-le, length-append, eqb-true, ne_eqb, sum_by-append, sum_by-cons, take-append-drop, take_more, IsFirstWord, IsWord, first_lines, newlines}
 
 -- no line, and no text
-first_lines-zero : (text : List ℕ) → first_lines zero text ≡ []
+pub first_lines-zero : (text : List ℕ) → first_lines zero text ≡ []
 unfolding first_lines
 first_lines-zero text = refl
 
@@ -126,3 +126,82 @@ first_word (b ∷ word) (a ∷ x) rest is same =
     let later : first_lines 1 x ≡ first_lines 1 (word ++ 32 ∷ rest) = cc in
     let found = first_word word x rest is.1 later in
     (found.0, let tail : x ≡ word ++ 32 ∷ found.0 = found.1 in cc)
+
+-- where no byte is a newline, none is counted
+pub newlines-none : (text : List ℕ) → ((k : ℕ) → k < length text → (get_or text k 0 == 10) ≡ true → ⊥) → newlines text ≡ 0
+newlines-none [] none = refl
+newlines-none (byte ∷ text) none =
+    on_byte byte
+    (λ ends. absurd (none 0 (omega arith) ends))
+    (λ on. newlines-other byte text on ∙ newlines-none text (λ k below ends. none (suc k) (omega arith) ends))
+
+-- the lines up to one that ends, and up to one that hasn't ended
+first_lines-ended : (c after : List ℕ) → first_lines (newlines c + 1) (c ++ 10 ∷ after) ≡ c ++ 10 ∷ []
+first_lines-ended c after =
+    first_lines-after c (10 ∷ after) ∙ ap (λ (t : List ℕ). c ++ t) (first_lines-newline 0 10 after refl ∙ ap (λ (t : List ℕ). 10 ∷ t) (first_lines-zero after))
+
+pub first_lines-unended : (c after : List ℕ) → newlines after ≡ 0 → first_lines (newlines (c ++ 10 ∷ after)) (c ++ 10 ∷ after) ≡ c ++ 10 ∷ []
+first_lines-unended c after on =
+    let counts = sum_by-append (λ (byte : ℕ). cond (byte == 10) 1 0) c (10 ∷ after) in
+    let one = newlines-newline 10 after refl in
+    let count : newlines (c ++ 10 ∷ after) ≡ newlines c + 1 = omega arith in
+    ap (λ (n : ℕ). first_lines n (c ++ 10 ∷ after)) count ∙ first_lines-ended c after
+
+-- a text up to a newline, and after it
+at_newline : (text : List ℕ) (k : ℕ) → k < length text → (get_or text k 0 == 10) ≡ true → text ≡ take k text ++ 10 ∷ drop (suc k) text
+at_newline text k below ends =
+    sym (take-append-drop k text) ∙ ap (λ (t : List ℕ). take k text ++ t) (drop-cons text k 0 below ∙ ap (λ (byte : ℕ). byte ∷ drop (suc k) text) (eqb-true (get_or text k 0) 10 ends))
+
+-- the lines that end in a text, up to its last newline
+pub lines_up_to : (text : List ℕ) (k : ℕ) → k < length text → (get_or text k 0 == 10) ≡ true → newlines (drop (k + 1) text) ≡ 0
+    → first_lines (newlines text) text ≡ take (k + 1) text
+lines_up_to text k below ends on =
+    let one : k + 1 ≡ suc k = omega arith in
+    ap (λ (t : List ℕ). first_lines (newlines t) t) (at_newline text k below ends)
+    ∙ first_lines-unended (take k text) (drop (suc k) text) (ap (λ (n : ℕ). newlines (drop n text)) (sym one) ∙ on)
+    ∙ sym (take_more text k 0 below ∙ ap (λ (byte : ℕ). take k text ++ byte ∷ []) (eqb-true (get_or text k 0) 10 ends))
+
+-- the line that begins in a text and ends in the rest
+pub line_across : (text rest behind : List ℕ) (start end : ℕ) → first_lines (newlines text) text ≡ take start text
+    → end < length rest → (get_or rest end 0 == 10) ≡ true → newlines (take end rest) ≡ 0
+    → first_lines (newlines text + 1) (text ++ (rest ++ behind)) ≡ first_lines (newlines text) text ++ (drop start text ++ take end rest) ++ 10 ∷ []
+line_across text rest behind start end lines below ends on =
+    let split : rest ++ behind ≡ take end rest ++ 10 ∷ (drop (suc end) rest ++ behind) =
+    ap (λ (t : List ℕ). t ++ behind) (at_newline rest end below ends) ∙ append_assoc (take end rest) (10 ∷ drop (suc end) rest) behind in
+    let one : 1 ≡ newlines (take end rest) + 1 = omega arith in
+    let first : first_lines 1 (rest ++ behind) ≡ take end rest ++ 10 ∷ [] =
+    ap (first_lines 1) split ∙ ap (λ (n : ℕ). first_lines n (take end rest ++ 10 ∷ (drop (suc end) rest ++ behind))) one
+    ∙ first_lines-ended (take end rest) (drop (suc end) rest ++ behind) in
+    first_lines-after text (rest ++ behind) ∙ ap (λ (t : List ℕ). text ++ t) first
+    ∙ ap (λ (t : List ℕ). t ++ (take end rest ++ 10 ∷ [])) (sym (take-append-drop start text) ∙ ap (λ (t : List ℕ). t ++ drop start text) (sym lines))
+    ∙ append_assoc (first_lines (newlines text) text) (drop start text) (take end rest ++ 10 ∷ [])
+    ∙ ap (λ (t : List ℕ). first_lines (newlines text) text ++ t) (sym (append_assoc (drop start text) (take end rest) (10 ∷ [])))
+    ∙ sym (append_assoc (first_lines (newlines text) text) (drop start text ++ take end rest) (10 ∷ []))
+
+-- the newlines of two parts
+pub newlines-append : (c x : List ℕ) → newlines (c ++ x) ≡ newlines c + newlines x
+newlines-append c x = sum_by-append (λ (byte : ℕ). cond (byte == 10) 1 0) c x
+
+-- bytes that are whole lines
+abbrev pub IsEnded : List ℕ → Type 0
+IsEnded c = first_lines (newlines c) c ≡ c
+
+pub ended : (c : List ℕ) → IsEnded (c ++ 10 ∷ [])
+ended c = first_lines-unended c [] refl
+
+-- what is left of a line that isn't all there has its newline
+pub rest-ends : (line c : List ℕ) (n : ℕ) → line ≡ c ++ 10 ∷ [] → n < length line → newlines (drop n line) ≡ 0 → ⊥
+rest-ends line c n is short none =
+    let long = ap length is in
+    let len = length-append c (10 ∷ []) in
+    let cut = ap (λ (t : List ℕ). newlines (drop n t)) is in
+    let last = ap newlines (drop-append-le n c (10 ∷ []) (omega arith)) in
+    let parts = newlines-append (drop n c) (10 ∷ []) in
+    absurd (omega arith)
+
+-- a text that begins so has the same lines
+pub first_lines-begin : (text report rest : List ℕ) (at : ℕ) → report ≡ take at text ++ rest
+    → first_lines (newlines (take at text)) text ≡ first_lines (newlines (take at text)) report
+first_lines-begin text report rest at is =
+    ap (first_lines (newlines (take at text))) (sym (take-append-drop at text)) ∙ first_lines-within (take at text) (drop at text) (newlines (take at text)) (omega arith)
+    ∙ sym (first_lines-within (take at text) rest (newlines (take at text)) (omega arith)) ∙ ap (first_lines (newlines (take at text))) (sym is)

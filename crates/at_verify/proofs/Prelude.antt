@@ -1,9 +1,9 @@
 -- What this crate's proofs name of other crates and of its definitions, in one place.
 pub use Rattle.std.proofs.Math.Seq.{drop-cons, take-add, take-append-add}
-pub use Rattle.std.proofs.lemmas.Bool.{cases_lt, ne_eqb}
+pub use Rattle.std.proofs.lemmas.Bool.{cases_lt, eqb-true, ne_eqb}
 pub use Rattle.std.proofs.lemmas.Bool.Decides.{nat_tests}
 pub use Rattle.std.proofs.lemmas.Grind.{common_steps, flat_map-append}
-pub use Rattle.std.proofs.lemmas.List.{append_cancel_left, drop_all, get_or_append_left, length-append, length-drop, length-take-le, take-append-drop, take-append-le, take_all, take_rest}
+pub use Rattle.std.proofs.lemmas.List.{append-nil, append_cancel_left, drop-append-le, drop_all, get_or-drop, get_or-take, get_or_append_left, length-append, length-drop, length-take-le, take-append-drop, take-append-le, take_all, take_more, take_rest}
 pub use Rattle.std.proofs.lemmas.List.Sums.{sum_by-append, sum_by-cons}
 pub use Rattle.std.proofs.lemmas.Option.{slice_get-get_or, slice_get_within}
 pub use Rattle.std.specs.List.{join_with_byte}
@@ -19,10 +19,13 @@ pub use Rattle.at_ledger.specs.Run.{Run, asked_in, last_state, run_from}
 pub use Rattle.at_ledger.specs.State.{LedgerState, opening_state, step}
 pub use Rattle.at_ledger.specs.declared.call.Call.{Call}
 pub use Rattle.at_ledger.specs.declared.call.Line.{Line}
+pub use Rattle.at_report.proofs.WordLaws.{first_word-only}
 pub use Rattle.at_report.specs.Lines.{IsFirstWord, IsWord, call_words, journal_words, line_text, lines_text, reply_word}
 pub use Rattle.at_report.specs.Report.{audit_lines, heading_words, report_text}
-pub use Rattle.at_verify.specs.Right.{IsFirstWrong, IsReport, newlines}
+pub use Rattle.at_verify.specs.Right.{IsExpected, IsFirstWrong, IsReport, IsUnmatched, newlines}
 unfoldable pub use Rattle.at_verify.specs.Right.{first_lines}
-pub use Rattle.at_verify.specs.Walk.{ArePartedAt, DifferAt, PartsAt}
+pub use Rattle.at_verify.specs.Walk.{ArePartedAt, DifferAt, GoesOnWith, IsAcross, IsUnmatchedAt, PartsAt}
+pub use Rattle.at_report.specs.declared.report_line.ReportLine.{ReportLine}
+pub use Rattle.at_verify.specs.declared.place.Place.{Place}
 pub use Rattle.at_verify.specs.declared.verifying.Verdict.{Verdict}
-pub use Rattle.at_verify.specs.declared.verifying.Verdict.TheVariants.{No}
+pub use Rattle.at_verify.specs.declared.verifying.Verdict.TheVariants.{No, Yes}

@@ -1,8 +1,8 @@
 -- The walk over a text: what every report goes on with, and where the text does otherwise.
 use Rattle.std.proofs.Common.{◌≡◌, ◌==◌, cond, inl, inr, ℕ, suc, ◌+◌, ◌<◌, ◌≤◌, ◌⊎◌, ⊎_elim, List, [], ◌∷◌, ◌++◌, length, take, drop, get_or, map, sum, sum_by, Some, decimal, refl, sym, ap, subst, ◌∙◌, arith, append_assoc, zero-add}
 use Rattle.std.specs.Prelude.{slice_get}
-use Rattle.at_verify.proofs.Prelude.{join_with_byte, cases_lt, flat_map-append, append_cancel_left, get_or_append_left, length-append, length-drop, length-take-le, take-append-drop, take-append-le, take_all, drop_all, sum_by-append, drop-cons, take-add, take-append-add, BookTerms, LedgerState, opening_state, step, Run, asked_in, last_state, run_from, Call, Line, run_from-cons, run_from-nil, NameList, process_name, IsFirstWord, IsWord, call_words, journal_words, line_text, lines_text, reply_word, audit_lines, heading_words, report_text, IsReport, IsFirstWrong, first_lines, newlines, ArePartedAt, DifferAt, PartsAt, AreWithinFiles, IsNextOfProcess, with_made, AreWithinFiles-none, Continues, completes, continues-cons, continues-from_cons, continues-from_nil, continues-whole, length-continues, none_made, sum-none, whole-continues, AreWithinFiles-next, all_made}
-use Rattle.at_verify.proofs.FirstLines.{first_byte, first_lines-after, first_lines-fewer, first_lines-within, first_word}
+use Rattle.at_verify.proofs.Prelude.{append-nil, first_word-only, join_with_byte, cases_lt, flat_map-append, append_cancel_left, get_or_append_left, length-append, length-drop, length-take-le, take-append-drop, take-append-le, take_all, drop_all, sum_by-append, drop-cons, take-add, take-append-add, BookTerms, LedgerState, opening_state, step, Run, asked_in, last_state, run_from, Call, Line, run_from-cons, run_from-nil, NameList, process_name, IsFirstWord, IsWord, call_words, journal_words, line_text, lines_text, reply_word, audit_lines, heading_words, report_text, IsReport, IsFirstWrong, first_lines, newlines, ArePartedAt, DifferAt, IsUnmatchedAt, PartsAt, AreWithinFiles, IsNextOfProcess, with_made, AreWithinFiles-none, Continues, completes, continues-cons, continues-from_cons, continues-from_nil, continues-whole, length-continues, none_made, sum-none, whole-continues, AreWithinFiles-next, all_made}
+use Rattle.at_verify.proofs.FirstLines.{IsEnded, ended, first_byte, first_lines-begin, newlines-append, rest-ends, first_lines-after, first_lines-fewer, first_lines-within, first_word}
 
 -- two next lines of one process are the same
 
@@ -23,10 +23,10 @@ next_line-only files s made l m is other same =
 abbrev pub tail_text : NameList → LedgerState → List Line → List ℕ
 tail_text names s more = lines_text (map (journal_words names) more) ++ lines_text (audit_lines names (run_from s (asked_in more)).last)
 
-tail-nil : (names : NameList) (s : LedgerState) → tail_text names s [] ≡ lines_text (audit_lines names s)
+pub tail-nil : (names : NameList) (s : LedgerState) → tail_text names s [] ≡ lines_text (audit_lines names s)
 tail-nil names s = ap (λ (r : Run). lines_text (audit_lines names r.last)) (run_from-nil s)
 
-tail-cons : (names : NameList) (s : LedgerState) (l : Line) (more : List Line)
+pub tail-cons : (names : NameList) (s : LedgerState) (l : Line) (more : List Line)
     → tail_text names s (l ∷ more) ≡ line_text (journal_words names l) ++ tail_text names (step s l.process l.call).ledger more
 tail-cons names s l more =
     append_assoc (line_text (journal_words names l)) (lines_text (map (journal_words names) more)) (lines_text (audit_lines names (run_from s (asked_in (l ∷ more))).last))
@@ -154,16 +154,27 @@ pub record IsTail (names : NameList) (files : List (List Call)) (s : LedgerState
   pub continues : Continues files s made more
   pub is : other ≡ c ++ tail_text names s more
 
--- the reports whose next line is the text's are those that go on from the state
+-- the reports that have the text's lines so far are those that go on from the state
 pub record IsWalked (b : BookTerms) (names : NameList) (files : List (List Call)) (text : List ℕ) (at : ℕ) (s : LedgerState) (made : List ℕ) : Type 0 where
   pub within : at ≤ length text
   pub are : AreWithinFiles files made
   pub reports : (more : List Line) → Continues files s made more → IsReport b names files (take at text ++ tail_text names s more)
-  pub only : (other : List ℕ) → IsReport b names files other → first_lines (newlines (take at text) + 1) text ≡ first_lines (newlines (take at text) + 1) other
+  pub only : (other : List ℕ) → IsReport b names files other → first_lines (newlines (take at text)) text ≡ first_lines (newlines (take at text)) other
       → IsTail names files s made (take at text) other
 
+-- with a line more there is each line before it
+one_less : (c x y : List ℕ) → first_lines (newlines c + 1) x ≡ first_lines (newlines c + 1) y → first_lines (newlines c) x ≡ first_lines (newlines c) y
+one_less c x y same = first_lines-fewer (newlines c) (newlines c + 1) x y (omega arith) same
+
+-- a line ends
+pub line-ends : (words : List (List ℕ)) → 0 < newlines (line_text words)
+line-ends words = let count = newlines-append (join_with_byte 32 words) (10 ∷ []) in omega arith
+
+pub ended-line : (c : List ℕ) (words : List (List ℕ)) → IsEnded (c ++ line_text words)
+ended-line c words = subst IsEnded (append_assoc c (join_with_byte 32 words) (10 ∷ [])) (ended (c ++ join_with_byte 32 words))
+
 -- the bytes of the text that are the same up to the end of those expected
-took : (text expected : List ℕ) (at n : ℕ) → at ≤ length text → ArePartedAt (drop at text) expected n → length expected ≤ n → take (at + n) text ≡ take at text ++ expected
+pub took : (text expected : List ℕ) (at n : ℕ) → at ≤ length text → ArePartedAt (drop at text) expected n → length expected ≤ n → take (at + n) text ≡ take at text ++ expected
 took text expected at n within are all =
     take-add at n text ∙ ap (λ (t : List ℕ). take at text ++ t) (are.same ∙ take_all n expected all)
 
@@ -190,7 +201,7 @@ begins_report b names files heading total total_is heading_is other is =
           ∙ ap (λ (t : List ℕ). t ++ tail_text names (opening_state b) is.lines) (ap (λ (k : ℕ). line_text (heading_words k)) same ∙ sym heading_is);
     }
 
-reports_begin : (b : BookTerms) (names : NameList) (files : List (List Call)) (heading : List ℕ) (total : ℕ) → total ≡ sum_by (length {A = Call}) files
+pub reports_begin : (b : BookTerms) (names : NameList) (files : List (List Call)) (heading : List ℕ) (total : ℕ) → total ≡ sum_by (length {A = Call}) files
     → heading ≡ line_text (heading_words total) → (more : List Line) → Continues files (opening_state b) (none_made files) more
     → IsReport b names files (heading ++ tail_text names (opening_state b) more)
 reports_begin b names files heading total total_is heading_is more continues =
@@ -275,7 +286,7 @@ line-missing b names files text at s made walked left words none =
     subst (PartsAt b names files text) (let same : at + 0 ≡ at = omega arith in same)
     (parts b names files text at 0 walked.within (omega arith) report (walked.reports whole.lines whole.continues)
     (goes report whole.lines whole.continues refl)
-    (λ other is same. let tail = walked.only other is same in goes other tail.more tail.continues tail.is))
+    (λ other is same. let tail = walked.only other is (one_less (take at text) text other same) in goes other tail.more tail.continues tail.is))
   where
     goes : (other : List ℕ) (more : List Line) → Continues files s made more → other ≡ take at text ++ tail_text names s more → GoesOn (take at text) (drop at text) 0 other
     goes other more continues is =
@@ -286,6 +297,25 @@ line-missing b names files text at s made walked left words none =
           same = refl;
           differ = λ same. none with.line with.next (with.named same);
         }
+
+-- and no report goes on with the text's next word
+pub missing-unmatched : (b : BookTerms) (names : NameList) (files : List (List Call)) (text : List ℕ) (at : ℕ) (s : LedgerState) (made : List ℕ)
+    → IsWalked b names files text at s made → sum made < sum_by (length {A = Call}) files → ((p : ℕ) → p < length files → IsWord (process_name names p))
+    → ((m : Line) → IsNextOfProcess files s made m → IsFirstWord (process_name names m.process) (drop at text) → ⊥) → IsEnded (take at text) → IsUnmatchedAt b names files text at
+missing-unmatched b names files text at s made walked left words none ended = record {
+  ended = ended;
+  none = λ report rest word is report_is is_word own first.
+      let tail = walked.only report is (first_lines-begin text report rest at report_is) in
+      let with = goes_with names files s made (take at text) (drop at text) report walked.are left words tail.more tail.continues tail.is in
+      let same : line_text (journal_words names with.line) ++ tail_text names (step s with.line.process with.line.call).ledger with.more ≡ rest =
+      append_cancel_left (take at text) _ _ (sym with.is ∙ report_is) in
+      let theirs : IsFirstWord (process_name names with.line.process) rest =
+      subst (λ (t : List ℕ). IsFirstWord (process_name names with.line.process) t) same
+      (journal-word names with.line (tail_text names (step s with.line.process with.line.call).ledger with.more)) in
+      let named : word ≡ process_name names with.line.process =
+      first_word-only word (process_name names with.line.process) rest is_word (words with.line.process with.next.process) first theirs in
+      none with.line with.next (subst (λ (w : List ℕ). IsFirstWord w (drop at text)) named own);
+}
 
 -- a report with the text's next line goes on with this one
 record GoesWithThis (names : NameList) (files : List (List Call)) (s : LedgerState) (made c : List ℕ) (l : Line) (other : List ℕ) : Type 0 where
@@ -307,7 +337,7 @@ this_line : (b : BookTerms) (names : NameList) (files : List (List Call)) (text 
     → (other : List ℕ) → IsReport b names files other → first_lines (newlines (take at text) + 1) text ≡ first_lines (newlines (take at text) + 1) other
     → GoesWithThis names files s made (take at text) l other
 this_line b names files text at s made l walked left words only other is agrees =
-    let tail = walked.only other is agrees in
+    let tail = walked.only other is (one_less (take at text) text other agrees) in
     let with = goes_with names files s made (take at text) (drop at text) other walked.are left words tail.more tail.continues tail.is in
     let same = same_rest text other (line_text (journal_words names with.line) ++ tail_text names (step s with.line.process with.line.call).ledger with.more) at with.is agrees in
     goes_with_this names files s made (take at text) (drop at text) other l with (only with.line with.next (with.named same))
@@ -358,11 +388,12 @@ line-walked b names files text expected at n s made l walked left words next onl
         ∙ ap (λ (t : List ℕ). t ++ tail_text names (step s l.process l.call).ledger more) (sym cut)
 
     tail : (other : List ℕ) → IsReport b names files other
-        → first_lines (newlines (take at text ++ line_text (journal_words names l)) + 1) text ≡ first_lines (newlines (take at text ++ line_text (journal_words names l)) + 1) other
+        → first_lines (newlines (take at text ++ line_text (journal_words names l))) text ≡ first_lines (newlines (take at text ++ line_text (journal_words names l))) other
         → IsTail names files (step s l.process l.call).ledger (with_made made l.process) (take at text ++ line_text (journal_words names l)) other
     tail other is agrees =
         let counts = sum_by-append (λ (byte : ℕ). cond (byte == 10) 1 0) (take at text) (line_text (journal_words names l)) in
-        let fewer = first_lines-fewer (newlines (take at text) + 1) (newlines (take at text ++ line_text (journal_words names l)) + 1) text other (omega arith) agrees in
+        let ends = line-ends (journal_words names l) in
+        let fewer = first_lines-fewer (newlines (take at text) + 1) (newlines (take at text ++ line_text (journal_words names l))) text other (omega arith) agrees in
         let this = this_line b names files text at s made l walked left words only other is fewer in
         record {
           more = this.more;
@@ -387,11 +418,50 @@ audit-parts b names files text audit at n s made walked all audit_is differ =
     parts b names files text at n walked.within differ.parted.left report (walked.reports [] continues)
     (goes report (audit_only names files s made (take at text) report audit walked.are all audit_is [] continues refl))
     (λ other is same.
-    let tail = walked.only other is same in
+    let tail = walked.only other is (one_less (take at text) text other same) in
     goes other (audit_only names files s made (take at text) other audit walked.are all audit_is tail.more tail.continues tail.is))
   where
     goes : (other : List ℕ) → other ≡ take at text ++ audit → GoesOn (take at text) (drop at text) n other
     goes other is = goes_on-parted (take at text) (drop at text) audit other n is differ.parted (in_one (drop at text) audit n differ)
+
+-- lines end with a newline
+lines-end : (lines : List (List (List ℕ))) → 0 < length lines → (c : List ℕ) × (lines_text lines ≡ c ++ 10 ∷ [])
+lines-end [] some = absurd (omega arith)
+lines-end (words ∷ []) some = (join_with_byte 32 words, append-nil (line_text words))
+lines-end (words ∷ (next ∷ more)) some =
+    let later = lines-end (next ∷ more) (omega arith) in
+    (line_text words ++ later.0, ap (λ (t : List ℕ). line_text words ++ t) later.1 ∙ sym (append_assoc (line_text words) later.0 (10 ∷ [])))
+
+-- what a report ends with isn't followed by a word
+nothing-more : (audit rest word : List ℕ) → audit ++ rest ≡ audit → IsFirstWord word rest → ⊥
+nothing-more audit rest word same first =
+    let all = length-append audit rest in
+    let both = ap length same in
+    let some = ap length first.1 in
+    let word_first = length-append word (32 ∷ first.0) in
+    absurd (omega arith)
+
+-- all of the audit is there: no report goes on
+pub audit-unmatched : (b : BookTerms) (names : NameList) (files : List (List Call)) (text audit : List ℕ) (at n : ℕ) (s : LedgerState) (made : List ℕ)
+    → IsWalked b names files text at s made → sum made ≡ sum_by (length {A = Call}) files → audit ≡ lines_text (audit_lines names s)
+    → ArePartedAt (drop at text) audit n → newlines (drop n audit) ≡ 0 → IsUnmatchedAt b names files text (at + n)
+audit-unmatched b names files text audit at n s made walked all audit_is are none =
+    let end = lines-end (audit_lines names s) (omega arith) in
+    let audit_end : audit ≡ end.0 ++ 10 ∷ [] = audit_is ∙ end.1 in
+    let long : length audit ≤ n =
+    elim (cases_lt n (length audit)) as (λ _. length audit ≤ n) [
+      | inl short ↦ absurd (rest-ends audit end.0 n audit_end short none)
+      | inr long ↦ long
+    ] in
+    let cut : take (at + n) text ≡ take at text ++ audit = took text audit at n walked.within are long in
+    record {
+      ended = subst IsEnded (sym (cut ∙ ap (λ (t : List ℕ). take at text ++ t) audit_end ∙ sym (append_assoc (take at text) end.0 (10 ∷ [])))) (ended (take at text ++ end.0));
+      none = λ report rest word is report_is is_word own first.
+          let whole : report ≡ take at text ++ (audit ++ rest) = report_is ∙ ap (λ (t : List ℕ). t ++ rest) cut ∙ append_assoc (take at text) audit rest in
+          let tail = walked.only report is (first_lines-begin text report (audit ++ rest) at whole) in
+          let just = audit_only names files s made (take at text) report audit walked.are all audit_is tail.more tail.continues tail.is in
+          nothing-more audit rest word (append_cancel_left (take at text) (audit ++ rest) audit (sym whole ∙ just)) first;
+    }
 
 pub audit-whole : (b : BookTerms) (names : NameList) (files : List (List Call)) (text audit : List ℕ) (at : ℕ) (s : LedgerState) (made : List ℕ)
     → IsWalked b names files text at s made → sum made ≡ sum_by (length {A = Call}) files → audit ≡ lines_text (audit_lines names s)

@@ -1,6 +1,6 @@
 -- Which texts are reports of a run of some files, and up to which line another text is right.
-use Rattle.std.specs.Prelude.{◌≡◌, ℕ, zero, suc, ◌<◌, ◌==◌, List, [], ◌++◌, length, count_by}
-use Rattle.at_verify.specs.Prelude.{drop_through, take_through, BookTerms, Legal, Whole, Call, Line, NameList, report_text}
+use Rattle.std.specs.Prelude.{◌≡◌, ℕ, zero, suc, ◌-◌, ◌<◌, ◌==◌, List, [], ◌∷◌, ◌++◌, length, take, count_by}
+use Rattle.at_verify.specs.Prelude.{drop_through, take_through, BookTerms, Legal, Whole, Call, Line, NameList, ReportLine, line_bytes, IsFirstWord, IsWord, report_text}
 
 -- the first lines of a text: a line is its bytes up to and with a newline, and the bytes after the last one are a line too
 unfoldable pub first_lines : ℕ → List ℕ → List ℕ
@@ -33,3 +33,16 @@ pub record IsRightUpTo (b : BookTerms) (names : NameList) (files : List (List Ca
 pub record IsFirstWrong (b : BookTerms) (names : NameList) (files : List (List Call)) (text : List ℕ) (line : ℕ) : Type 0 where
   pub right : (m : ℕ) → m < line → IsRightUpTo b names files text m
   pub wrong : IsRightUpTo b names files text line → ⊥
+
+-- some report has the text's lines before the wrong one, and goes on with this line: of a long one its first bytes
+pub record IsExpected (b : BookTerms) (names : NameList) (files : List (List Call)) (text : List ℕ) (line : ℕ) (e : ReportLine) : Type 0 where
+  pub report : List ℕ
+  pub is : IsReport b names files report
+  pub bytes : List ℕ
+  pub line_is : first_lines line report ≡ first_lines (line - 1) text ++ bytes ++ 10 ∷ []
+  pub kept : line_bytes e ≡ take 256 bytes
+
+-- no report that has the text's lines before this one goes on with the text's next word
+pub record IsUnmatched (b : BookTerms) (names : NameList) (files : List (List Call)) (text : List ℕ) (line : ℕ) : Type 0 where
+  pub none : (report own rest word : List ℕ) → IsReport b names files report → text ≡ first_lines (line - 1) text ++ own
+      → report ≡ first_lines (line - 1) text ++ rest → IsWord word → IsFirstWord word own → IsFirstWord word rest → ⊥

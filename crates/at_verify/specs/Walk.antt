@@ -1,6 +1,6 @@
 -- The walk over a text: where no report goes on as the text does.
-use Rattle.std.specs.Prelude.{◌≡◌, ℕ, ◌+◌, ◌<◌, ◌≤◌, ◌≢◌, List, [], length, max, take, Some, slice_get, slice_index, slice_index_or, slice_set}
-use Rattle.at_verify.specs.Prelude.{BookTerms, LedgerState, step, Call, Line, NameList}
+use Rattle.std.specs.Prelude.{◌≡◌, ℕ, ◌+◌, ◌<◌, ◌≤◌, ◌≢◌, List, [], ◌∷◌, ◌++◌, drop, length, max, take, slice_index}
+use Rattle.at_verify.specs.Prelude.{BookTerms, Call, NameList, ReportLine, line_bytes, IsFirstWord, IsWord}
 use Rattle.at_verify.specs.Right.{IsReport, first_lines, newlines}
 
 -- the two texts have the first bytes in common, and there they part
@@ -23,3 +23,22 @@ pub record PartsAt (b : BookTerms) (names : NameList) (files : List (List Call))
   pub same : take n report ≡ take n text
   pub only : (other : List ℕ) → IsReport b names files other
       → first_lines (newlines (take n text) + 1) text ≡ first_lines (newlines (take n text) + 1) other → ⊥
+
+-- some report has the text's first bytes and goes on with these; at least the heading's line ends in them
+pub record GoesOnWith (b : BookTerms) (names : NameList) (files : List (List Call)) (text : List ℕ) (n : ℕ) (rest : List ℕ) : Type 0 where
+  pub behind : List ℕ
+  pub is : IsReport b names files (take n text ++ (rest ++ behind))
+  pub lines : 0 < newlines (take n text) + newlines rest
+
+-- the line that begins in the first text and ends in the rest, whatever comes behind
+pub record IsAcross (text rest : List ℕ) (e : ReportLine) : Type 0 where
+  pub bytes : List ℕ
+  pub kept : line_bytes e ≡ take 256 bytes
+  pub line_is : (behind : List ℕ)
+      → first_lines (newlines text + 1) (text ++ (rest ++ behind)) ≡ first_lines (newlines text) text ++ bytes ++ 10 ∷ []
+
+-- the text's first bytes are whole lines, and no report that has them goes on with the text's next word
+pub record IsUnmatchedAt (b : BookTerms) (names : NameList) (files : List (List Call)) (text : List ℕ) (n : ℕ) : Type 0 where
+  pub ended : first_lines (newlines (take n text)) (take n text) ≡ take n text
+  pub none : (report rest word : List ℕ) → IsReport b names files report → report ≡ take n text ++ rest
+      → IsWord word → IsFirstWord word (drop n text) → IsFirstWord word rest → ⊥

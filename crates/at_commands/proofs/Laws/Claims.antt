@@ -11,7 +11,7 @@ IsRight-no_wrong c line right wrong = wrong.wrong (record { report = c.further; 
 
 -- a right report is refused for nothing of its own
 pub verify-complete : (c : Claim) (refusal : Status) → IsRight c → RefusesClaim c refusal → ⊥
-verify-complete c (NotLegal line) right wrong = IsRight-no_wrong c line right wrong
+verify-complete c (NotLegal line expected) right wrong = IsRight-no_wrong c line right wrong.0
 verify-complete c refusal right wrong = wrong
 
 -- a report that a text is printed of is right

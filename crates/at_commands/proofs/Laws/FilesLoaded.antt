@@ -84,15 +84,15 @@ files_loaded-refused_at given files words i loaded refusal within prefix_is last
     let refused = files_loaded-refused given files 0 (take i words) (get_or words i []) (drop (suc i) words) loaded refusal prefix_is last in
     rw split at refused
 
-EachSpells-push_at : {T : Type 0} (spells : List ℕ → List T → Type 0) (files : Files) (words : List Word) (loaded : List (List T)) (items : List T)
-    → EachSpells spells files words loaded → SpellsFile spells files (get_or words (length loaded) []) items
-    → (p : ℕ) → (p ≡ length loaded) ⊎ (p < length loaded) → SpellsFile spells files (get_or words p []) (get_or (loaded ++ items ∷ []) p [])
+EachSpells-push_at : {T : Type 0} (spells : ℕ → List ℕ → List T → Type 0) (files : Files) (words : List Word) (loaded : List (List T)) (items : List T)
+    → EachSpells spells files words loaded → SpellsFile (spells (length loaded)) files (get_or words (length loaded) []) items
+    → (p : ℕ) → (p ≡ length loaded) ⊎ (p < length loaded) → SpellsFile (spells p) files (get_or words p []) (get_or (loaded ++ items ∷ []) p [])
 EachSpells-push_at spells files words loaded items each last p (inl at) = rw (at, get_or-append_seam loaded items [] []) last
 EachSpells-push_at spells files words loaded items each last p (inr below) = rw (get_or-append loaded (items ∷ []) [] p below) (each p below)
 
 -- one more file that spells what it gave
-pub EachSpells-push : {T : Type 0} (spells : List ℕ → List T → Type 0) (files : Files) (words : List Word) (loaded : List (List T)) (items : List T)
-    → EachSpells spells files words loaded → SpellsFile spells files (get_or words (length loaded) []) items
+pub EachSpells-push : {T : Type 0} (spells : ℕ → List ℕ → List T → Type 0) (files : Files) (words : List Word) (loaded : List (List T)) (items : List T)
+    → EachSpells spells files words loaded → SpellsFile (spells (length loaded)) files (get_or words (length loaded) []) items
     → EachSpells spells files words (loaded ++ items ∷ [])
 EachSpells-push spells files words loaded items each last p within =
     EachSpells-push_at spells files words loaded items each last p (eq-or-lt_of_le (omega (arith, length-append loaded (items ∷ []))))

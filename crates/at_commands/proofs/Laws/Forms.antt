@@ -16,12 +16,12 @@ IsPlayable-loaded l loads = IsPlayable-each (named_book l.book l.names) (content
 
 -- a refusal of its own carries no number of a file
 IsOwn-numbers : (files : ℕ) (refusal : Status) → IsOwn refusal → HasFileNumbers files refusal
-IsOwn-numbers files (NotLegal line) own = tt
+IsOwn-numbers files (NotLegal line expected) own = tt
 IsOwn-numbers files TooManyOrders own = tt
 IsOwn-numbers files refusal own = absurd own
 
 IsOwn-further : (files : ℕ) (refusal : Status) → IsOwn refusal → HasFurtherNumbers files refusal
-IsOwn-further files (NotLegal line) own = tt
+IsOwn-further files (NotLegal line expected) own = tt
 IsOwn-further files TooManyOrders own = tt
 IsOwn-further files refusal own = absurd own
 

@@ -67,7 +67,7 @@ MayRefuse-whole messages tells part whole before now (BadMessages process at why
     IsBrought-whole tells part whole before now (BadMessages process at why) leads h
 MayRefuse-whole kind tells part whole before now Done leads h = absurd h
 MayRefuse-whole kind tells part whole before now WriteFault leads h = absurd h
-MayRefuse-whole kind tells part whole before now (NotLegal line) leads h = absurd h
+MayRefuse-whole kind tells part whole before now (NotLegal line expected) leads h = absurd h
 MayRefuse-whole kind tells part whole before now TooManyOrders leads h = absurd h
 
 -- a refusal of a process's file is one of loading
@@ -89,7 +89,7 @@ MayRefuse-file kind tells given whole process before now Done kept leads h = abs
 MayRefuse-file kind tells given whole process before now WriteFault kept leads h = absurd h
 MayRefuse-file kind tells given whole process before now (BadSchedule at why) kept leads h = absurd h
 MayRefuse-file kind tells given whole process before now (BadOrder at why) kept leads h = absurd h
-MayRefuse-file kind tells given whole process before now (NotLegal line) kept leads h = absurd h
+MayRefuse-file kind tells given whole process before now (NotLegal line expected) kept leads h = absurd h
 MayRefuse-file kind tells given whole process before now TooManyOrders kept leads h = absurd h
 
 -- the numbers of a refusal before the further file, and of a further file that was not fetched
@@ -156,7 +156,7 @@ MayRefuse-loaded payments tells expected l before now out_before out_now (BadMes
 MayRefuse-loaded scheduled tells expected l before now out_before out_now (BadMessages process at why) told is shelf out writes refuses = absurd (refuses (λ e. cc) (λ e. cc))
 MayRefuse-loaded messages tells expected l before now out_before out_now (BadMessages process at why) told is shelf out writes refuses =
     absurd (IsBrought-loaded tells expected l before now (BadMessages process at why) told is (refuses (λ e. cc) (λ e. cc)))
-MayRefuse-loaded kind tells expected l before now out_before out_now (NotLegal line) told is shelf out writes refuses = absurd (refuses (λ e. cc) (λ e. cc))
+MayRefuse-loaded kind tells expected l before now out_before out_now (NotLegal line line_expected) told is shelf out writes refuses = absurd (refuses (λ e. cc) (λ e. cc))
 MayRefuse-loaded kind tells expected l before now out_before out_now TooManyOrders told is shelf out writes refuses = absurd (refuses (λ e. cc) (λ e. cc))
 
 -- the numbers of a refusal of a process's file
@@ -177,5 +177,5 @@ HasFileNumbers-file kind given process files Done below h = tt
 HasFileNumbers-file kind given process files WriteFault below h = tt
 HasFileNumbers-file kind given process files (BadSchedule at why) below h = tt
 HasFileNumbers-file kind given process files (BadOrder at why) below h = tt
-HasFileNumbers-file kind given process files (NotLegal line) below h = tt
+HasFileNumbers-file kind given process files (NotLegal line expected) below h = tt
 HasFileNumbers-file kind given process files TooManyOrders below h = tt

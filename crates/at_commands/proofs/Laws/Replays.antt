@@ -19,7 +19,7 @@ turns_terms-read prints = record {
 -- calls that payment files for a replay spell can be played
 IsPlayable-replayed : (b : NamedBook) (all : List (List Call)) → All (IsSpelled (PaysReplayBytes b)) all → All (IsPlayable (length b.book.accounts)) all
 IsPlayable-replayed b all spelled k d below =
-    let pays = (spelled k d below).1.pays in
+    let pays = (spelled k d below).2.pays in
     record { known = pays.known; few = pays.few }
 
 pub IsPlayable-loaded : (l : program.Loaded Call) → IsLoadedForm PaysReplayBytes l → All (IsPlayable (length l.book.accounts)) (contents_of l.files.items)

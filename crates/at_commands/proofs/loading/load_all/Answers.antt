@@ -30,6 +30,9 @@ load_files-requires-clause-few g c =
     let few = c.known.ensures.checked.begun.few_processes in
     omega (arith, enough, few, length-map c.args.words.now string_bytes)
 
+pub load_files-requires-clause-enough : goal.load_files-requires-clause-enough
+load_files-requires-clause-enough g c = sym (length-map c.args.words.now string_bytes) ∙ c.in-Ok.ensures.read.enough
+
 pub returns-in-Ok-load_files : goal.returns-in-Ok-load_files
 returns-in-Ok-load_files g c =
     let done = c.in-Ok.ensures in

@@ -44,7 +44,7 @@ returns g c =
       kept = on_any c.read.result _ fetches.kept;
       ok = λ told. IfOk-weaker c.read.result _ _ (λ items is. loads (Ok items.items) (fetches.ok told) is) (rw c.as_slice.ensures.value at reads.ok);
       spelled = λ told. IfOk-weaker c.read.result _ _ (λ items is. record { bytes = c.in-Ok.bytes.items; held = fetches.held told; spelled = is }) (rw c.as_slice.ensures.value at reads.spelled);
-      known = IfOk-weaker c.read.result _ _ (λ items is. (c.as_slice.result.now, is)) reads.spelled;
+      known = IfOk-weaker c.read.result _ _ (λ items is. (c.args.process, c.as_slice.result.now, is)) reads.spelled;
       err = IfErr-weaker c.read.result _ _
           (λ refusal is. MayRefuse-file g.P.FileForm.kind _ (given c.args.process c.in-Ok.bytes.items) _ c.args.process _ _ refusal fetches.kept (λ told refused. loads (Err refusal) (fetches.ok told) refused) is)
           (rw c.as_slice.ensures.value at reads.err);

@@ -114,6 +114,9 @@ returns g c =
       numbered = tt;
     }
 
+pub load_file-requires-clause-of : goal.load_file-requires-clause-of
+load_file-requires-clause-of g c = omega (arith, c.requires.enough)
+
 pub load_file-requires-clause-process : goal.load_file-requires-clause-process
 load_file-requires-clause-process g c = grind (arith, common_steps)
 

@@ -11,6 +11,9 @@ load_files-requires-clause-few g c =
     let few = c.known.ensures.checked.begun.few_processes in
     omega (arith, enough, few, length-map c.args.form.now.files.now string_bytes)
 
+pub load_files-requires-clause-enough : goal.load_files-requires-clause-enough
+load_files-requires-clause-enough g c = sym (length-map c.args.form.now.files.now string_bytes) ∙ c.requires.enough
+
 pub returns-in-Ok : goal.returns-in-Ok
 returns-in-Ok g c =
     let loads = c.in-Ok.ensures in
