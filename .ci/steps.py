@@ -10,7 +10,6 @@ steps/lists.py. Wrong bodies stand in steps/wrong, and each of them is tried fir
     steps.py places      prints where the words stand now that lists.py keeps to their places
 """
 
-import re
 import sys
 from collections import defaultdict
 from functools import lru_cache
@@ -30,10 +29,11 @@ names_of = lru_cache(maxsize=None)(names_of)
 
 def crates_of(text):
     """The crates that crates.txt has, each with those that it stands on."""
-    lines = (line.partition("#")[0] for line in text.splitlines())
-    return {head.split()[0]: below.split() for head, mark, below in (line.partition(":") for line in lines) if mark}
+    lines = [line.partition("#")[0].partition(":") for line in text.split("\n")]
+    return {head.split()[0]: below.split() for head, _, below in lines if head.strip()}
 
 
+@lru_cache(maxsize=None)
 def listed(crate):
     """The paths of other libraries that a crate may name."""
     found = set(lists.EVERYWHERE)
@@ -47,9 +47,12 @@ class Crate:
 
     def __init__(self, name, files, say):
         self.name, self.files = name, {}
+        self.kept = lists.KEPT.union(*(words for crates, words in lists.KEPT_IN if name in crates))
         top, tests = f"crates/{name}/src/", set()
         there = {path for path in files if path.startswith(f"crates/{name}/") and path.endswith(".rt")}
         left = [path for path in (f"{top}lib.rt", f"{top}main.rt") if path in there]
+        if not left:
+            say(f"{name}: has no {top}lib.rt and no {top}main.rt")
         while left:
             path = left.pop()
             try:
@@ -80,8 +83,12 @@ class Check:
         self.crates = [Crate(name, files, self.faults.append) for name in self.below]
         every = [file for crate in self.crates for file in crate.files.values()]
         self.declared = set().union(*(file.declared for file in every), *(file.modules for file in every))
+        self.crates_with = defaultdict(list)
+        for crate in self.crates:
+            for trait in (it for file in crate.files.values() for it in file.traits):
+                self.crates_with[trait].append(crate.name)
         self.aliases = set().union(*(file.aliases for file in every))
-        self.known = self.declared | lists.METHODS | lists.KEPT.union(*(words for _, words in lists.KEPT_IN)) | set(self.below)
+        self.known = self.declared | lists.METHODS | set(self.below)
         self.places = defaultdict(list)
 
     def all(self):
@@ -100,25 +107,43 @@ class Check:
         for name, below in self.below.items():
             roots = {path.split("::")[0] for path in listed(name)} | set(self.below) | set(lists.UNNAMED.get(name, ()))
             self.faults += [f"{name}: stands on {it}, of which it may name nothing" for it in below if it not in roots]
+        for crates, path in lists.APART:
+            far = {name for name in self.below if path in listed(name)}
+            self.faults += [f"{crate}: stands on {it}, which may name {path}" for crate in crates for it in sorted(self.under(crate) & far)]
+
+    def under(self, crate):
+        """The crates of the product that a crate stands on, also by others."""
+        found, left = set(), [crate]
+        while left:
+            new = {it for it in self.below.get(left.pop(), ()) if it in self.below} - found
+            found |= new
+            left += new
+        return found
 
     def file(self, crate, path, file):
         where = f"{crate.name}/{path}"
         meanings = defaultdict(set)
+        roots = {*HEADS, *lists.OUTSIDE, *self.below[crate.name]}
         for named, name in file.uses:
             meanings[name].add(named.path)
             if name != named.path[-1]:
                 self.say(where, named, "another name for it")
-            if named.path[0] not in {*HEADS, *lists.OUTSIDE, *self.below[crate.name], *self.declared}:
+            if named.path[0] not in roots and named.path[0] not in self.declared:
                 self.say(where, named, "of a library on which the crate doesn't stand")
             self.path(crate, where, named, named.path)
         for named in file.paths:
             if named.path[0] == "" and not (len(named.path) == 2 and named.path[1][:1].isupper()):
                 self.say(where, named, "a function of a type in < >")
+            if named.path[0] == "Self" and named.path[-1][:1].islower():
+                self.say(where, named, "a function by Self")
             for known in meanings.get(named.path[0], [named.path[:1]] if named.path[1:] else []):
                 self.path(crate, where, named, known + named.path[1:])
             self.head(where, named, meanings, file)
+        for named in file.impls:
+            for known in meanings.get(named.path[0], [named.path[:1]]):
+                self.implemented(crate, where, named, known + named.path[1:])
         for named in file.members:
-            if named.path not in self.known:
+            if named.path not in self.known and named.path not in crate.kept:
                 self.say(where, named, "a method that is not listed")
         for named in file.macros:
             if named.path not in lists.MACROS and not (crate.name in lists.PRINTS and named.path in ("print", "println")):
@@ -139,7 +164,7 @@ class Check:
             if "::".join(path[:2]) in lists.SHOWN:
                 self.outside(crate, where, named, "::".join(path[:2]))
             for above, name in zip(path, path[1:]):
-                if name not in self.known and name not in HEADS:
+                if name not in self.known and name not in crate.kept and name not in HEADS:
                     self.say(where, named, f"{name}, which is not listed")
                 if above in self.aliases and name[:1].islower():
                     self.say(where, named, f"{name} by another name of its type")
@@ -148,24 +173,31 @@ class Check:
         if full not in listed(crate.name):
             self.say(where, named, f"{full}, which is not listed")
 
+    def implemented(self, crate, where, named, path):
+        """A trait that is implemented is one of the crate's, whose name is that of no other, or listed."""
+        own = path[0] not in self.below[crate.name] and self.crates_with[path[-1]] == [crate.name]
+        if not own and not any("::".join(path) in traits for crates, traits in lists.TRAITS if crates == "all" or crate.name in crates):
+            self.say(where, named, "a trait of others, that is not listed")
+
     def head(self, where, named, meanings, file):
         """A type that is named alone is one of the crate's, an imported one, a parameter, or one of those that need no import."""
         head = named.path[0]
-        if not head[:1].isupper() or re.fullmatch("[A-Z]", head) or head in HEADS:
+        if not head[:1].isupper() or not head[1:] or head in HEADS:
             return
         if head not in meanings and head not in self.declared and head not in lists.PRELUDE:
             self.say(where, named, "a type that is not listed")
 
     def kept(self, crate, where, file):
         """Notes each word that is kept to its places."""
-        kept = lists.KEPT.union(*(words for crates, words in lists.KEPT_IN if crate.name in crates))
         words = [(it.path, it) for it in file.words]
         words += [("." + it.path, it) for it in file.members]
-        words += [("::".join(it.path[-2:]), it) for it in file.paths if it.path[1:]]
+        # A method may also be called by the path of its type.
+        words += [(form, it) for it in file.paths if it.path[1:] for form in ("." + it.path[-1], "::".join(it.path[-2:]))]
         found = defaultdict(list)
+        # (an impl has the word of a loop)
+        words = [(word, it) for word, it in words if word in crate.kept and (it.function or word != "for")]
         for word, it in sorted(words, key=lambda it: it[1].order):
-            if word in kept:
-                found[it.function].append(word)
+            found[it.function].append(word)
         for function, words in found.items():
             self.places[where, function or "-"] += words
             if function and f"{where} {function}" not in lists.FREE:
@@ -173,8 +205,9 @@ class Check:
 
     def once(self, where, function, words, found):
         """Looks at how often a step is made, where there is one."""
+        self.faults += [f"{where}: {function} has {word} in braces or not as a call" for it in found for word in sorted(words & lists.STARTS - it.calls)]
         if words & (lists.ONCE | lists.STRAIGHT):
-            if len(found) != 1:
+            if len(found) != (2 if f"{where} {function}" in lists.TWICE else 1):
                 self.faults.append(f"{where}: {function} stands in it {len(found)} times")
             if not all(it.is_once for it in found):
                 self.faults.append(f"{where}: {function} has a loop or a closure")

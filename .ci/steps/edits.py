@@ -10,7 +10,7 @@ def edits(folder, names):
 def changed(files, edit):
     """Why the edit can't be applied, if it can't; the files that it makes of these; and what is to be said of them."""
     files, path, old, says = dict(files), None, None, None
-    for line in edit.splitlines():
+    for line in edit.split("\n"):
         word, _, text = line.partition(": ")
         if word == "file":
             path = text

@@ -6,11 +6,13 @@ from source import Token, Unreadable, read
 
 # Where something is named: in which function, if in any, on which line, and after how many words of the file.
 Named = namedtuple("Named", "path function line order")
-# A function; whether what stands in it is run once at most, and whether it is run once and in order.
-Function = namedtuple("Function", "name is_once is_straight")
+# A function; which functions it calls outside all groups, whether what stands in it is run once at most, and whether it is run once and
+# in order.
+Function = namedtuple("Function", "name calls is_once is_straight")
 # What a file has: modules in files of their own, and those of them that tests alone read; what it imports; which paths and methods it
-# names, and which words; its macros, attributes and functions; what it declares, and what of that is another name of a type.
-File = namedtuple("File", "modules tests uses paths members words macros attributes functions declared aliases")
+# names, and which words; its macros, attributes and functions; the traits that it implements; what it declares, and what of that is a
+# trait, or another name of a type.
+File = namedtuple("File", "modules tests uses paths members words macros attributes functions impls declared traits aliases")
 
 ITEMS = ("fn", "mod", "struct", "enum", "trait", "type", "const", "static", "union")
 AGAIN = ("for", "while", "loop", "continue", "move")
@@ -64,12 +66,13 @@ class Walk:
     """Goes over the tokens of one file."""
 
     def __init__(self):
-        self.file = File([], [], [], [], [], [], [], [], [], set(), set())
-        self.function = None
+        self.file = File([], [], [], [], [], [], [], [], [], [], set(), set(), set())
+        self.function, self.depth = None, 0
 
     def level(self, tokens):
         """Goes over what stands in one group, or in the file."""
         at, attributes = 0, []
+        self.depth += 1
         while at < len(tokens):
             token = tokens[at]
             if token.is_mark("#"):
@@ -79,6 +82,7 @@ class Walk:
                 continue
             at = self.passed(tokens, at) if TESTS in attributes else self.one(tokens, at)
             attributes = []
+        self.depth -= 1
 
     def named(self, path, line):
         return Named(path, self.function, line, len(self.file.words))
@@ -92,7 +96,7 @@ class Walk:
 
     def passed(self, tokens, at):
         """Passes a module that is read for tests alone, in a file of its own."""
-        if not (tokens[at].is_word("mod") and tokens[at + 2].is_mark(";")):
+        if not (tokens[at].is_word("mod") and tokens[at + 2].is_mark(";") and self.depth == 1):
             raise Unreadable(f"line {tokens[at].line}: what only tests read is a module in a file of its own")
         self.file.tests.append(tokens[at + 1].text)
         return at + 3
@@ -112,14 +116,20 @@ class Walk:
             return self.body(tokens, at)
         if token.is_word(*ITEMS) and after.kind == "word":
             if token.is_word("mod") and at + 2 < len(tokens) and tokens[at + 2].is_mark(";"):
+                if self.depth > 1:
+                    raise Unreadable(f"line {token.line}: mod {after.text} of a file of its own within braces")
                 self.file.modules.append(after.text)
             self.file.declared.add(after.text)
             self.word(token)
             if token.is_word("enum"):
                 self.variants(tokens, at)
+            if token.is_word("trait"):
+                self.file.traits.add(after.text)
             if token.is_word("type"):
                 self.file.aliases.add(after.text)
             return at + 2
+        if token.is_word("impl"):
+            self.implemented(tokens, at)
         if token.kind == "group":
             self.level(token.inner)
         elif token.is_mark("."):
@@ -127,6 +137,25 @@ class Walk:
         elif token.kind == "word" or is_path_mark(tokens, at):
             return self.path(tokens, at)
         return at + 1
+
+    def implemented(self, tokens, at):
+        """Notes the trait that an impl is of: what stands before `for`, without what it takes in < and >."""
+        # (what stands in braces within < and > is a number)
+        body = (i for i in range(at + 1, len(tokens)) if tokens[i].is_group("{") and tokens[i - 1].text not in ("<", ","))
+        head = tokens[at : next(body, len(tokens))]
+        ends = [i for i in range(1, len(head) - 1) if head[i].is_word("for") and not head[i + 1].is_mark("<")]
+        if not ends:
+            return
+        depth, path = 0, []
+        for token in reversed(head[: ends[0]]):
+            depth += 1 if token.is_mark(">") else 0
+            if not depth and not (token.kind == "word" and token.text not in KEYWORDS or token.is_mark(":")):
+                break
+            path += [token.text] if not depth and token.kind == "word" else []
+            depth -= 1 if token.is_mark("<") else 0
+        if not path:
+            raise Unreadable(f"line {tokens[at].line}: an impl of a trait that isn't found")
+        self.file.impls.append(self.named(tuple(reversed(path)), tokens[at].line))
 
     def variants(self, tokens, at):
         group = next((it for it in tokens[at:] if it.is_group("{")), None)
@@ -177,12 +206,23 @@ class Walk:
         self.function = name.text
         self.level(tokens[at + 2 : end + 1])
         self.function = above
-        self.file.functions.append(Function(name.text, is_once(tokens[end].inner), is_straight(tokens[end].inner)))
+        inner = tokens[end].inner
+        self.file.functions.append(Function(name.text, outer_calls(inner), is_once(inner), is_straight(inner)))
         return end + 1
 
 
 def spelled(tokens):
     return " ".join(it.text + (f" {spelled(it.inner)} " + ")]}"["([{".index(it.text)] if it.kind == "group" else "") for it in tokens)
+
+
+def outer_calls(tokens):
+    """What is called here in no group and in no closure, so that no loop calls it again."""
+    names, in_closure = set(), False
+    for token, after in zip(tokens, tokens[1:]):
+        in_closure = not token.is_mark(";") and (in_closure or token.is_mark("|"))
+        if token.kind == "word" and after.is_group("(") and not in_closure:
+            names.add(token.text)
+    return names
 
 
 def is_once(tokens):

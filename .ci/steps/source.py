@@ -1,9 +1,11 @@
-"""Reads .rt files as the compiler does: words, marks and groups, with comments, texts and clauses left out."""
+"""Reads .rt files as the compiler does: words, marks and groups, with comments, texts and clauses left out. What two readers might take
+for different things is refused, whatever the compiler takes it for."""
 
 import re
 
 OPEN = {"(": ")", "[": "]", "{": "}"}
-SPACE = re.compile(r"\s+|//[^\n]*")
+SPACE = re.compile(r"[ \n]+|//[^\n]*")
+ODD = re.compile(r"[^\S \n]|[\0-\t\v-\x1f\x7f]")
 TEXT = re.compile(r'(?:b|c)?"(?:[^"\\]|\\.)*"', re.S)
 RAW = re.compile(r'(?:b|c)?r(#*)"')
 SIGN = re.compile(r"b?'(?:[^'\\\n]|\\(?:u\{[0-9a-fA-F_]+\}|x[0-9a-fA-F]{2}|.))'")
@@ -15,8 +17,8 @@ CLAUSE = re.compile(r"(?:requires|ensures)\s*\*?\s*(?:\w+\s*)?(?={)")
 GHOST = re.compile(r"ghost\s+(?:pub\s+)?\w+\s*[:=]\s*(?:owns\s*|lends\s*)?(?={)")
 GHOST_USE = re.compile(r'ghost\s+use\s[^;"#]*;')
 NEXT = re.compile(r"\s*(?:=|by)\s*(?={)")
-# In a clause a text has no braces and no backslash, and nothing is commented out.
-INSIDE = re.compile(r'"[^"\\{}\n]*"|--|//|/\*|\{-|\'[{}"]|["{}]')
+# In a clause a text has no braces and no backslash, a name in guillemets is one word, and nothing is commented out.
+INSIDE = re.compile(r'"[^"\\{}\n]*"|«\w+»|--|//|/\*|\{-|\'[{}"]|["{}«]')
 
 
 class Unreadable(Exception):
@@ -54,23 +56,13 @@ class Reader:
     def stop(self, why):
         raise Unreadable(f"line {self.line()}: {why}")
 
-    def comment(self):
-        """Passes a comment in /* and */, with those inside it."""
-        depth = 0
-        for mark in re.compile(r"/\*|\*/").finditer(self.text, self.at):
-            depth += 1 if mark[0] == "/*" else -1
-            if not depth:
-                self.at = mark.end()
-                return
-        self.stop("a comment without an end")
-
     def braces(self):
         """Passes the braces of a clause."""
         depth = 0
         for mark in INSIDE.finditer(self.text, self.at):
             if mark[0] in "{}":
                 depth += 1 if mark[0] == "{" else -1
-            elif not mark[0].startswith('"') or mark[0] == '"':
+            elif mark[0][0] not in '"«' or len(mark[0]) == 1:
                 self.stop(f"{mark[0]} in a clause")
             if not depth:
                 self.at = mark.end()
@@ -91,30 +83,25 @@ class Reader:
             self.braces()
             head = NEXT.match(self.text, self.at) if word == "ghost" else None
 
-    def raw(self, opened):
-        ends = self.text.find('"' + opened[1], opened.end())
-        if ends < 0:
-            self.stop("a text without an end")
-        self.at = ends + 1 + len(opened[1])
-
     def tokens(self):
         """Gives all that is code, without groups."""
+        odd = ODD.search(self.text)
+        if odd:
+            self.at = odd.start()
+            self.stop("a sign that may end a line or not")
         while self.at < len(self.text):
             space = SPACE.match(self.text, self.at)
             if space:
                 self.at = space.end()
             elif self.text.startswith("/*", self.at):
-                self.comment()
+                self.stop("a comment that may end on another line")
             else:
                 yield from self.token()
 
     def token(self):
         line = self.line()
-        raw = RAW.match(self.text, self.at)
-        if raw:
-            self.raw(raw)
-            yield Token("text", "text", line)
-            return
+        if RAW.match(self.text, self.at):
+            self.stop("a raw text")
         for kind, form in (("text", TEXT), ("text", SIGN), ("life", LIFE), ("word", WORD), ("number", NUMBER)):
             found = form.match(self.text, self.at)
             if not found:
