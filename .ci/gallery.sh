@@ -1,5 +1,5 @@
 #!/bin/sh
-# The pictures of docs/gallery.md are those of the pages in examples/replay: the first drawing of each page, with the colours that the page
+# The pictures of docs/guide.md are those of the pages in examples/replay: the first drawing of each page, with the colours that the page
 # has. It fails where one of them differs. `gallery.sh make` writes them anew.
 
 root=$(CDPATH='' cd -- "$(dirname -- "$0")/.." && pwd) || exit 2

@@ -113,7 +113,7 @@ mkdir -p -- "$release/bin" "$release/libexec" "$release/docs" "$release/include"
 cp -- "$root/crates/at_program/out/at_program" "$release/libexec/bezglami"
 write_script
 cp -- "$root/bindings/c/bezglami.h" "$release/include/"
-for guide in bindings formats rust python; do cp -- "$root/docs/$guide.md" "$release/docs/"; done
+for guide in bindings formats using; do cp -- "$root/docs/$guide.md" "$release/docs/"; done
 git -C "$root" ls-files bindings/c bindings/rust bindings/python examples | grep -v -e '\.h$' -e '/test\.c$' | (cd -- "$root" && tar -cf - -T -) | tar -xf - -C "$release"
 ln -s ../../../lib/libbezglami.so "$release/bindings/python/bezglami/libbezglami.so"
 copy_licences
