@@ -9,3 +9,8 @@ pub mod TotalLaws
 pub mod SameLogsLaws
 pub mod AgreementLaws
 pub mod TellingLaws
+pub mod CreditLaws
+pub mod CompactLaws
+pub mod KeptLaws
+pub mod RoomLaws
+pub mod StateLaws

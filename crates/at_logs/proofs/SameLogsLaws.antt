@@ -82,7 +82,7 @@ slice_get-left [] ys k within = absurd (omega (arith, within))
 slice_get-left (x ∷ xs) ys zero within = refl
 slice_get-left (x ∷ xs) ys (suc k) within = slice_get-left xs ys k (omega (arith, within))
 
-slice_get-right : (xs ys : List Message) (i : ℕ) → slice_get (xs ++ ys) (length xs + i) ≡ slice_get ys i
+pub slice_get-right : (xs ys : List Message) (i : ℕ) → slice_get (xs ++ ys) (length xs + i) ≡ slice_get ys i
 slice_get-right [] ys i = let at : 0 + i ≡ i = omega arith in ap (slice_get ys) at
 slice_get-right (x ∷ xs) ys i =
     let at : suc (length xs) + i ≡ suc (length xs + i) = omega arith in

@@ -7,3 +7,4 @@ pub mod Telling
 pub mod Draft
 pub mod Entry
 pub mod Readers
+pub mod Compact

@@ -3,9 +3,13 @@
 //! Each process has a log of its own, and each shared account has one more, to which its owners append.
 #![tactic(auto)]
 
+mod backlog;
+mod compact;
+mod credits;
 mod entry;
 mod logs;
 mod node;
+mod payout;
 mod reading;
 mod spelling;
 mod tail;
