@@ -15,13 +15,19 @@ AT_ONCE = 25
 
 
 def draw_book(draw):
-    """Draws how many processes there are, both rooms, and the opening and the owners of each account."""
-    processes = draw.randint(1, 4)
+    """Draws how many processes there are, both rooms, and the opening and the owners of each account. Some books have names, and in some
+    one account has nearly all that 64 bits hold."""
+    processes = draw.randint(1, 5)
+    named = draw.random() < 0.5
     accounts = []
-    for a in range(draw.randint(1, 4)):
+    for a in range(draw.randint(1, 5)):
         owners = sorted(draw.sample(range(processes), min(processes, draw.choice([0, 1, 1, 1, 2, 2, 3]))))
-        accounts.append(model.Account(str(a), draw.choice([0, 0, 1, 5, 10, 20]), owners))
-    return model.Book([str(p) for p in range(processes)], draw.randint(1, 3), draw.randint(1, 3), accounts, 1)
+        accounts.append(model.Account(f"till{a}" if named else str(a), draw.choice([0, 0, 1, 5, 10, 20, 40]), owners))
+    if draw.random() < 0.1:
+        rest = sum(account.opening for account in accounts[1:])
+        accounts[0] = accounts[0]._replace(opening=2**64 - 1 - rest)
+    names = [f"p{p}" if named else str(p) for p in range(processes)]
+    return model.Book(names, draw.randint(1, 3), draw.randint(1, 3), accounts, 2 if named else 1)
 
 
 def draw_source(draw, book, process):
@@ -33,11 +39,18 @@ def draw_source(draw, book, process):
 
 
 def draw_call(draw, book, process):
-    """Draws a call: the account that it names first, and the target and the amount of a payment."""
+    """Draws a call: the account that it names first, and the targets and the amounts of a payment. Some pay the source itself."""
     count = len(book.accounts)
     if draw.random() < 0.3:
         return model.Call("read", draw.randrange(count), [])
-    return model.Call("transfer", draw_source(draw, book, process), [(draw.randrange(count), draw.choice([0, 1, 4, 5, 6, 10, 15]))])
+    source = draw_source(draw, book, process)
+    large = book.accounts[0].opening > 2**60
+    amounts = [0, 1, 4, 5, 6, 10, 15] + [2**64 - 1, 2**63, 2**64 - 20] * large
+    targets = draw.choice([1, 1, 1, 2, 3, 4]) if book.version == 2 else 1
+    paid = [(draw.choice([source, *range(count)]), draw.choice(amounts)) for _ in range(targets)]
+    if book.version == 1 or (targets == 1 and draw.random() < 0.8):
+        return model.Call("transfer", source, paid)
+    return model.Call("pay", source, paid)
 
 
 def number_of_orders(files):
@@ -103,13 +116,22 @@ def try_seeds(folder, first):
 
 
 def most_stages(folder):
-    """Two files of 1,023 calls go through 1024 * 1024 stages, which is the most. The openings don't cover them: one payment is short
-    always."""
-    folder.write("book", lines("book,1", "processes,2", "limits,1,1", "account,0,5,0", "account,1,0,"))
+    """Two files of 1,023 calls go through 1024 * 1024 stages, which is the most. They are of one part: the openings don't cover account 0,
+    from which a payment is short always, and to which another pays nothing."""
+    folder.write("book", lines("book,1", "processes,2", "limits,1,1", "account,0,5,0", "account,1,0,1"))
     folder.write("0", "read,0\n" * 1022 + "transfer,0,1,6\n")
-    folder.write("1", "read,0\n" * 1023)
-    first = [f"0,{i},read,0,read,5" for i in range(1, 1023)]
-    second = [f"1,{i},read,0,read,5" for i in range(1, 1024)]
+    folder.write("1", "read,0\n" * 1022 + "transfer,1,0,0\n")
+    first, second = ([f"{p},{i},read,0,read,5" for i in range(1, 1023)] for p in range(2))
+    rows = ["process,line,call,account,kind,replies", *first, "0,1023,transfer,0,alone,short", *second, "1,1023,transfer,1,alone,done"]
+    printed(folder.run("orders", "book", "0", "1"), lines(*rows))
+
+
+def stages_of_two_parts(folder):
+    """Without a payment that joins them, two files of more calls together are of no one part, and are answered."""
+    folder.write("book", lines("book,1", "processes,2", "limits,1,1", "account,0,5,0", "account,1,0,1"))
+    folder.write("0", "read,0\n" * 1022 + "transfer,0,1,6\n")
+    folder.write("1", "read,0\n" * 1024)
+    first, second = ([f"{p},{i},read,0,read,5" for i in range(1, 1023 + 2 * p)] for p in range(2))
     rows = ["process,line,call,account,kind,replies", *first, "0,1023,transfer,0,alone,short", *second]
     printed(folder.run("orders", "book", "0", "1"), lines(*rows))
 
@@ -122,6 +144,19 @@ def stages_by_room(folder):
     folder.write("1", "transfer,1,0,1\n")
     rows = ["process,line,call,account,kind,replies", *(f"0,{i},transfer,0,alone,done short" for i in range(1, 1446))]
     printed(folder.run("orders", "book", "0", "1"), lines(*rows, "1,1,transfer,1,alone,done"))
+
+
+def one_beside_covered(folder):
+    """A payment of 1 from an account that is empty, beside 320 that are covered: no two processes are of one part."""
+    accounts = [f"account,{p},1000,{p}" for p in range(16)] + ["account,16,0,0"]
+    folder.write("book", lines("book,1", "processes,16", "limits,4096,1024", *accounts))
+    rows = ["process,line,call,account,kind,replies"]
+    for p in range(16):
+        paid = "".join(f"transfer,{p},{(p + i + 1) % 16},1\n" for i in range(20))
+        folder.write(str(p), paid + "transfer,16,0,1\n" * (p == 0))
+        rows += [f"{p},{i},transfer,{p},alone,done" for i in range(1, 21)]
+        rows += ["0,21,transfer,16,alone,short"] * (p == 0)
+    printed(folder.run("orders", "book", *map(str, range(16))), lines(*rows))
 
 
 def longest(folder):
@@ -138,7 +173,9 @@ def longest(folder):
 def cases():
     """The cases."""
     yield Case("the orders of the most stages", most_stages)
+    yield Case("the orders of two parts that have more stages together", stages_of_two_parts)
     yield Case("the orders of the most stages that differ in the used room alone", stages_by_room)
+    yield Case("the orders of a payment that isn't covered beside 320 that are", one_beside_covered)
     yield Case("the orders of the longest files, which the openings cover", longest)
     for first in range(1, SEEDS + 1, AT_ONCE):
         yield Case(f"orders of random files, seeds {first} to {first + AT_ONCE - 1}", try_seeds, first)

@@ -13,7 +13,13 @@ pub mod Crediting
 pub mod Stepping
 pub mod Sums
 pub mod Covering
-pub mod Counts
+pub mod OnTheWay
+pub mod Parting
+pub mod Splitting
+pub mod Leaving
+pub mod Joining
+pub mod Merging
+pub mod Lone
+pub mod Spanning
 pub mod Ranging
 pub mod Playing
-pub mod Answering

@@ -12,8 +12,9 @@ pub use Rattle.std.proofs.lemmas.List.Filters.{length-filter_both, length-filter
 pub use Rattle.std.proofs.lemmas.List.Folds.{sum_by-replicate}
 pub use Rattle.std.proofs.lemmas.List.FromFn.{get_or-map-range_with_len, length-map-range_with_len}
 pub use Rattle.std.proofs.lemmas.List.Quantifiers.{position-Some}
-pub use Rattle.std.proofs.lemmas.List.Sums.{sum_by-le-sum_by, get_or-le-sum_by, sum-map, sum_by-cons, sum_by-drop_more, sum_by-set, sum_by_more_le}
-pub use Rattle.std.proofs.lemmas.Map.Keys.{apart_from_distinct}
+pub use Rattle.std.proofs.lemmas.List.Sums.{sum_by-le-sum_by, get_or-le-sum_by, sum-map, sum_by-append, sum_by-cons, sum_by-drop_more, sum_by-set}
+pub use Rattle.std.proofs.lemmas.Map.Keys.{IsDistinct-from_apart, apart_from_distinct}
+pub use Rattle.std.proofs.lemmas.Map.Steps.{length-le_from_distinct_below}
 pub use Rattle.std.proofs.lemmas.Nat.{div-add-mod', div-mul-add, mod-mul-add, mul-add-lt}
 pub use Rattle.std.proofs.lemmas.Option.{get_or_from_slice_get, slice_get-get_or, slice_get_within}
 pub use Rattle.std.proofs.lemmas.Result.{on_ok_weaker}
@@ -41,17 +42,19 @@ pub use Rattle.at_ledger.specs.declared.call.Call.TheVariants.{Pay, Read, Transf
 pub use Rattle.at_ledger.specs.declared.call.Line.{Line}
 pub use Rattle.at_ledger.specs.declared.call.Reply.{Reply}
 pub use Rattle.at_ledger.specs.declared.call.Reply.TheVariants.{Balance, Done, Full, NotOwner, Short}
-pub use Rattle.at_orders.specs.Alone.{AreAlone, AreFilesAnswers, AreFirstAnswers, AreRangesOn, IsAlone, IsAloneTo, IsRangeTo, IsTarget, IsWidened, alone_balance, at_else, falls_of, range_in, ranges_of, rises_of}
-unfoldable pub use Rattle.at_orders.specs.Alone.{Names, alone_at}
-pub use Rattle.at_orders.specs.Covered.{AreShort, OpeningCovers, AreTaken, OpeningsCover, asked_by_call, asked_by_pay, asked_in_file, asked_in_files}
+pub use Rattle.at_orders.specs.Covered.{AreLeft, OpeningCovers, OpeningsCover, TellCovered, left_when_asked, asked_by_call, asked_by_pay, asked_in_file, asked_in_files}
 unfoldable pub use Rattle.at_orders.specs.Covered.{sum_below}
 pub use Rattle.at_orders.specs.Orders.{AreAnswers, Comes, IsOrder}
+pub use Rattle.at_orders.specs.Ordered.{AreFilesAnswers, AreFirstAnswers, AreOrdered, AreSpans, AreSpansOn, HoldsAt, IsKeptAt, IsNamedFirst, IsOrdered, IsSpan, at_else, falls_of, range_in, rises_of, part_ranges}
+pub use Rattle.at_orders.specs.Parts.{AreJoined, AreJoining, AreParts, AreTouched, HangTogether, HasBigPart, HasUser, IsTarget, PaysAt, PaysIn, Touch, Touches, part_file, renamed, user_of}
+unfoldable pub use Rattle.at_orders.specs.Parts.{Names, files_of_part}
 pub use Rattle.at_orders.specs.Replies.{AreJust, IsListed, balances_with, no_replies, range_at, range_with, read_replies, replies_with}
 pub use Rattle.at_orders.specs.Settled.{HasOwnRoom, IsSettled, is_own_payment}
 pub use Rattle.at_orders.specs.Stages.{GroundTerms, HasMoreStages, IsStage, StageTerms, after_success, calls_made, first_stage, is_payment_from, ledger_at, payments_from, requests_at, requests_of, stage_after}
 pub use Rattle.at_orders.specs.Walk.{AreAllCountedBefore, AreAllHeard, AreAllStages, AreApart, AreCountedBefore, AreHeard, AreHeardInPart, AreKept, AreLevel, ArePlaces, Grows, HasAllNext, HasFirstPlace, HasMoreNext, HasNext, HasNumbers, HasPlace, HasStage, IsGround, IsHeard, IsMadeTo, IsNextCall, IsNextLevel, IsNextPayment, IsSeen, IsStanding, IsWalked, IsWalkedTo, KeepsPlaces, StandsFor}
-pub use Rattle.at_orders.specs.declared.alone.Alone.{Alone}
 pub use Rattle.at_orders.specs.declared.error.OrdersError.TheVariants.{TooManyOrders}
+pub use Rattle.at_orders.specs.declared.part.Part.{Part}
+pub use Rattle.at_orders.specs.declared.parts.Parts.{Parts}
 pub use Rattle.at_orders.specs.declared.replies.Range.{Range}
 pub use Rattle.at_orders.specs.declared.replies.Replies.{Replies}
 pub use Rattle.at_orders.specs.declared.stage.Stage.{Stage}

@@ -1,355 +1,401 @@
--- The replies of covered files: a payment has one, and a read the balances between two that come.
-use Rattle.std.proofs.Common.{◌≡◌, ℕ, zero, suc, ◌+◌, ◌-◌, ◌<◌, ◌≤◌, inr, true≢false, List, [], ◌∷◌, ◌++◌, length, get_or, Some, refl, sym, ap, subst, ◌∙◌, arith}
-use Rattle.std.specs.Prelude.{slice_get}
-use Rattle.at_orders.proofs.Prelude.{get_or_append_left, length-append, get_or-le-sum_by, slice_get_within, get_or-append_seam, BookTerms, total_of, LedgerState, step, Call, Transfer, Read, Pay, Line, Reply, Balance, AreWithinFiles, IsNextOfProcess, call_known-at, IsRangeTo, alone_at, alone_balance, at_else, falls_of, rises_of, sum_below, Comes, AreJust, IsListed, no_replies, read_replies, replies_with, IsStage, StageTerms, Range}
-use Rattle.at_orders.proofs.Counts.{counts}
-use Rattle.at_orders.proofs.Covering.{AreCovered, IsAlong, alone-enough, alone-none, along-enough, along-stage, brought, file-along, opening-at, opening_of}
-use Rattle.at_orders.proofs.Hearing.{just-none, just-with}
+-- The replies of all files, from those of each part: of a payment they are the same, and of a read the balances between two that come.
+use Rattle.std.proofs.Common.{◌≡◌, ℕ, zero, suc, ◌+◌, ◌-◌, ◌<◌, ◌≤◌, ◌==◌, inr, true≢false, List, [], length, get_or, None, Some, refl, sym, ap, subst, ◌∙◌, arith, eq-eqb}
+use Rattle.std.specs.Prelude.{slice_get, if◌then◌else◌}
+use Rattle.at_orders.proofs.Prelude.{ne_eqb, get_or-le-sum_by, BookTerms, total_of, IsCallOn, first_account, LedgerState, step, Call, Transfer, Read, Pay, Line, Reply, Balance, IsNextOfProcess, call_known-at, at_else, falls_of, rises_of, sum_below, AreParts, HoldsAt, IsSpan, files_of_part, Comes, AreJust, IsListed, read_replies, IsStage, StageTerms, Range, Replies}
+use Rattle.at_orders.proofs.Covering.{opening-at, opening_of}
+use Rattle.at_orders.proofs.Hearing.{just-same}
 use Rattle.at_orders.proofs.Moved.{at_or_off}
-use Rattle.at_orders.proofs.Reaching.{comes-next, order-next, reached-within, stage-reached}
-use Rattle.at_orders.proofs.Stepping.{AreAlike, AreReplies, step-replies}
+use Rattle.at_orders.proofs.OnTheWay.{AreFiles, way-stage}
+use Rattle.at_orders.proofs.Parting.{comes-up, length-part, own-file, part-playable}
+use Rattle.at_orders.proofs.Reaching.{comes-next, order-next}
+use Rattle.at_orders.proofs.Splitting.{NextBoth, Splits, both-next, joined, opening-part, opening_stage, part-next, split}
+use Rattle.at_orders.proofs.Stepping.{AreReplies, IsFit, replies-even}
 use Rattle.at_orders.proofs.Sums.{at_else-at, at_else-off, sum-add, sum-one, sum-same, sum-up}
 
--- a number for each process
-record Picked (n : ℕ) (P : ℕ → ℕ → Type 0) : Type 0 where
-  list : List ℕ
-  size : length list ≡ n
-  each : (q : ℕ) → q < n → P q (get_or list q 0)
+-- the ranges that the account has in each part
+abbrev pub AreRanges : BookTerms → List (List Call) → List ℕ → ℕ → (ℕ → Range) → Type 0
+AreRanges b files parts a r = (k : ℕ) → k < length files → IsSpan (HoldsAt b (files_of_part files parts k) a) (r k)
 
-record Pick (P : ℕ → ℕ → Type 0) (q : ℕ) : Type 0 where
-  number : ℕ
-  is : P q number
+opens-with : (b : BookTerms) (files : List (List Call)) (parts : List ℕ) (a k : ℕ) (r : ℕ → Range) → a < length b.accounts → k < length files → AreRanges b files parts a r
+    → ((r k).least ≤ opening_of b a) × (opening_of b a ≤ (r k).greatest)
+opens-with b files parts a k r a_in k_in ranges =
+    let first : HoldsAt b (files_of_part files parts k) a (opening_of b a) = record { stage = opening_stage b files; is = opening-part b files parts k; has = opening-at b a a_in } in
+    ((ranges k k_in).low (opening_of b a) first, (ranges k k_in).high (opening_of b a) first)
 
-picked : (n : ℕ) (P : ℕ → ℕ → Type 0) → ((q : ℕ) → q < n → Pick P q) → Picked n P
-picked zero P all = record { list = []; size = refl; each = λ q h. absurd (omega arith) }
-picked (suc n) P all =
-    let rest = picked n P (λ q h. all q (omega arith)) in
-    let last = all n (omega arith) in
-    let count = rest.size in
-    record {
-      list = rest.list ++ last.number ∷ [];
-      size = let size = length-append rest.list (last.number ∷ []) in omega arith;
-      each = λ q h. at_or_off n q
-          (λ same.
-          let read : get_or (rest.list ++ last.number ∷ []) q 0 ≡ last.number =
-          ap (λ (k : ℕ). get_or (rest.list ++ last.number ∷ []) k 0) (sym (count ∙ same)) ∙ get_or-append_seam rest.list last.number [] 0 in
-          subst (P q) (sym read) (subst (λ (k : ℕ). P k last.number) same last.is))
-          (λ other.
-          let inside : q < n = omega (arith, other) in
-          subst (P q) (sym (get_or_append_left rest.list (last.number ∷ []) 0 q (omega arith))) (rest.each q inside));
-    }
-
--- the ranges that the account has in each file
-abbrev pub AreRanges : BookTerms → List (List Call) → ℕ → (ℕ → Range) → Type 0
-AreRanges b files a r = (q : ℕ) → q < length files → IsRangeTo (alone_balance b q (get_or files q []) a) (length (get_or files q [])) (r q)
-
-abbrev own : BookTerms → List (List Call) → ℕ → ℕ → ℕ → ℕ
-own b files p i a = alone_balance b p (get_or files p []) a i
-
--- each process where its file has the account lowest, but this one
-abbrev lowest : BookTerms → List (List Call) → ℕ → ℕ → ℕ → (ℕ → Range) → ℕ → ℕ
-lowest b files p i a r = at_else p (own b files p i a) (λ q. (r q).least)
-
-abbrev highest : BookTerms → List (List Call) → ℕ → ℕ → ℕ → (ℕ → Range) → ℕ → ℕ
-highest b files p i a r = at_else p (own b files p i a) (λ q. (r q).greatest)
-
+-- the opening of each part, but v of this one
 abbrev opened : BookTerms → List (List Call) → ℕ → ℕ → ℕ → ℕ
-opened b files p i a = sum_below (length files) (at_else p (own b files p i a) (λ q. opening_of b a))
+opened b files k v a = sum_below (length files) (at_else k v (λ j. opening_of b a))
 
-opens-with : (b : BookTerms) (files : List (List Call)) (a q : ℕ) (r : ℕ → Range) → a < length b.accounts → q < length files → AreRanges b files a r
-    → ((r q).least ≤ opening_of b a) × (opening_of b a ≤ (r q).greatest)
-opens-with b files a q r a_in q_in ranges =
-    let first : own b files q 0 a ≡ opening_of b a = ap (λ (s : LedgerState). get_or s.balances a 0) (alone-none b q (get_or files q [])) ∙ opening-at b a a_in in
-    let low = (ranges q q_in).low 0 (omega arith) in
-    let high = (ranges q q_in).high 0 (omega arith) in
-    (omega arith, omega arith)
-
-sum-opened : (b : BookTerms) (files : List (List Call)) (p i a : ℕ) → p < length files
-    → opened b files p i a + opening_of b a ≡ sum_below (length files) (λ q. opening_of b a) + own b files p i a
-sum-opened b files p i a p_in =
-    let v : ℕ = own b files p i a in
-    let one = sum-one (length files) p (λ (q : ℕ). opening_of b a) (at_else p v (λ (q : ℕ). opening_of b a)) p_in (λ q q_in differ. sym (at_else-off p v q (λ (k : ℕ). opening_of b a) differ)) in
-    let here = at_else-at p v p (λ (q : ℕ). opening_of b a) refl in
+sum-opened : (b : BookTerms) (files : List (List Call)) (k v a : ℕ) → k < length files → opened b files k v a + opening_of b a ≡ sum_below (length files) (λ j. opening_of b a) + v
+sum-opened b files k v a k_in =
+    let one = sum-one (length files) k (λ (j : ℕ). opening_of b a) (at_else k v (λ (j : ℕ). opening_of b a)) k_in (λ j j_in differ. sym (at_else-off k v j (λ (n : ℕ). opening_of b a) differ)) in
+    let here = at_else-at k v k (λ (j : ℕ). opening_of b a) refl in
     omega arith
 
-sum-lowest : (b : BookTerms) (files : List (List Call)) (p i a : ℕ) (r : ℕ → Range) → a < length b.accounts → AreRanges b files a r
-    → sum_below (length files) (lowest b files p i a r) + falls_of b a r p (length files) ≡ opened b files p i a
-sum-lowest b files p i a r a_in ranges =
-    let v : ℕ = own b files p i a in
-    sum-add (length files) (lowest b files p i a r) (at_else p 0 (λ (q : ℕ). opening_of b a - (r q).least)) (at_else p v (λ (q : ℕ). opening_of b a)) (λ q q_in. at_or_off p q
+sum-lowest : (b : BookTerms) (files : List (List Call)) (parts : List ℕ) (k v a : ℕ) (r : ℕ → Range) → a < length b.accounts → AreRanges b files parts a r
+    → sum_below (length files) (at_else k v (λ j. (r j).least)) + falls_of b a r k (length files) ≡ opened b files k v a
+sum-lowest b files parts k v a r a_in ranges =
+    sum-add (length files) (at_else k v (λ (j : ℕ). (r j).least)) (at_else k 0 (λ (j : ℕ). opening_of b a - (r j).least)) (at_else k v (λ (j : ℕ). opening_of b a)) (λ j j_in. at_or_off k j
     (λ same.
-    let x = at_else-at p v q (λ (k : ℕ). (r k).least) (sym same) in
-    let y = at_else-at p 0 q (λ (k : ℕ). opening_of b a - (r k).least) (sym same) in
-    let z = at_else-at p v q (λ (k : ℕ). opening_of b a) (sym same) in
+    let x = at_else-at k v j (λ (n : ℕ). (r n).least) (sym same) in
+    let y = at_else-at k 0 j (λ (n : ℕ). opening_of b a - (r n).least) (sym same) in
+    let z = at_else-at k v j (λ (n : ℕ). opening_of b a) (sym same) in
     omega arith)
     (λ off.
-    let x = at_else-off p v q (λ (k : ℕ). (r k).least) off in
-    let y = at_else-off p 0 q (λ (k : ℕ). opening_of b a - (r k).least) off in
-    let z = at_else-off p v q (λ (k : ℕ). opening_of b a) off in
-    let low = (opens-with b files a q r a_in q_in ranges).0 in
+    let x = at_else-off k v j (λ (n : ℕ). (r n).least) off in
+    let y = at_else-off k 0 j (λ (n : ℕ). opening_of b a - (r n).least) off in
+    let z = at_else-off k v j (λ (n : ℕ). opening_of b a) off in
+    let low = (opens-with b files parts a j r a_in j_in ranges).0 in
     omega arith))
 
-sum-highest : (b : BookTerms) (files : List (List Call)) (p i a : ℕ) (r : ℕ → Range) → a < length b.accounts → AreRanges b files a r
-    → opened b files p i a + rises_of b a r p (length files) ≡ sum_below (length files) (highest b files p i a r)
-sum-highest b files p i a r a_in ranges =
-    let v : ℕ = own b files p i a in
-    sum-add (length files) (at_else p v (λ (q : ℕ). opening_of b a)) (at_else p 0 (λ (q : ℕ). (r q).greatest - opening_of b a)) (highest b files p i a r) (λ q q_in. at_or_off p q
+sum-highest : (b : BookTerms) (files : List (List Call)) (parts : List ℕ) (k v a : ℕ) (r : ℕ → Range) → a < length b.accounts → AreRanges b files parts a r
+    → opened b files k v a + rises_of b a r k (length files) ≡ sum_below (length files) (at_else k v (λ j. (r j).greatest))
+sum-highest b files parts k v a r a_in ranges =
+    sum-add (length files) (at_else k v (λ (j : ℕ). opening_of b a)) (at_else k 0 (λ (j : ℕ). (r j).greatest - opening_of b a)) (at_else k v (λ (j : ℕ). (r j).greatest)) (λ j j_in. at_or_off k j
     (λ same.
-    let x = at_else-at p v q (λ (k : ℕ). (r k).greatest) (sym same) in
-    let y = at_else-at p 0 q (λ (k : ℕ). (r k).greatest - opening_of b a) (sym same) in
-    let z = at_else-at p v q (λ (k : ℕ). opening_of b a) (sym same) in
+    let x = at_else-at k v j (λ (n : ℕ). (r n).greatest) (sym same) in
+    let y = at_else-at k 0 j (λ (n : ℕ). (r n).greatest - opening_of b a) (sym same) in
+    let z = at_else-at k v j (λ (n : ℕ). opening_of b a) (sym same) in
     omega arith)
     (λ off.
-    let x = at_else-off p v q (λ (k : ℕ). (r k).greatest) off in
-    let y = at_else-off p 0 q (λ (k : ℕ). (r k).greatest - opening_of b a) off in
-    let z = at_else-off p v q (λ (k : ℕ). opening_of b a) off in
-    let high = (opens-with b files a q r a_in q_in ranges).1 in
+    let x = at_else-off k v j (λ (n : ℕ). (r n).greatest) off in
+    let y = at_else-off k 0 j (λ (n : ℕ). (r n).greatest - opening_of b a) off in
+    let z = at_else-off k v j (λ (n : ℕ). opening_of b a) off in
+    let high = (opens-with b files parts a j r a_in j_in ranges).1 in
     omega arith))
 
--- a stage before call i of the process
-record IsBefore (b : BookTerms) (files : List (List Call)) (p i : ℕ) (t : StageTerms) : Type 0 where
-  stage : IsStage b files t
-  along : IsAlong b files t.ledger t.made
-  before : get_or t.made p 0 ≡ i
+-- a reply that comes is one at a stage before its call
+pub record ComesBefore (b : BookTerms) (files : List (List Call)) (p i : ℕ) (y : Reply) : Type 0 where
+  pub stage : StageTerms
+  pub is : IsStage b files stage
+  pub call : Call
+  pub next : slice_get (get_or files p []) i ≡ Some call
+  pub before : get_or stage.made p 0 ≡ i
+  pub answered : y ≡ (step stage.ledger p call).reply
 
--- its balances are between the least and the greatest
-between : (b : BookTerms) (files : List (List Call)) (p i a : ℕ) (r : ℕ → Range) (t : StageTerms) → p < length files → a < length b.accounts → AreRanges b files a r
-    → AreWithinFiles files t.made → IsBefore b files p i t
-    → (own b files p i a ≤ get_or t.ledger.balances a 0 + falls_of b a r p (length files)) × (get_or t.ledger.balances a 0 ≤ own b files p i a + rises_of b a r p (length files))
-between b files p i a r t p_in a_in ranges within is =
-    let n : ℕ = length files in
-    let v : ℕ = own b files p i a in
-    let f : ℕ → ℕ = brought b files t.made a in
-    let here : (q : ℕ) → p ≡ q → f q ≡ v = λ q same. ap (λ (k : ℕ). alone_balance b k (get_or files k []) a (get_or t.made k 0)) (sym same) ∙ ap (alone_balance b p (get_or files p []) a) is.before in
-    let low = sum-up n (lowest b files p i a r) f (λ q q_in. at_or_off p q
-    (λ same. let x = at_else-at p v q (λ (k : ℕ). (r k).least) (sym same) in let y = here q same in omega arith)
-    (λ off. let x = at_else-off p v q (λ (k : ℕ). (r k).least) off in let y = (ranges q q_in).low (get_or t.made q 0) (within.within q q_in) in omega arith)) in
-    let high = sum-up n f (highest b files p i a r) (λ q q_in. at_or_off p q
-    (λ same. let x = at_else-at p v q (λ (k : ℕ). (r k).greatest) (sym same) in let y = here q same in omega arith)
-    (λ off. let x = at_else-off p v q (λ (k : ℕ). (r k).greatest) off in let y = (ranges q q_in).high (get_or t.made q 0) (within.within q q_in) in omega arith)) in
-    let brings = is.along.brings a a_in in
-    let opens = sum-opened b files p i a p_in in
-    let lows = sum-lowest b files p i a r a_in ranges in
-    let highs = sum-highest b files p i a r a_in ranges in
-    (omega arith, omega arith)
-
--- before call i of the process the account has, in some order, what f says that each process alone brings it to
-record HasSum (b : BookTerms) (files : List (List Call)) (p i a : ℕ) (f : ℕ → ℕ) : Type 0 where
-  stage : StageTerms
-  is : IsBefore b files p i stage
-  has : get_or stage.ledger.balances a 0 + sum_below (length files) (λ q. opening_of b a) ≡ opening_of b a + sum_below (length files) f
-
--- so many calls of a process, i of this one, at which the account has what f says
-record IsPicked (b : BookTerms) (files : List (List Call)) (p i a : ℕ) (f : ℕ → ℕ) (q count : ℕ) : Type 0 where
-  within : count ≤ length (get_or files q [])
-  before : p ≡ q → count ≡ i
-  is : alone_balance b q (get_or files q []) a count ≡ f q
-
-has-picked : (b : BookTerms) (files : List (List Call)) (p i a : ℕ) (f : ℕ → ℕ) → AreCovered b files → p < length files → a < length b.accounts
-    → ((q : ℕ) → q < length files → Pick (IsPicked b files p i a f) q) → HasSum b files p i a f
-has-picked b files p i a f are p_in a_in all_picks =
-    let all = picked (length files) (IsPicked b files p i a f) all_picks in
-    let within : AreWithinFiles files all.list = record { each = all.size; within = λ q h. (all.each q h).within } in
-    let has = counts b files all.list within in
-    let t : StageTerms = record { made = all.list; ledger = has.ledger } in
-    let along = along-stage b files t are has.stage in
-    let brings = along.brings a a_in in
-    let same = sum-same (length files) (brought b files all.list a) f (λ q h. (all.each q h).is) in
-    record { stage = t; is = record { stage = has.stage; along = along; before = (all.each p p_in).before refl }; has = omega arith }
-
--- what the account has after so many calls of the process alone
-record IsFound (b : BookTerms) (files : List (List Call)) (a : ℕ) (g : ℕ → ℕ) (q count : ℕ) : Type 0 where
-  within : count ≤ length (get_or files q [])
-  is : alone_balance b q (get_or files q []) a count ≡ g q
-
-picks : (b : BookTerms) (files : List (List Call)) (p i a : ℕ) (g : ℕ → ℕ) → i ≤ length (get_or files p []) → ((q : ℕ) → q < length files → Pick (IsFound b files a g) q)
-    → (q : ℕ) → q < length files → Pick (IsPicked b files p i a (at_else p (own b files p i a) g)) q
-picks b files p i a g within found q q_in = at_or_off p q
-    (λ same.
-    let x = at_else-at p (own b files p i a) q g (sym same) in
-    record {
-      number = i;
-      is = record {
-        within = subst (λ (k : ℕ). i ≤ length (get_or files k [])) same within;
-        before = λ e. refl;
-        is = ap (λ (k : ℕ). alone_balance b k (get_or files k []) a i) (sym same) ∙ sym x;
-      };
-    })
-    (λ off.
-    let x = at_else-off p (own b files p i a) q g off in
-    let one = found q q_in in
-    record { number = one.number; is = record { within = one.is.within; before = λ e. absurd (off e); is = one.is.is ∙ sym x } })
-
-has-lowest : (b : BookTerms) (files : List (List Call)) (p i a : ℕ) (r : ℕ → Range) → AreCovered b files → p < length files → i ≤ length (get_or files p []) → a < length b.accounts
-    → AreRanges b files a r → HasSum b files p i a (lowest b files p i a r)
-has-lowest b files p i a r are p_in within a_in ranges =
-    has-picked b files p i a (lowest b files p i a r) are p_in a_in
-    (picks b files p i a (λ (q : ℕ). (r q).least) within (λ q q_in. let range = ranges q q_in in record { number = range.least_at; is = record { within = range.least_in; is = range.least } }))
-
-has-highest : (b : BookTerms) (files : List (List Call)) (p i a : ℕ) (r : ℕ → Range) → AreCovered b files → p < length files → i ≤ length (get_or files p []) → a < length b.accounts
-    → AreRanges b files a r → HasSum b files p i a (highest b files p i a r)
-has-highest b files p i a r are p_in within a_in ranges =
-    has-picked b files p i a (highest b files p i a r) are p_in a_in
-    (picks b files p i a (λ (q : ℕ). (r q).greatest) within (λ q q_in. let range = ranges q q_in in record { number = range.greatest_at; is = record { within = range.greatest_in; is = range.greatest } }))
-
-has-least : (b : BookTerms) (files : List (List Call)) (p i a : ℕ) (r : ℕ → Range) → (are : AreCovered b files) → (p_in : p < length files) → (within : i ≤ length (get_or files p [])) → (a_in : a < length b.accounts)
-    → (ranges : AreRanges b files a r) → let has = has-lowest b files p i a r are p_in within a_in ranges in
-    get_or has.stage.ledger.balances a 0 + falls_of b a r p (length files) ≡ own b files p i a
-has-least b files p i a r are p_in within a_in ranges =
-    let has = has-lowest b files p i a r are p_in within a_in ranges in
-    let sums = has.has in
-    let opens = sum-opened b files p i a p_in in
-    let lows = sum-lowest b files p i a r a_in ranges in
-    omega arith
-
-has-greatest : (b : BookTerms) (files : List (List Call)) (p i a : ℕ) (r : ℕ → Range) → (are : AreCovered b files) → (p_in : p < length files) → (within : i ≤ length (get_or files p [])) → (a_in : a < length b.accounts)
-    → (ranges : AreRanges b files a r) → let has = has-highest b files p i a r are p_in within a_in ranges in
-    get_or has.stage.ledger.balances a 0 ≡ own b files p i a + rises_of b a r p (length files)
-has-greatest b files p i a r are p_in within a_in ranges =
-    let has = has-highest b files p i a r are p_in within a_in ranges in
-    let sums = has.has in
-    let opens = sum-opened b files p i a p_in in
-    let highs = sum-highest b files p i a r a_in ranges in
-    omega arith
-
--- the falls of the others are within the balance, and with their rises it is within the total
-pub falls-within : (b : BookTerms) (files : List (List Call)) (p i a : ℕ) (r : ℕ → Range) → AreCovered b files → p < length files → i ≤ length (get_or files p []) → a < length b.accounts
-    → AreRanges b files a r → falls_of b a r p (length files) ≤ own b files p i a
-falls-within b files p i a r are p_in within a_in ranges = let least = has-least b files p i a r are p_in within a_in ranges in omega arith
-
-pub rises-within : (b : BookTerms) (files : List (List Call)) (p i a : ℕ) (r : ℕ → Range) → AreCovered b files → p < length files → i ≤ length (get_or files p []) → a < length b.accounts
-    → AreRanges b files a r → own b files p i a + rises_of b a r p (length files) ≤ total_of b
-rises-within b files p i a r are p_in within a_in ranges =
-    let has = has-highest b files p i a r are p_in within a_in ranges in
-    let greatest = has-greatest b files p i a r are p_in within a_in ranges in
-    let total = has.is.along.total in
-    let size = has.is.along.fit.balances in
-    let one = get_or-le-sum_by (λ (n : ℕ). n) has.stage.ledger.balances a 0 (omega arith) in
-    omega arith
-
--- the reply of the call at a stage before it
-comes-before : (b : BookTerms) (files : List (List Call)) (p i : ℕ) (c : Call) (t : StageTerms) → p < length files → slice_get (get_or files p []) i ≡ Some c → IsBefore b files p i t
-    → Comes b files p i (step t.ledger p c).reply
-comes-before b files p i c t p_in is before =
-    let l : Line = record { process = p; number = get_or t.made p 0 + 1; call = c; reply = (step t.ledger p c).reply } in
-    let next : IsNextOfProcess files t.ledger t.made l = record {
-      process = p_in;
-      number = refl {a = get_or t.made p 0 + 1};
-      call = subst (λ (n : ℕ). slice_get (get_or files p []) n ≡ Some c) (sym before.before) is;
-      reply = refl {a = (step t.ledger p c).reply};
-    } in
-    subst (λ (n : ℕ). Comes b files p n l.reply) before.before (comes-next b files t l before.stage next)
-
--- a reply that comes is one at such a stage
-record ComesBefore (b : BookTerms) (files : List (List Call)) (p i : ℕ) (c : Call) (y : Reply) : Type 0 where
-  stage : StageTerms
-  is : IsBefore b files p i stage
-  answered : y ≡ (step stage.ledger p c).reply
-
-before-comes : (b : BookTerms) (files : List (List Call)) (p i : ℕ) (c : Call) (y : Reply) → AreCovered b files → slice_get (get_or files p []) i ≡ Some c → Comes b files p i y
-    → ComesBefore b files p i c y
-before-comes b files p i c y are is comes =
+pub before-comes : (b : BookTerms) (files : List (List Call)) (p i : ℕ) (y : Reply) → Comes b files p i y → ComesBefore b files p i y
+before-comes b files p i y comes =
     let l : Line = comes.line in
     let at = order-next b files comes.lines l comes.order comes.stands in
     let by : l.process ≡ p = comes.made_by in
     let number : get_or at.stage.made l.process 0 ≡ i = let x = at.next.number in let n = comes.number in omega arith in
-    let next : slice_get (get_or files p []) i ≡ Some l.call =
-    subst (λ (q : ℕ). slice_get (get_or files q []) i ≡ Some l.call) by (subst (λ (n : ℕ). slice_get (get_or files l.process []) n ≡ Some l.call) number at.next.call) in
-    let calls : l.call ≡ c = cc in
     record {
       stage = at.stage;
-      is = record { stage = at.is; along = along-stage b files at.stage are at.is; before = ap (λ (q : ℕ). get_or at.stage.made q 0) (sym by) ∙ number };
-      answered = sym comes.answered ∙ (at.next.reply ∙ (ap (λ (q : ℕ). (step at.stage.ledger q l.call).reply) by ∙ ap (λ (d : Call). (step at.stage.ledger p d).reply) calls));
+      is = at.is;
+      call = l.call;
+      next = subst (λ (q : ℕ). slice_get (get_or files q []) i ≡ Some l.call) by (subst (λ (n : ℕ). slice_get (get_or files l.process []) n ≡ Some l.call) number at.next.call);
+      before = ap (λ (q : ℕ). get_or at.stage.made q 0) (sym by) ∙ number;
+      answered = sym comes.answered ∙ (at.next.reply ∙ ap (λ (q : ℕ). (step at.stage.ledger q l.call).reply) by);
     }
 
--- the replies at the stage and of the file by itself
-replies-before : (b : BookTerms) (files : List (List Call)) (p i : ℕ) (c : Call) (t : StageTerms) → AreCovered b files → p < length files → slice_get (get_or files p []) i ≡ Some c
-    → IsBefore b files p i t → AreReplies c t.ledger (alone_at b p (get_or files p []) i) (step t.ledger p c).reply (step (alone_at b p (get_or files p []) i) p c).reply
-replies-before b files p i c t are p_in is before =
-    let within = slice_get_within (get_or files p []) i c is in
-    let alone = file-along b files p i are p_in (omega arith) in
+pub comes-before : (b : BookTerms) (files : List (List Call)) (p i : ℕ) (c : Call) (t : StageTerms) → p < length files → IsStage b files t → slice_get (get_or files p []) i ≡ Some c
+    → get_or t.made p 0 ≡ i → Comes b files p i (step t.ledger p c).reply
+comes-before b files p i c t p_in is next before =
     let l : Line = record { process = p; number = get_or t.made p 0 + 1; call = c; reply = (step t.ledger p c).reply } in
-    let next : IsNextOfProcess files t.ledger t.made l = record {
+    let is_next : IsNextOfProcess files t.ledger t.made l = record {
       process = p_in;
       number = refl {a = get_or t.made p 0 + 1};
-      call = subst (λ (n : ℕ). slice_get (get_or files p []) n ≡ Some c) (sym before.before) is;
+      call = subst (λ (n : ℕ). slice_get (get_or files p []) n ≡ Some c) (sym before) next;
       reply = refl {a = (step t.ledger p c).reply};
     } in
-    step-replies b p c t.ledger (alone_at b p (get_or files p []) i) (let n = are.count in omega arith) (call_known-at (length b.accounts) files p i c are.playable p_in is)
-    before.along.fit (along-enough b files t.ledger t.made l before.along next) alone.fit (alone-enough b p (get_or files p []) i c is alone)
-    (subst (λ (n : ℕ). AreAlike b p t.ledger (alone_at b p (get_or files p []) n)) before.before (before.along.alike p p_in))
+    subst (λ (n : ℕ). Comes b files p n l.reply) before (comes-next b files t l is is_next)
 
--- some stage is before the call
-record HasBefore (b : BookTerms) (files : List (List Call)) (p i : ℕ) : Type 0 where
-  stage : StageTerms
-  is : IsBefore b files p i stage
+-- a reply that comes in all files, and the one in the part then
+record ComesDown (b : BookTerms) (files : List (List Call)) (parts : List ℕ) (p i : ℕ) (y : Reply) : Type 0 where
+  at : ComesBefore b files p i y
+  of : ℕ → StageTerms
+  splits : Splits b files parts at.stage of
+  both : NextBoth b p at.call at.stage (of (get_or parts p 0))
+  there : Comes b (files_of_part files parts (get_or parts p 0)) p i (step (of (get_or parts p 0)).ledger p at.call).reply
 
--- so many calls of a process, i of this one
-record IsCount (files : List (List Call)) (p i q count : ℕ) : Type 0 where
-  within : count ≤ length (get_or files q [])
-  before : p ≡ q → count ≡ i
+comes-down : (b : BookTerms) (files : List (List Call)) (parts : List ℕ) (p i : ℕ) (y : Reply) → AreFiles b files → AreParts b files parts → p < length files → Comes b files p i y → ComesDown b files parts p i y
+comes-down b files parts p i y are parted p_in comes =
+    let at = before-comes b files p i y comes in
+    let k : ℕ = get_or parts p 0 in
+    let down = split b files parts at.stage are parted at.is in
+    let next : slice_get (get_or files p []) (get_or at.stage.made p 0) ≡ Some at.call = subst (λ (n : ℕ). slice_get (get_or files p []) n ≡ Some at.call) (sym at.before) at.next in
+    let count : get_or (down.of k).made p 0 ≡ i = down.splits.made p p_in ∙ at.before in
+    record {
+      at = at;
+      of = down.of;
+      splits = down.splits;
+      both = both-next b files parts at.stage down.of p at.call are parted down.splits p_in next;
+      there = comes-before b (files_of_part files parts k) p i at.call (down.of k) (let n = length-part files parts k in omega arith) (down.splits.each k (parted.known p p_in))
+          (subst (λ (n : ℕ). slice_get (get_or (files_of_part files parts k) p []) n ≡ Some at.call) count (part-next b files parts at.stage down.of p k at.call down.splits p_in refl next)) count;
+    }
 
-stage-before : (b : BookTerms) (files : List (List Call)) (p i : ℕ) → AreCovered b files → p < length files → i ≤ length (get_or files p []) → HasBefore b files p i
-stage-before b files p i are p_in within =
-    let all = picked (length files) (IsCount files p i) (λ q q_in. at_or_off p q
-    (λ same. record { number = i; is = record { within = subst (λ (k : ℕ). i ≤ length (get_or files k [])) same within; before = λ e. refl } })
-    (λ off. record { number = 0; is = record { within = omega arith; before = λ e. absurd (off e) } })) in
-    let has = counts b files all.list (record { each = all.size; within = λ q h. (all.each q h).within }) in
-    let t : StageTerms = record { made = all.list; ledger = has.ledger } in
-    record { stage = t; is = record { stage = has.stage; along = along-stage b files t are has.stage; before = (all.each p p_in).before refl } }
+-- a reply that is a balance is that of a read
+pub record IsRead (c : Call) (s : LedgerState) (v : ℕ) : Type 0 where
+  pub read : c ≡ Read (first_account c)
+  pub balance : get_or s.balances (first_account c) 0 ≡ v
 
--- the same reply at every stage
-one-reply : (b : BookTerms) (files : List (List Call)) (p i : ℕ) (c : Call) → AreCovered b files → p < length files → slice_get (get_or files p []) i ≡ Some c
-    → ((t : StageTerms) → IsBefore b files p i t → (step t.ledger p c).reply ≡ (step (alone_at b p (get_or files p []) i) p c).reply)
-    → AreJust (Comes b files p i) (replies_with no_replies (step (alone_at b p (get_or files p []) i) p c).reply)
-one-reply b files p i c are p_in is same =
-    let x : Reply = (step (alone_at b p (get_or files p []) i) p c).reply in
-    let within = slice_get_within (get_or files p []) i c is in
-    let some = stage-before b files p i are p_in (omega arith) in
-    just-with (λ y. ⊥) (Comes b files p i) no_replies x (just-none (λ y. ⊥) (λ y never. never)) (record {
-      up = λ y never. absurd never;
-      here = subst (Comes b files p i) (same some.stage some.is) (comes-before b files p i c some.stage p_in is some.is);
-      down = λ y comes. let at = before-comes b files p i c y are is comes in inr (at.answered ∙ same at.stage at.is);
-    })
+balance-of : (v w : ℕ) (y : Reply) → y ≡ Balance w → y ≡ Balance v → w ≡ v
+balance-of v w y one other = let same : Balance w ≡ Balance v = sym one ∙ other in cc
 
--- a payment has the reply that it has in its file by itself
-pub payment-just : (b : BookTerms) (files : List (List Call)) (p i : ℕ) (c : Call) → AreCovered b files → p < length files → slice_get (get_or files p []) i ≡ Some c
-    → ((a : ℕ) → c ≡ Read a → ⊥) → AreJust (Comes b files p i) (replies_with no_replies (step (alone_at b p (get_or files p []) i) p c).reply)
+read-from : (c : Call) (s u : LedgerState) (x y : Reply) (v : ℕ) → AreReplies c s u x y → x ≡ Balance v → IsRead c s v
 unfolding AreReplies
-payment-just b files p i (Transfer from to amount) are p_in is pays =
-    one-reply b files p i (Transfer from to amount) are p_in is (λ t before. (replies-before b files p i (Transfer from to amount) t are p_in is before).0)
-payment-just b files p i (Read a) are p_in is pays = absurd (pays a refl)
-payment-just b files p i (Pay from targets) are p_in is pays =
-    one-reply b files p i (Pay from targets) are p_in is (λ t before. (replies-before b files p i (Pay from targets) t are p_in is before).0)
+read-from (Transfer from to amount) s u x y v are is = absurd (are.1 v is)
+read-from (Read a) s u x y v are is = record { read = refl; balance = balance-of v (get_or s.balances a 0) x are.0 is }
+read-from (Pay from targets) s u x y v are is = absurd (are.1 v is)
+
+-- the replies of a payment are the same, and those of a read are balances
+payment-same : (c : Call) (s u : LedgerState) (x y : Reply) (P : Type 0) → AreReplies c s u x y → ((v : ℕ) → y ≡ Balance v → P) → (x ≡ y → P) → P
+unfolding AreReplies
+payment-same (Transfer from to amount) s u x y P are read pays = pays are.0
+payment-same (Read a) s u x y P are read pays = read (get_or u.balances a 0) are.1
+payment-same (Pay from targets) s u x y P are read pays = pays are.0
+
+-- without balances in the part, the replies are those of the part
+none-down : (b : BookTerms) (files : List (List Call)) (parts : List ℕ) (p i : ℕ) (r : Replies) (y : Reply) → AreFiles b files → AreParts b files parts → p < length files
+    → AreJust (Comes b (files_of_part files parts (get_or parts p 0)) p i) r → r.balances ≡ None → Comes b files p i y → Comes b (files_of_part files parts (get_or parts p 0)) p i y
+none-down b files parts p i r y are parted p_in just none comes =
+    let down = comes-down b files parts p i y are parted p_in comes in
+    let at = down.at in
+    let v : StageTerms = down.of (get_or parts p 0) in
+    let fs : List (List Call) = files_of_part files parts (get_or parts p 0) in
+    payment-same at.call at.stage.ledger v.ledger (step at.stage.ledger p at.call).reply (step v.ledger p at.call).reply (Comes b fs p i y) down.both.replies
+    (λ n is. absurd (
+    let listed : IsListed r (Balance n) = just.all (Balance n) (subst (Comes b fs p i) is down.there) in
+    let some : Some listed.0 ≡ None = sym listed.1 ∙ none in
+    cc))
+    (λ same. subst (Comes b fs p i) (sym (at.answered ∙ same)) down.there)
+
+pub payment-just : (b : BookTerms) (files : List (List Call)) (parts : List ℕ) (p i : ℕ) (r : Replies) → AreFiles b files → AreParts b files parts → p < length files
+    → AreJust (Comes b (files_of_part files parts (get_or parts p 0)) p i) r → r.balances ≡ None → AreJust (Comes b files p i) r
+payment-just b files parts p i r are parted p_in just none =
+    just-same (Comes b (files_of_part files parts (get_or parts p 0)) p i) (Comes b files p i) r
+    (λ y comes. comes-up b files parts (get_or parts p 0) p i y comes) (λ y comes. none-down b files parts p i r y are parted p_in just none comes) just
+
+-- a stage of a part, for each
+record Pick (P : ℕ → StageTerms → Type 0) (k : ℕ) : Type 0 where
+  stage : StageTerms
+  is : P k stage
+
+record Picked (n : ℕ) (P : ℕ → StageTerms → Type 0) : Type 0 where
+  of : ℕ → StageTerms
+  each : (k : ℕ) → k < n → P k (of k)
+
+picked : (n : ℕ) (P : ℕ → StageTerms → Type 0) (d : StageTerms) → ((k : ℕ) → k < n → Pick P k) → Picked n P
+picked zero P d all = record { of = λ k. d; each = λ k h. absurd (omega arith) }
+picked (suc n) P d all =
+    let rest = picked n P d (λ k h. all k (omega arith)) in
+    let last = all n (omega arith) in
+    let of : ℕ → StageTerms = λ (k : ℕ). if k == n then last.stage else rest.of k in
+    record {
+      of = of;
+      each = λ k h. at_or_off n k
+          (λ same.
+          let here : of n ≡ last.stage = rw (eq-eqb n n refl) refl in
+          subst (λ (j : ℕ). P j (of j)) same (subst (P n) (sym here) last.is))
+          (λ other.
+          let there : of k ≡ rest.of k = rw (ne_eqb k n (λ same. other (sym same))) refl in
+          subst (P k) (sym there) (rest.each k (omega (arith, other))));
+    }
+
+-- a stage of a part at which the account has what f says; of this part one before the call
+record IsPicked (b : BookTerms) (files : List (List Call)) (parts : List ℕ) (p i a k : ℕ) (f : ℕ → ℕ) (j : ℕ) (t : StageTerms) : Type 0 where
+  is : IsStage b (files_of_part files parts j) t
+  has : get_or t.ledger.balances a 0 ≡ f j
+  before : k ≡ j → get_or t.made p 0 ≡ i
+
+-- before the call the account has, in some order of all files, what f says that each part brings it to
+record HasSum (b : BookTerms) (files : List (List Call)) (p i a : ℕ) (f : ℕ → ℕ) : Type 0 where
+  stage : StageTerms
+  is : IsStage b files stage
+  before : get_or stage.made p 0 ≡ i
+  has : get_or stage.ledger.balances a 0 + sum_below (length files) (λ k. opening_of b a) ≡ opening_of b a + sum_below (length files) f
+
+has-picked : (b : BookTerms) (files : List (List Call)) (parts : List ℕ) (p i a : ℕ) (f : ℕ → ℕ) → AreFiles b files → AreParts b files parts → p < length files → a < length b.accounts
+    → ((k : ℕ) → k < length files → Pick (IsPicked b files parts p i a (get_or parts p 0) f) k) → HasSum b files p i a f
+has-picked b files parts p i a f are parted p_in a_in picks =
+    let k : ℕ = get_or parts p 0 in
+    let all = picked (length files) (IsPicked b files parts p i a k f) (opening_stage b files) picks in
+    let one = joined b files parts all.of are parted (λ j j_in. (all.each j j_in).is) in
+    let brings = one.splits.brings a a_in in
+    let same = sum-same (length files) (λ (j : ℕ). get_or (all.of j).ledger.balances a 0) f (λ j j_in. (all.each j j_in).has) in
+    record {
+      stage = one.stage;
+      is = one.splits.is;
+      before = sym (one.splits.made p p_in) ∙ (all.each k (parted.known p p_in)).before refl;
+      has = omega arith;
+    }
+
+-- the stage of the part before the read
+record Own (b : BookTerms) (files : List (List Call)) (parts : List ℕ) (p i a v : ℕ) : Type 0 where
+  stage : StageTerms
+  is : IsStage b (files_of_part files parts (get_or parts p 0)) stage
+  before : get_or stage.made p 0 ≡ i
+  has : get_or stage.ledger.balances a 0 ≡ v
+
+pub balance-read : (b : BookTerms) (files : List (List Call)) (p i v : ℕ) (y : Reply) → AreFiles b files → p < length files → y ≡ Balance v → (at : ComesBefore b files p i y) → IsRead at.call at.stage.ledger v
+balance-read b files p i v y are p_in is at =
+    let fit : IsFit b at.stage.ledger = (way-stage b files at.stage are at.is).fit in
+    let on : IsCallOn (length b.accounts) at.call = call_known-at (length b.accounts) files p i at.call are.playable p_in at.next in
+    read-from at.call at.stage.ledger at.stage.ledger (step at.stage.ledger p at.call).reply (step at.stage.ledger p at.call).reply v
+    (replies-even b p at.call at.stage.ledger at.stage.ledger (let n = are.count in omega arith) on fit fit (record { sent = refl; asked = λ a a_in. refl }) (λ f ts pays owns. inr refl))
+    (sym at.answered ∙ is)
+
+own-stage : (b : BookTerms) (files : List (List Call)) (parts : List ℕ) (p i a v : ℕ) → AreFiles b files → AreParts b files parts → p < length files → slice_get (get_or files p []) i ≡ Some (Read a)
+    → Comes b (files_of_part files parts (get_or parts p 0)) p i (Balance v) → Own b files parts p i a v
+own-stage b files parts p i a v are parted p_in is comes =
+    let k : ℕ = get_or parts p 0 in
+    let fs : List (List Call) = files_of_part files parts k in
+    let at = before-comes b fs p i (Balance v) comes in
+    let read = balance-read b fs p i v (Balance v) (part-playable b files parts k are) (let n = length-part files parts k in omega arith) refl at in
+    let there : slice_get (get_or files p []) i ≡ Some at.call = subst (λ (calls : List Call). slice_get calls i ≡ Some at.call) (own-file files parts k p p_in refl) at.next in
+    let calls : at.call ≡ Read a = cc in
+    record { stage = at.stage; is = at.is; before = at.before; has = ap (λ (c : Call). get_or at.stage.ledger.balances (first_account c) 0) (sym calls) ∙ read.balance }
+
+-- what a read of the process tells: its part has the account from here to there before it, and each part has it in its range
+pub record ReadsFrom (b : BookTerms) (files : List (List Call)) (parts : List ℕ) (p i a : ℕ) (own : Range) (r : ℕ → Range) : Type 0 where
+  pub are : AreFiles b files
+  pub parted : AreParts b files parts
+  pub p_in : p < length files
+  pub a_in : a < length b.accounts
+  pub reads : slice_get (get_or files p []) i ≡ Some (Read a)
+  pub least : Comes b (files_of_part files parts (get_or parts p 0)) p i (Balance own.least)
+  pub greatest : Comes b (files_of_part files parts (get_or parts p 0)) p i (Balance own.greatest)
+  pub all : (v : ℕ) → Comes b (files_of_part files parts (get_or parts p 0)) p i (Balance v) → (own.least ≤ v) × (v ≤ own.greatest)
+  pub ranges : AreRanges b files parts a r
+
+picks : (b : BookTerms) (files : List (List Call)) (parts : List ℕ) (p i a v : ℕ) (g : ℕ → ℕ) → Own b files parts p i a v
+    → ((k : ℕ) → k < length files → HoldsAt b (files_of_part files parts k) a (g k)) → (k : ℕ) → k < length files → Pick (IsPicked b files parts p i a (get_or parts p 0) (at_else (get_or parts p 0) v g)) k
+picks b files parts p i a v g own held j j_in = at_or_off k j
+    (λ same.
+    let x = at_else-at k v j g (sym same) in
+    record {
+      stage = own.stage;
+      is = record {
+        is = subst (λ (n : ℕ). IsStage b (files_of_part files parts n) own.stage) same own.is;
+        has = own.has ∙ sym x;
+        before = λ e. own.before;
+      };
+    })
+    (λ off.
+    let x = at_else-off k v j g off in
+    let one = held j j_in in
+    record { stage = one.stage; is = record { is = one.is; has = one.has ∙ sym x; before = λ e. absurd (off e) } })
+  where
+    k : ℕ
+    k = get_or parts p 0
+
+has-lowest : (b : BookTerms) (files : List (List Call)) (parts : List ℕ) (p i a : ℕ) (own : Range) (r : ℕ → Range) → ReadsFrom b files parts p i a own r
+    → HasSum b files p i a (at_else (get_or parts p 0) own.least (λ k. (r k).least))
+has-lowest b files parts p i a own r reads =
+    has-picked b files parts p i a (at_else (get_or parts p 0) own.least (λ k. (r k).least)) reads.are reads.parted reads.p_in reads.a_in
+    (picks b files parts p i a own.least (λ (k : ℕ). (r k).least) (own-stage b files parts p i a own.least reads.are reads.parted reads.p_in reads.reads reads.least) (λ k k_in. (reads.ranges k k_in).least))
+
+has-highest : (b : BookTerms) (files : List (List Call)) (parts : List ℕ) (p i a : ℕ) (own : Range) (r : ℕ → Range) → ReadsFrom b files parts p i a own r
+    → HasSum b files p i a (at_else (get_or parts p 0) own.greatest (λ k. (r k).greatest))
+has-highest b files parts p i a own r reads =
+    has-picked b files parts p i a (at_else (get_or parts p 0) own.greatest (λ k. (r k).greatest)) reads.are reads.parted reads.p_in reads.a_in
+    (picks b files parts p i a own.greatest (λ (k : ℕ). (r k).greatest) (own-stage b files parts p i a own.greatest reads.are reads.parted reads.p_in reads.reads reads.greatest) (λ k k_in. (reads.ranges k k_in).greatest))
+
+has-least : (b : BookTerms) (files : List (List Call)) (parts : List ℕ) (p i a : ℕ) (own : Range) (r : ℕ → Range) → (reads : ReadsFrom b files parts p i a own r)
+    → get_or (has-lowest b files parts p i a own r reads).stage.ledger.balances a 0 + falls_of b a r (get_or parts p 0) (length files) ≡ own.least
+has-least b files parts p i a own r reads =
+    let k : ℕ = get_or parts p 0 in
+    let has = (has-lowest b files parts p i a own r reads).has in
+    let opens = sum-opened b files k own.least a (reads.parted.known p reads.p_in) in
+    let lows = sum-lowest b files parts k own.least a r reads.a_in reads.ranges in
+    omega arith
+
+has-greatest : (b : BookTerms) (files : List (List Call)) (parts : List ℕ) (p i a : ℕ) (own : Range) (r : ℕ → Range) → (reads : ReadsFrom b files parts p i a own r)
+    → get_or (has-highest b files parts p i a own r reads).stage.ledger.balances a 0 ≡ own.greatest + rises_of b a r (get_or parts p 0) (length files)
+has-greatest b files parts p i a own r reads =
+    let k : ℕ = get_or parts p 0 in
+    let has = (has-highest b files parts p i a own r reads).has in
+    let opens = sum-opened b files k own.greatest a (reads.parted.known p reads.p_in) in
+    let highs = sum-highest b files parts k own.greatest a r reads.a_in reads.ranges in
+    omega arith
+
+-- the falls of the other parts are within the least balance, and with their rises the greatest is within the total
+pub falls-within : (b : BookTerms) (files : List (List Call)) (parts : List ℕ) (p i a : ℕ) (own : Range) (r : ℕ → Range) → ReadsFrom b files parts p i a own r
+    → falls_of b a r (get_or parts p 0) (length files) ≤ own.least
+falls-within b files parts p i a own r reads = let least = has-least b files parts p i a own r reads in omega arith
+
+pub rises-within : (b : BookTerms) (files : List (List Call)) (parts : List ℕ) (p i a : ℕ) (own : Range) (r : ℕ → Range) → ReadsFrom b files parts p i a own r
+    → own.greatest + rises_of b a r (get_or parts p 0) (length files) ≤ total_of b
+rises-within b files parts p i a own r reads =
+    let has = has-highest b files parts p i a own r reads in
+    let greatest = has-greatest b files parts p i a own r reads in
+    let way = way-stage b files has.stage reads.are has.is in
+    let total = way.total in
+    let size = way.fit.balances in
+    let a_in = reads.a_in in
+    let one = get_or-le-sum_by (λ (n : ℕ). n) has.stage.ledger.balances a 0 (omega arith) in
+    omega arith
+
+-- a balance that is read is between the two sums
+record Between (b : BookTerms) (files : List (List Call)) (parts : List ℕ) (p a v : ℕ) (own : Range) (r : ℕ → Range) : Type 0 where
+  low : own.least ≤ v + falls_of b a r (get_or parts p 0) (length files)
+  high : v ≤ own.greatest + rises_of b a r (get_or parts p 0) (length files)
+
+between : (b : BookTerms) (files : List (List Call)) (parts : List ℕ) (p i a : ℕ) (own : Range) (r : ℕ → Range) (t : StageTerms) (u : ℕ → StageTerms) → ReadsFrom b files parts p i a own r
+    → Splits b files parts t u → (own.least ≤ get_or (u (get_or parts p 0)).ledger.balances a 0) × (get_or (u (get_or parts p 0)).ledger.balances a 0 ≤ own.greatest)
+    → Between b files parts p a (get_or t.ledger.balances a 0) own r
+between b files parts p i a own r t u reads splits here =
+    let k : ℕ = get_or parts p 0 in
+    let n : ℕ = length files in
+    let f : ℕ → ℕ = λ (j : ℕ). get_or (u j).ledger.balances a 0 in
+    let at : (j : ℕ) → k ≡ j → (own.least ≤ f j) × (f j ≤ own.greatest) = λ j same. subst (λ (m : ℕ). (own.least ≤ f m) × (f m ≤ own.greatest)) same here in
+    let held : (j : ℕ) → j < n → HoldsAt b (files_of_part files parts j) a (f j) = λ j j_in. record { stage = u j; is = splits.each j j_in; has = refl } in
+    let low = sum-up n (at_else k own.least (λ (j : ℕ). (r j).least)) f (λ j j_in. at_or_off k j
+    (λ same. let x = at_else-at k own.least j (λ (m : ℕ). (r m).least) (sym same) in let y = (at j same).0 in omega arith)
+    (λ off. let x = at_else-off k own.least j (λ (m : ℕ). (r m).least) off in let y = (reads.ranges j j_in).low (f j) (held j j_in) in omega arith)) in
+    let high = sum-up n f (at_else k own.greatest (λ (j : ℕ). (r j).greatest)) (λ j j_in. at_or_off k j
+    (λ same. let x = at_else-at k own.greatest j (λ (m : ℕ). (r m).greatest) (sym same) in let y = (at j same).1 in omega arith)
+    (λ off. let x = at_else-off k own.greatest j (λ (m : ℕ). (r m).greatest) off in let y = (reads.ranges j j_in).high (f j) (held j j_in) in omega arith)) in
+    let brings = splits.brings a reads.a_in in
+    let opens_low = sum-opened b files k own.least a (reads.parted.known p reads.p_in) in
+    let opens_high = sum-opened b files k own.greatest a (reads.parted.known p reads.p_in) in
+    let lows = sum-lowest b files parts k own.least a r reads.a_in reads.ranges in
+    let highs = sum-highest b files parts k own.greatest a r reads.a_in reads.ranges in
+    record { low = omega arith; high = omega arith }
 
 read-listed : (range : Range) (v : ℕ) (y : Reply) → y ≡ Balance v → range.least ≤ v → v ≤ range.greatest → IsListed (read_replies range) y
 read-listed range v y is low high = subst (IsListed (read_replies range)) (sym is) (range, refl, low, high)
 
-pub read-just : (b : BookTerms) (files : List (List Call)) (p i a : ℕ) (r : ℕ → Range) (range : Range) → AreCovered b files → p < length files → slice_get (get_or files p []) i ≡ Some (Read a)
-    → AreRanges b files a r → range.least + falls_of b a r p (length files) ≡ alone_balance b p (get_or files p []) a i
-    → range.greatest ≡ alone_balance b p (get_or files p []) a i + rises_of b a r p (length files)
+reads-balance : (b : BookTerms) (files : List (List Call)) (p i a : ℕ) (t : StageTerms) (v : ℕ) → p < length files → slice_get (get_or files p []) i ≡ Some (Read a) → IsStage b files t → get_or t.made p 0 ≡ i
+    → get_or t.ledger.balances a 0 ≡ v → Comes b files p i (Balance v)
+reads-balance b files p i a t v p_in is stage before has = subst (λ (n : ℕ). Comes b files p i (Balance n)) has (comes-before b files p i (Read a) t p_in stage is before)
+
+pub read-just : (b : BookTerms) (files : List (List Call)) (parts : List ℕ) (p i a : ℕ) (own range : Range) (r : ℕ → Range) → ReadsFrom b files parts p i a own r
+    → range.least + falls_of b a r (get_or parts p 0) (length files) ≡ own.least → range.greatest ≡ own.greatest + rises_of b a r (get_or parts p 0) (length files)
     → AreJust (Comes b files p i) (read_replies range)
-read-just b files p i a r range are p_in is ranges least greatest =
-    let inside = slice_get_within (get_or files p []) i (Read a) is in
-    let a_in : a < length b.accounts = call_known-at (length b.accounts) files p i (Read a) are.playable p_in is in
-    let within : i ≤ length (get_or files p []) = omega arith in
-    let low = has-lowest b files p i a r are p_in within a_in ranges in
-    let high = has-highest b files p i a r are p_in within a_in ranges in
-    let low_is = has-least b files p i a r are p_in within a_in ranges in
-    let high_is = has-greatest b files p i a r are p_in within a_in ranges in
+read-just b files parts p i a own range r reads least greatest =
+    let low = has-lowest b files parts p i a own r reads in
+    let high = has-highest b files parts p i a own r reads in
+    let low_is = has-least b files parts p i a own r reads in
+    let high_is = has-greatest b files parts p i a own r reads in
     record {
-      all = λ y comes.
-          let at = before-comes b files p i (Read a) y are is comes in
-          let between = between b files p i a r at.stage p_in a_in ranges (reached-within b files at.stage (stage-reached b files at.stage at.is.stage)) at.is in
-          read-listed range (get_or at.stage.ledger.balances a 0) y at.answered (omega arith) (omega arith);
+      all = λ y comes. all y comes;
       done = λ t. absurd (true≢false (sym t));
       short = λ t. absurd (true≢false (sym t));
       full = λ t. absurd (true≢false (sym t));
       not_owner = λ t. absurd (true≢false (sym t));
       least = λ other same.
           let one : range.least ≡ other.least = cc in
-          subst (λ (n : ℕ). Comes b files p i (Balance n)) (let same : get_or low.stage.ledger.balances a 0 ≡ range.least = omega arith in same ∙ one) (comes-before b files p i (Read a) low.stage p_in is low.is);
+          reads-balance b files p i a low.stage other.least reads.p_in reads.reads low.is low.before (omega arith);
       greatest = λ other same.
           let one : range.greatest ≡ other.greatest = cc in
-          subst (λ (n : ℕ). Comes b files p i (Balance n)) (let same : get_or high.stage.ledger.balances a 0 ≡ range.greatest = omega arith in same ∙ one) (comes-before b files p i (Read a) high.stage p_in is high.is);
+          reads-balance b files p i a high.stage other.greatest reads.p_in reads.reads high.is high.before (omega arith);
     }
+  where
+    k : ℕ
+    k = get_or parts p 0
+
+    all : (y : Reply) → Comes b files p i y → IsListed (read_replies range) y
+    all y comes =
+        let down = comes-down b files parts p i y reads.are reads.parted reads.p_in comes in
+        let at = down.at in
+        let next = at.next in
+        let is = reads.reads in
+        let calls : at.call ≡ Read a = cc in
+        let told : y ≡ Balance (get_or at.stage.ledger.balances a 0) = at.answered ∙ ap (λ (c : Call). (step at.stage.ledger p c).reply) calls in
+        let part_told : Comes b (files_of_part files parts k) p i (Balance (get_or (down.of k).ledger.balances a 0)) =
+        subst (Comes b (files_of_part files parts k) p i) (ap (λ (c : Call). (step (down.of k).ledger p c).reply) calls) down.there in
+        let within = between b files parts p i a own r at.stage down.of reads down.splits (reads.all (get_or (down.of k).ledger.balances a 0) part_told) in
+        let low = within.low in
+        let high = within.high in
+        read-listed range (get_or at.stage.ledger.balances a 0) y told (omega arith) (omega arith)

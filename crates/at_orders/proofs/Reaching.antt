@@ -20,6 +20,15 @@ pub leads-cons : (files : List (List Call)) (s : LedgerState) (made : List ℕ) 
 unfolding Leads
 leads-cons files s made l lines t leads = leads
 
+pub leads-from_nil : (files : List (List Call)) (s : LedgerState) (made : List ℕ) (t : StageTerms) → s ≡ t.ledger → made ≡ t.made → Leads files s made [] t
+unfolding Leads
+leads-from_nil files s made t ledger counts = (ledger, counts)
+
+pub leads-from_cons : (files : List (List Call)) (s : LedgerState) (made : List ℕ) (l : Line) (lines : List Line) (t : StageTerms) → IsNextOfProcess files s made l
+    → Leads files (step s l.process l.call).ledger (with_made made l.process) lines t → Leads files s made (l ∷ lines) t
+unfolding Leads
+leads-from_cons files s made l lines t next rest = (next, rest)
+
 -- one more line
 leads-push : (files : List (List Call)) (s : LedgerState) (made : List ℕ) (lines : List Line) (t : StageTerms) (l : Line) → Leads files s made lines t
     → IsNextOfProcess files t.ledger t.made l → Leads files s made (lines ++ l ∷ []) (stage_after t l.process l.call)
@@ -72,7 +81,7 @@ meets files s made (x ∷ lines) l (suc k) within is on =
     record { before = x ∷ rest.before; stage = rest.stage; leads = (parts.0, rest.leads); next = rest.next }
 
 -- no file is left behind
-leads-within : (files : List (List Call)) (s : LedgerState) (made : List ℕ) (lines : List Line) (t : StageTerms) → AreWithinFiles files made → Leads files s made lines t → AreWithinFiles files t.made
+pub leads-within : (files : List (List Call)) (s : LedgerState) (made : List ℕ) (lines : List Line) (t : StageTerms) → AreWithinFiles files made → Leads files s made lines t → AreWithinFiles files t.made
 unfolding Leads
 leads-within files s made [] t are leads = subst (λ (m : List ℕ). AreWithinFiles files m) leads.1 are
 leads-within files s made (x ∷ lines) t are leads =

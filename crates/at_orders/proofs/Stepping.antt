@@ -1,7 +1,7 @@
 -- What one step of the ledger changes: where its payment isn't short, and then of any.
-use Rattle.std.proofs.Common.{◌≡◌, ℕ, ◌+◌, ◌*◌, ◌<◌, ◌≤◌, ◌==◌, ◌&&◌, ◌||◌, ◌⊎◌, ⊎_elim, inl, Bool, true, false, cond, List, [], ◌∷◌, length, get_or, set, sum, refl, sym, ap, subst, ◌∙◌, arith, eq-eqb}
+use Rattle.std.proofs.Common.{◌≡◌, ℕ, ◌+◌, ◌*◌, ◌<◌, ◌≤◌, ◌==◌, ◌&&◌, ◌||◌, ◌⊎◌, ⊎_elim, inl, inr, Some, Bool, true, false, cond, List, [], ◌∷◌, length, get_or, set, sum, refl, sym, ap, subst, ◌∙◌, arith, eq-eqb}
 use Rattle.std.specs.Prelude.{nat_lt}
-use Rattle.at_orders.proofs.Prelude.{and_parts, cases_Bool, cases_lt, ne_eqb, Decides-ltb, length-set, All-cons, All-nil, mul-le-mul_right, is_shared, is_single, BookTerms, account_of, is_owner, AreTargetsOn, IsCallOn, TargetPair, amount_of, LedgerState, Step, asked_position, is_full, pay, step, Call, Transfer, Read, Pay, Reply, Done, NotOwner, Full, Short, Balance, is_own_payment, asked_by_call, asked_by_pay, IsTarget, Names}
+use Rattle.at_orders.proofs.Prelude.{and_parts, cases_Bool, cases_lt, ne_eqb, Decides-ltb, length-set, All-cons, All-nil, mul-le-mul_right, is_shared, is_single, BookTerms, account_of, is_owner, AreTargetsOn, IsCallOn, TargetPair, amount_of, payout_of, LedgerState, Step, asked_position, is_full, pay, step, Call, Transfer, Read, Pay, Reply, Done, NotOwner, Full, Short, Balance, is_own_payment, asked_by_call, asked_by_pay, IsTarget, Names, PaysAt}
 use Rattle.at_orders.proofs.Requests.{full-shared, not-shared, owned}
 use Rattle.at_orders.proofs.Moved.{at_or_off, length-moved, moved-at, moved-cross, moved-off, moved-touch, moved_in, set-at, set-off, sum-moved}
 
@@ -182,34 +182,8 @@ outcome-touch true true shared b xs m k p f ts a = inl refl
 outcome-touch true false true b xs m k p f ts a = moved-touch xs f ts a
 outcome-touch true false false b xs m k p f ts a = moved-touch xs f ts a
 
--- the balances cover what the call asks
-abbrev pub IsEnough : BookTerms → ℕ → Call → LedgerState → Type 0
-IsEnough b p c s = (a : ℕ) → a < length b.accounts → asked_by_call b p a c ≤ get_or s.balances a 0
-
--- the call is this pay-out, and it isn't short
-record Pays (b : BookTerms) (p : ℕ) (c : Call) (f : ℕ) (ts : List TargetPair) (s : LedgerState) : Type 0 where
-  asks : (a : ℕ) → asked_by_call b p a c ≡ asked_by_pay b p a f ts
-  source : f < length b.accounts
-  targets : AreTargetsOn (length b.accounts) ts
-  fit : IsFit b s
-  enough : IsEnough b p c s
-
-pays-enough : (b : BookTerms) (p : ℕ) (c : Call) (f : ℕ) (ts : List TargetPair) (s : LedgerState) → Pays b p c f ts s → is_owner b p f ≡ true → amount_of ts ≤ get_or s.balances f 0
-pays-enough b p c f ts s pays own = let e = pays.enough f pays.source in let a = pays.asks f in let x = asked-at b p f ts own in omega arith
-
-pays-not_short : (b : BookTerms) (p : ℕ) (c : Call) (f : ℕ) (ts : List TargetPair) (s : LedgerState) → Pays b p c f ts s → is_owner b p f ≡ true → nat_lt (get_or s.balances f 0) (amount_of ts) ≡ false
-pays-not_short b p c f ts s pays own = ⊎_elim
-    (λ less. absurd (let lt = (Decides-ltb (get_or s.balances f 0) (amount_of ts)).0 less in let e = pays-enough b p c f ts s pays own in omega arith))
-    (λ is. is) (cases_Bool (nat_lt (get_or s.balances f 0) (amount_of ts)))
-
 abbrev outcome_at : BookTerms → LedgerState → ℕ → ℕ → List TargetPair → Step
 outcome_at b s p f ts = outcome (is_owner b p f) (is_full (ledger_of b s.balances s.sent s.asked) p f) (is_shared (account_of b f)) b s.balances s.sent s.asked p f ts
-
-pays-is : (b : BookTerms) (p : ℕ) (c : Call) (f : ℕ) (ts : List TargetPair) (s : LedgerState) → Pays b p c f ts s → pay s p f ts ≡ outcome_at b s p f ts
-pays-is b p c f ts s pays =
-    ap (λ (v : LedgerState). pay v p f ts) (ledger-is b s pays.fit.book)
-    ∙ pay-is (is_owner b p f) (is_full (ledger_of b s.balances s.sent s.asked) p f) (is_shared (account_of b f)) b s.balances s.sent s.asked p f ts refl refl refl
-    (pays-not_short b p c f ts s pays)
 
 fit-of : (b : BookTerms) (s : LedgerState) → IsFit b s → IsFit b (ledger_of b s.balances s.sent s.asked)
 fit-of b s fit = record { book = refl; balances = fit.balances; sent = fit.sent; asked = fit.asked }
@@ -224,77 +198,14 @@ record PaysSame (b : BookTerms) (p : ℕ) (s u : LedgerState) (x y : Step) : Typ
   reply : x.reply ≡ y.reply
   pays : (v : ℕ) → x.reply ≡ Balance v → ⊥
 
-pay-same : (b : BookTerms) (p : ℕ) (c : Call) (f : ℕ) (ts : List TargetPair) (s u : LedgerState) → p < b.processes → Pays b p c f ts s → Pays b p c f ts u → AreAlike b p s u
-    → PaysSame b p s u (pay s p f ts) (pay u p f ts)
-pay-same b p c f ts s u p_in pays other alike =
-    let own : Bool = is_owner b p f in
-    let full : Bool = is_full (ledger_of b u.balances u.sent u.asked) p f in
-    let shared : Bool = is_shared (account_of b f) in
-    let first : pay s p f ts ≡ outcome own full shared b s.balances s.sent s.asked p f ts =
-    pays-is b p c f ts s pays ∙ ap (λ (t : Bool). outcome own t shared b s.balances s.sent s.asked p f ts) (full-alike b p f s u pays.source alike) in
-    let second : pay u p f ts ≡ outcome own full shared b u.balances u.sent u.asked p f ts = pays-is b p c f ts u other in
-    let same = outcome-same own full shared b s.balances s.sent s.asked u.balances u.sent u.asked p f ts refl (fit-of b s pays.fit) (fit-of b u other.fit)
-    (record { sent = alike.sent; asked = alike.asked }) p_in pays.source pays.targets (pays-enough b p c f ts s pays) (pays-enough b p c f ts u other) in
-    subst (λ (x : Step). PaysSame b p s u x (pay u p f ts)) (sym first)
-    (subst (PaysSame b p s u (outcome own full shared b s.balances s.sent s.asked p f ts)) (sym second) (record {
-      same = record { cross = same.cross; alike = same.alike };
-      reply = outcome-reply own full shared b s.balances s.sent s.asked u.balances u.sent u.asked p f ts;
-      pays = outcome-pays own full shared b s.balances s.sent s.asked p f ts;
-    }))
-
-pay-touch : (b : BookTerms) (p : ℕ) (c : Call) (f : ℕ) (ts : List TargetPair) (s : LedgerState) (a : ℕ) → Pays b p c f ts s
-    → (get_or (pay s p f ts).ledger.balances a 0 ≡ get_or s.balances a 0) ⊎ ((f ≡ a) ⊎ IsTarget ts a)
-pay-touch b p c f ts s a pays =
-    subst (λ (x : Step). (get_or x.ledger.balances a 0 ≡ get_or s.balances a 0) ⊎ ((f ≡ a) ⊎ IsTarget ts a)) (sym (pays-is b p c f ts s pays))
-    (outcome-touch (is_owner b p f) (is_full (ledger_of b s.balances s.sent s.asked) p f) (is_shared (account_of b f)) b s.balances s.sent s.asked p f ts a)
-
 one-target : (n to amount : ℕ) → to < n → AreTargetsOn n ((to, amount) ∷ [])
 one-target n to amount within = All-cons (λ (t : TargetPair). t.0 < n) (to, amount) [] within (All-nil (λ (t : TargetPair). t.0 < n))
-
-pays-transfer : (b : BookTerms) (p from to amount : ℕ) (s : LedgerState) → IsCallOn (length b.accounts) (Transfer from to amount) → IsFit b s → IsEnough b p (Transfer from to amount) s
-    → Pays b p (Transfer from to amount) from ((to, amount) ∷ []) s
-pays-transfer b p from to amount s on fit enough = record { asks = λ a. refl; source = on.0; targets = one-target (length b.accounts) to amount on.1; fit = fit; enough = enough }
-
-pays-pay : (b : BookTerms) (p from : ℕ) (ts : List TargetPair) (s : LedgerState) (c : Call) → c ≡ Pay from ts → IsCallOn (length b.accounts) c → IsFit b s → IsEnough b p c s
-    → Pays b p c from ts s
-pays-pay b p from ts s c is on fit enough =
-    let on_pay : IsCallOn (length b.accounts) (Pay from ts) = subst (IsCallOn (length b.accounts)) is on in
-    record { asks = λ a. ap (λ (d : Call). asked_by_call b p a d) is; source = on_pay.0; targets = on_pay.1; fit = fit; enough = enough }
-
--- it does the same at two ledgers where the process has used the same room
-pub step-same : (b : BookTerms) (p : ℕ) (c : Call) (s u : LedgerState) → p < b.processes → IsCallOn (length b.accounts) c → IsFit b s → IsEnough b p c s → IsFit b u → IsEnough b p c u
-    → AreAlike b p s u → AreSame b p s u (step s p c) (step u p c)
-step-same b p (Transfer from to amount) s u p_in on fit enough other enough_u alike =
-    (pay-same b p (Transfer from to amount) from ((to, amount) ∷ []) s u p_in (pays-transfer b p from to amount s on fit enough) (pays-transfer b p from to amount u on other enough_u) alike).same
-step-same b p (Read a) s u p_in on fit enough other enough_u alike = record { cross = λ a. omega arith; alike = alike }
-step-same b p (Pay from ts) s u p_in on fit enough other enough_u alike =
-    (pay-same b p (Pay from ts) from ts s u p_in (pays-pay b p from ts s (Pay from ts) refl on fit enough) (pays-pay b p from ts u (Pay from ts) refl on other enough_u) alike).same
 
 -- the replies at the two ledgers: a read has the balance of each, a payment the same reply, which is no balance
 unfoldable pub AreReplies : Call → LedgerState → LedgerState → Reply → Reply → Type 0
 AreReplies (Transfer from to amount) s u x y = (x ≡ y) × ((v : ℕ) → x ≡ Balance v → ⊥)
 AreReplies (Read a) s u x y = (x ≡ Balance (get_or s.balances a 0)) × (y ≡ Balance (get_or u.balances a 0))
 AreReplies (Pay from ts) s u x y = (x ≡ y) × ((v : ℕ) → x ≡ Balance v → ⊥)
-
-pub step-replies : (b : BookTerms) (p : ℕ) (c : Call) (s u : LedgerState) → p < b.processes → IsCallOn (length b.accounts) c → IsFit b s → IsEnough b p c s → IsFit b u → IsEnough b p c u
-    → AreAlike b p s u → AreReplies c s u (step s p c).reply (step u p c).reply
-unfolding AreReplies
-step-replies b p (Transfer from to amount) s u p_in on fit enough other enough_u alike =
-    let both = pay-same b p (Transfer from to amount) from ((to, amount) ∷ []) s u p_in (pays-transfer b p from to amount s on fit enough) (pays-transfer b p from to amount u on other enough_u) alike in
-    (both.reply, both.pays)
-step-replies b p (Read a) s u p_in on fit enough other enough_u alike = (refl, refl)
-step-replies b p (Pay from ts) s u p_in on fit enough other enough_u alike =
-    let both = pay-same b p (Pay from ts) from ts s u p_in (pays-pay b p from ts s (Pay from ts) refl on fit enough) (pays-pay b p from ts u (Pay from ts) refl on other enough_u) alike in
-    (both.reply, both.pays)
-
--- a step changes the accounts alone that a payment names
-pub step-touch : (b : BookTerms) (p : ℕ) (c : Call) (s : LedgerState) (a : ℕ) → IsCallOn (length b.accounts) c → IsFit b s → IsEnough b p c s
-    → (get_or (step s p c).ledger.balances a 0 ≡ get_or s.balances a 0) ⊎ Names c a
-unfolding Names
-step-touch b p (Transfer from to amount) s a on fit enough =
-    pay-touch b p (Transfer from to amount) from ((to, amount) ∷ []) s a (pays-transfer b p from to amount s on fit enough)
-step-touch b p (Read d) s a on fit enough = inl refl
-step-touch b p (Pay from ts) s a on fit enough = pay-touch b p (Pay from ts) from ts s a (pays-pay b p from ts s (Pay from ts) refl on fit enough)
 
 -- what a pay-out of an owner does that is short
 unpaid : (full shared : Bool) → BookTerms → List ℕ → List ℕ → List ℕ → ℕ → ℕ → Step
@@ -522,3 +433,157 @@ full-own b p f s alone left = rw (alone, ne_eqb (get_or s.sent p 0) b.own_room (
     off : (single : Bool) → ((single && false) || false) ≡ false
     off true = refl
     off false = refl
+
+-- where it is short in both
+unpaid-same : (full shared : Bool) (b : BookTerms) (xs m k ys n l : List ℕ) (p f : ℕ) → IsFit b (ledger_of b xs m k) → IsFit b (ledger_of b ys n l)
+    → AreAlike b p (ledger_of b xs m k) (ledger_of b ys n l) → p < b.processes → f < length b.accounts
+    → PaysSame b p (ledger_of b xs m k) (ledger_of b ys n l) (unpaid full shared b xs m k p f) (unpaid full shared b ys n l p f)
+unfolding unpaid
+unpaid-same true shared b xs m k ys n l p f fit fit_y alike p_in f_in =
+    record { same = record { cross = λ a. omega arith; alike = alike }; reply = refl; pays = λ v is. cc }
+unpaid-same false true b xs m k ys n l p f fit fit_y alike p_in f_in =
+    let place : asked_position b p f < b.processes * length b.accounts = position-in (length b.accounts) b.processes p f p_in f_in in
+    let within : asked_position b p f < length k = rw fit.asked place in
+    record {
+      same = record {
+        cross = λ a. omega arith;
+        alike = record {
+          sent = alike.sent;
+          asked = λ a a_in. more-alike k l (asked_position b p f) (asked_position b p a) (fit.asked ∙ sym fit_y.asked) within (alike.asked f f_in) (alike.asked a a_in);
+        };
+      };
+      reply = refl;
+      pays = λ v is. cc;
+    }
+unpaid-same false false b xs m k ys n l p f fit fit_y alike p_in f_in =
+    record { same = record { cross = λ a. omega arith; alike = alike }; reply = refl; pays = λ v is. cc }
+
+-- an owner's source has enough in both, or as much
+abbrev pub IsEven : BookTerms → ℕ → ℕ → List TargetPair → LedgerState → LedgerState → Type 0
+IsEven b p f ts s u = is_owner b p f ≡ true
+    → ((amount_of ts ≤ get_or s.balances f 0) × (amount_of ts ≤ get_or u.balances f 0)) ⊎ (get_or s.balances f 0 ≡ get_or u.balances f 0)
+
+abbrev IsCovered : BookTerms → ℕ → ℕ → List TargetPair → LedgerState → Type 0
+IsCovered b p f ts s = is_owner b p f ≡ true → amount_of ts ≤ get_or s.balances f 0
+
+not-less : (n m : ℕ) → m ≤ n → nat_lt n m ≡ false
+not-less n m more = ⊎_elim (λ less. absurd (let lt = (Decides-ltb n m).0 less in omega arith)) (λ is. is) (cases_Bool (nat_lt n m))
+
+covered-is : (b : BookTerms) (p f : ℕ) (ts : List TargetPair) (s : LedgerState) → IsFit b s → IsCovered b p f ts s → pay s p f ts ≡ outcome_at b s p f ts
+covered-is b p f ts s fit covered =
+    ap (λ (v : LedgerState). pay v p f ts) (ledger-is b s fit.book)
+    ∙ pay-is (is_owner b p f) (is_full (ledger_of b s.balances s.sent s.asked) p f) (is_shared (account_of b f)) b s.balances s.sent s.asked p f ts refl refl refl
+    (λ own. not-less (get_or s.balances f 0) (amount_of ts) (covered own))
+
+short-is : (b : BookTerms) (p f : ℕ) (ts : List TargetPair) (s : LedgerState) → IsFit b s → is_owner b p f ≡ true → nat_lt (get_or s.balances f 0) (amount_of ts) ≡ true → pay s p f ts ≡ unpaid_at b s p f
+short-is b p f ts s fit own short =
+    ap (λ (v : LedgerState). pay v p f ts) (ledger-is b s fit.book)
+    ∙ pay-unpaid (is_full (ledger_of b s.balances s.sent s.asked) p f) (is_shared (account_of b f)) b s.balances s.sent s.asked p f ts own refl refl short
+
+pay-even : (b : BookTerms) (p f : ℕ) (ts : List TargetPair) (s u : LedgerState) → p < b.processes → f < length b.accounts → AreTargetsOn (length b.accounts) ts → IsFit b s → IsFit b u
+    → AreAlike b p s u → IsEven b p f ts s u → PaysSame b p s u (pay s p f ts) (pay u p f ts)
+pay-even b p f ts s u p_in f_in are fit other alike even = by (is_owner b p f) refl
+  where
+    own : Bool
+    own = is_owner b p f
+
+    full : Bool
+    full = is_full (ledger_of b u.balances u.sent u.asked) p f
+
+    shared : Bool
+    shared = is_shared (account_of b f)
+
+    room : is_full (ledger_of b s.balances s.sent s.asked) p f ≡ full
+    room = full-alike b p f s u f_in alike
+
+    of : (x y : Step) → PaysSame b p (ledger_of b s.balances s.sent s.asked) (ledger_of b u.balances u.sent u.asked) x y → PaysSame b p s u x y
+    of x y both = record { same = record { cross = both.same.cross; alike = both.same.alike }; reply = both.reply; pays = both.pays }
+
+    covered : IsCovered b p f ts s → IsCovered b p f ts u → PaysSame b p s u (pay s p f ts) (pay u p f ts)
+    covered here there =
+        let first : pay s p f ts ≡ outcome own full shared b s.balances s.sent s.asked p f ts =
+        covered-is b p f ts s fit here ∙ ap (λ (t : Bool). outcome own t shared b s.balances s.sent s.asked p f ts) room in
+        let second : pay u p f ts ≡ outcome own full shared b u.balances u.sent u.asked p f ts = covered-is b p f ts u other there in
+        let same = outcome-same own full shared b s.balances s.sent s.asked u.balances u.sent u.asked p f ts refl (fit-of b s fit) (fit-of b u other)
+        (record { sent = alike.sent; asked = alike.asked }) p_in f_in are here there in
+        subst (λ (x : Step). PaysSame b p s u x (pay u p f ts)) (sym first)
+        (subst (PaysSame b p s u (outcome own full shared b s.balances s.sent s.asked p f ts)) (sym second) (record {
+          same = record { cross = same.cross; alike = same.alike };
+          reply = outcome-reply own full shared b s.balances s.sent s.asked u.balances u.sent u.asked p f ts;
+          pays = outcome-pays own full shared b s.balances s.sent s.asked p f ts;
+        }))
+
+    short : own ≡ true → nat_lt (get_or s.balances f 0) (amount_of ts) ≡ true → nat_lt (get_or u.balances f 0) (amount_of ts) ≡ true → PaysSame b p s u (pay s p f ts) (pay u p f ts)
+    short is here there =
+        let first : pay s p f ts ≡ unpaid full shared b s.balances s.sent s.asked p f =
+        short-is b p f ts s fit is here ∙ ap (λ (t : Bool). unpaid t shared b s.balances s.sent s.asked p f) room in
+        let second : pay u p f ts ≡ unpaid full shared b u.balances u.sent u.asked p f = short-is b p f ts u other is there in
+        subst (λ (x : Step). PaysSame b p s u x (pay u p f ts)) (sym first)
+        (subst (PaysSame b p s u (unpaid full shared b s.balances s.sent s.asked p f)) (sym second)
+        (of (unpaid full shared b s.balances s.sent s.asked p f) (unpaid full shared b u.balances u.sent u.asked p f)
+        (unpaid-same full shared b s.balances s.sent s.asked u.balances u.sent u.asked p f (fit-of b s fit) (fit-of b u other) (record { sent = alike.sent; asked = alike.asked }) p_in f_in)))
+
+    as-much : own ≡ true → get_or s.balances f 0 ≡ get_or u.balances f 0 → (t : Bool) → nat_lt (get_or s.balances f 0) (amount_of ts) ≡ t → PaysSame b p s u (pay s p f ts) (pay u p f ts)
+    as-much is same true less = short is less (sym (ap (λ (n : ℕ). nat_lt n (amount_of ts)) same) ∙ less)
+    as-much is same false less =
+        let enough : amount_of ts ≤ get_or s.balances f 0 =
+        ⊎_elim (λ lt. absurd (let wrong = (Decides-ltb (get_or s.balances f 0) (amount_of ts)).1 lt in cc)) (λ more. more) (cases_lt (get_or s.balances f 0) (amount_of ts)) in
+        covered (λ o. enough) (λ o. omega arith)
+
+    by : (t : Bool) → own ≡ t → PaysSame b p s u (pay s p f ts) (pay u p f ts)
+    by false is = covered (λ o. absurd (cc)) (λ o. absurd (cc))
+    by true is = ⊎_elim (λ both. covered (λ o. both.0) (λ o. both.1)) (λ same. as-much is same (nat_lt (get_or s.balances f 0) (amount_of ts)) refl) (even is)
+
+-- so has the source of the call, if it is a payment
+abbrev pub IsEvenCall : BookTerms → ℕ → Call → LedgerState → LedgerState → Type 0
+IsEvenCall b p c s u = (f : ℕ) (ts : List TargetPair) → payout_of c ≡ Some (f, ts) → IsEven b p f ts s u
+
+-- it does the same at two ledgers where the process has used the same room
+pub step-even : (b : BookTerms) (p : ℕ) (c : Call) (s u : LedgerState) → p < b.processes → IsCallOn (length b.accounts) c → IsFit b s → IsFit b u → AreAlike b p s u → IsEvenCall b p c s u
+    → AreSame b p s u (step s p c) (step u p c)
+step-even b p (Transfer from to amount) s u p_in on fit other alike even =
+    (pay-even b p from ((to, amount) ∷ []) s u p_in on.0 (one-target (length b.accounts) to amount on.1) fit other alike (even from ((to, amount) ∷ []) refl)).same
+step-even b p (Read a) s u p_in on fit other alike even = record { cross = λ a. omega arith; alike = alike }
+step-even b p (Pay from ts) s u p_in on fit other alike even = (pay-even b p from ts s u p_in on.0 on.1 fit other alike (even from ts refl)).same
+
+pub replies-even : (b : BookTerms) (p : ℕ) (c : Call) (s u : LedgerState) → p < b.processes → IsCallOn (length b.accounts) c → IsFit b s → IsFit b u → AreAlike b p s u → IsEvenCall b p c s u
+    → AreReplies c s u (step s p c).reply (step u p c).reply
+unfolding AreReplies
+replies-even b p (Transfer from to amount) s u p_in on fit other alike even =
+    let both = pay-even b p from ((to, amount) ∷ []) s u p_in on.0 (one-target (length b.accounts) to amount on.1) fit other alike (even from ((to, amount) ∷ []) refl) in
+    (both.reply, both.pays)
+replies-even b p (Read a) s u p_in on fit other alike even = (refl, refl)
+replies-even b p (Pay from ts) s u p_in on fit other alike even = let both = pay-even b p from ts s u p_in on.0 on.1 fit other alike (even from ts refl) in (both.reply, both.pays)
+
+-- a pay-out changes the accounts alone that it names, and those only of an owner
+record Changed (b : BookTerms) (p f : ℕ) (ts : List TargetPair) (a : ℕ) : Type 0 where
+  owns : is_owner b p f ≡ true
+  names : (f ≡ a) ⊎ IsTarget ts a
+
+outcome-changes : (own full shared : Bool) (b : BookTerms) (xs m k : List ℕ) (p f : ℕ) (ts : List TargetPair) (a : ℕ) → is_owner b p f ≡ own
+    → (get_or (outcome own full shared b xs m k p f ts).ledger.balances a 0 ≡ get_or xs a 0) ⊎ Changed b p f ts a
+unfolding outcome
+outcome-changes false full shared b xs m k p f ts a own = inl refl
+outcome-changes true full shared b xs m k p f ts a own = ⊎_elim (λ still. inl still) (λ names. inr (record { owns = own; names = names })) (outcome-touch true full shared b xs m k p f ts a)
+
+unpaid-still : (full shared : Bool) (b : BookTerms) (xs m k : List ℕ) (p f a : ℕ) → get_or (unpaid full shared b xs m k p f).ledger.balances a 0 ≡ get_or xs a 0
+unfolding unpaid
+unpaid-still true shared b xs m k p f a = refl
+unpaid-still false true b xs m k p f a = refl
+unpaid-still false false b xs m k p f a = refl
+
+pay-changes : (b : BookTerms) (p f : ℕ) (ts : List TargetPair) (s : LedgerState) (a : ℕ) → IsFit b s → (get_or (pay s p f ts).ledger.balances a 0 ≡ get_or s.balances a 0) ⊎ Changed b p f ts a
+pay-changes b p f ts s a fit = pay-cases (λ (x : Step). (get_or x.ledger.balances a 0 ≡ get_or s.balances a 0) ⊎ Changed b p f ts a) b p f ts s fit
+    (λ own. inl (unpaid-still (is_full (ledger_of b s.balances s.sent s.asked) p f) (is_shared (account_of b f)) b s.balances s.sent s.asked p f a))
+    (λ covered. outcome-changes (is_owner b p f) (is_full (ledger_of b s.balances s.sent s.asked) p f) (is_shared (account_of b f)) b s.balances s.sent s.asked p f ts a refl)
+
+-- a step changes the accounts alone that a payment of an owner names
+pub step-changes : (b : BookTerms) (p : ℕ) (c : Call) (s : LedgerState) (a : ℕ) → IsFit b s → (get_or (step s p c).ledger.balances a 0 ≡ get_or s.balances a 0) ⊎ PaysAt b p a c
+unfolding Names
+step-changes b p (Transfer from to amount) s a fit = ⊎_elim (λ still. inl still)
+    (λ changed. inr (record { source = from; targets = (to, amount) ∷ []; pays = refl; owns = changed.owns; names = changed.names }))
+    (pay-changes b p from ((to, amount) ∷ []) s a fit)
+step-changes b p (Read d) s a fit = inl refl
+step-changes b p (Pay from ts) s a fit = ⊎_elim (λ still. inl still)
+    (λ changed. inr (record { source = from; targets = ts; pays = refl; owns = changed.owns; names = changed.names }))
+    (pay-changes b p from ts s a fit)

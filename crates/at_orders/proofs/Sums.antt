@@ -52,14 +52,6 @@ term-up (suc n) p f within = at_or_off p n
     (λ last. let x : f p ≡ f n = ap f last in omega arith)
     (λ other. let rest = term-up n p f (omega (arith, other)) in omega arith)
 
--- more terms
-pub sum-more : (n k : ℕ) (f : ℕ → ℕ) → n ≤ k → sum_below n f ≤ sum_below k f
-unfolding sum_below
-sum-more n zero f up = let none : n ≡ 0 = omega arith in rw none (omega arith)
-sum-more n (suc k) f up = at_or_off n (suc k)
-    (λ same. rw same (omega arith))
-    (λ other. let rest = sum-more n k f (omega (arith, other)) in omega arith)
-
 -- one term, and the others
 pub at_else-at : (p x q : ℕ) (f : ℕ → ℕ) → q ≡ p → at_else p x f q ≡ x
 at_else-at p x q f same = rw (eq-eqb q p same) refl

@@ -1,7 +1,7 @@
 -- Stages that are seen, and the replies that are heard at them.
 use Rattle.std.proofs.Common.{◌≡◌, ℕ, zero, suc, ◌+◌, ◌<◌, ◌≤◌, ◌==◌, Bool, true, false, ◌-◌, ◌⊎◌, ⊎_elim, inl, inr, List, [], ◌∷◌, ◌++◌, length, get_or, set, replicate, sum, All, true≢false, Contains, Some, refl, sym, ap, subst, ◌∙◌, arith}
-use Rattle.std.specs.Prelude.{slice_get}
-use Rattle.at_orders.proofs.Prelude.{cases_lt, Decides-eqb, IsDistinct, apart_from_distinct, get_or-append-add, get_or_append_left, get_or-set_other, get_or-set_same, length-append, length-set, append_assoc, append-nil, get_or-append_seam, All-append, All-contains, All-push, All-weaker, Contains-append_left, Contains-append_right, Contains-push, Contains-push_cases, LedgerState, opening_state, step, Call, Line, Reply, IsNextOfProcess, with_made, none_made, AreAnswers, Comes, AreJust, no_replies, replies_with, GroundTerms, HasMoreStages, IsStage, StageTerms, first_stage, stage_after, AreAllHeard, AreAllStages, AreApart, AreHeard, AreHeardInPart, Grows, HasAllNext, HasMoreNext, HasNext, HasNumbers, HasStage, IsHeard, IsNextLevel, IsSeen, IsWalkedTo, StandsFor, Replies, Stage}
+use Rattle.std.specs.Prelude.{Err, Ok, Result, slice_get}
+use Rattle.at_orders.proofs.Prelude.{IsErrAnd, cases_lt, Decides-eqb, IsDistinct, apart_from_distinct, get_or-append-add, get_or_append_left, get_or-set_other, get_or-set_same, length-append, length-set, append_assoc, append-nil, get_or-append_seam, All-append, All-contains, All-push, All-weaker, Contains-append_left, Contains-append_right, Contains-push, Contains-push_cases, LedgerState, opening_state, step, Call, Line, Reply, IsNextOfProcess, with_made, none_made, AreAnswers, Comes, AreJust, no_replies, replies_with, GroundTerms, HasMoreStages, IsStage, StageTerms, first_stage, stage_after, AreAllHeard, AreAllStages, AreApart, AreHeard, AreHeardInPart, Grows, HasAllNext, HasMoreNext, HasNext, HasNumbers, HasStage, IsHeard, IsNextLevel, IsSeen, IsWalkedTo, StandsFor, Replies, Stage}
 use Rattle.at_orders.proofs.Reaching.{Leads, comes-next, leads-cons, leads-nil, order-next, stage-ext, stage-reached}
 use Rattle.at_orders.proofs.Hearing.{More, just-none, just-same, just-with}
 
@@ -433,3 +433,8 @@ more-stages g past level made left most walked later enough =
 pub length-none : (xs : List Stage) → length xs ≡ 0 → xs ≡ []
 length-none [] is = refl
 length-none (x ∷ xs) is = absurd (omega arith)
+
+-- an error that is handed on
+pub errors-same : {A E : Type 0} (r : Result A E) (e f : E) → IsErrAnd r (λ x. x ≡ e) → r ≡ Err f → e ≡ f
+errors-same (Ok v) e f told is = absurd told
+errors-same (Err x) e f told is = let same : x ≡ e = told in cc

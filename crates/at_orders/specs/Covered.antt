@@ -1,5 +1,5 @@
 -- Files in which no payment can be short of balance, however their calls are ordered.
-use Rattle.std.specs.Prelude.{◌≡◌, ℕ, zero, suc, ◌+◌, ◌<◌, ◌≤◌, ◌==◌, ◌&&◌, List, [], ◌∷◌, length, slice_index, slice_index_or, sum_by, if◌then◌else◌}
+use Rattle.std.specs.Prelude.{◌≡◌, ℕ, zero, suc, ◌+◌, ◌-◌, ◌<◌, ◌≤◌, ◌==◌, ◌&&◌, nat_lt, Option, None, Some, List, [], ◌∷◌, length, slice_index_or, sum_by, if◌then◌else◌}
 use Rattle.at_orders.specs.Prelude.{BookTerms, account_of, is_owner, TargetPair, amount_of, Call, Transfer, Read, Pay}
 
 -- f 0 + f 1 + .., so many of them
@@ -33,12 +33,18 @@ OpeningCovers b files account = asked_in_files b account files (length files) �
 abbrev pub OpeningsCover : BookTerms → List (List Call) → Type 0
 OpeningsCover b files = (account : ℕ) → account < length b.accounts → OpeningCovers b files account
 
--- what these calls of the process ask is taken from what the accounts had left
-pub record AreTaken (b : BookTerms) (process : ℕ) (calls : List Call) (old new : List ℕ) : Type 0 where
-  pub each : (account : ℕ) → account < length b.accounts → slice_index new account + asked_in_file b process account calls ≡ slice_index old account
+-- what is left where so much is asked: nothing any more once that is above what there was
+abbrev pub left_when_asked : Option ℕ → ℕ → Option ℕ
+left_when_asked None asked = None
+left_when_asked (Some had) asked = if nat_lt had asked then None else Some (had - asked)
 
--- they ask more of some account than it has left
-pub record AreShort (b : BookTerms) (process : ℕ) (calls : List Call) (old : List ℕ) : Type 0 where
-  pub account : ℕ
-  pub known : account < length b.accounts
-  pub less : slice_index old account < asked_in_file b process account calls
+-- so much is asked of each account
+pub record AreLeft (b : BookTerms) (asks : ℕ → ℕ) (old new : List (Option ℕ)) : Type 0 where
+  pub accounts : length new ≡ length old
+  pub each : (account : ℕ) → account < length b.accounts → slice_index_or new account None ≡ left_when_asked (slice_index_or old account None) (asks account)
+
+-- something is left, if it be nothing, of each account that opens with all that the files ask of it, and of no other
+pub record TellCovered (b : BookTerms) (files : List (List Call)) (left : List (Option ℕ)) : Type 0 where
+  pub accounts : length left ≡ length b.accounts
+  pub covered : (account has : ℕ) → account < length b.accounts → slice_index_or left account None ≡ Some has → OpeningCovers b files account
+  pub uncovered : (account : ℕ) → account < length b.accounts → slice_index_or left account None ≡ None → OpeningCovers b files account → ⊥

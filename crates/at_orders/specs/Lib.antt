@@ -5,4 +5,5 @@ pub mod Stages
 pub mod Walk
 pub mod Covered
 pub mod Settled
-pub mod Alone
+pub mod Parts
+pub mod Ordered

@@ -6,7 +6,7 @@ pub use Rattle.at_ledger.specs.Call.{AreTargetsOn, IsCallOn, TargetPair, amount_
 pub use Rattle.at_ledger.specs.Files.{IsPlayable, contents_of}
 pub use Rattle.at_ledger.specs.Limits.{most_calls}
 pub use Rattle.at_ledger.specs.NextCalls.{AreWithinFiles, with_made}
-pub use Rattle.at_ledger.specs.Run.{Legal, Whole, last_state, lines_of, run_from}
+pub use Rattle.at_ledger.specs.Run.{Legal, Whole, last_state, lines_of}
 pub use Rattle.at_ledger.specs.State.{LedgerState, balance_of, credited, is_full, moved, opening_state, pay, step, with_sent}
 pub use Rattle.at_ledger.specs.declared.call.Call.{Call}
 pub use Rattle.at_ledger.specs.declared.call.Call.TheVariants.{Pay, Read, Transfer}

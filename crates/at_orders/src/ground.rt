@@ -2,19 +2,22 @@
 
 ghost use Rattle.std.specs.Prelude.{◌≡◌, ◌^◌, ◌<◌, ◌≤◌, [], All, IfOk, None, Some, length, slice_get, slice_index_or, take};
 ghost use Rattle.at_orders.specs.Prelude.{IsPlayable, contents_of, most_calls, IsCallOn, first_account, Call};
+ghost use Rattle.at_orders.specs.Parts.{files_of_part};
 ghost use Rattle.at_orders.specs.Stages.{payments_from};
-ghost use Rattle.at_orders.specs.Walk.{AreAllCountedBefore, AreCountedBefore, HasPlace, IsGround};
+ghost use Rattle.at_orders.specs.Walk.{AreAllCountedBefore, AreCountedBefore, HasFirstPlace, HasPlace, IsGround};
 
 use crate::places::Places;
 use at_ledger::{Book, Call};
 use std::alloc::{AllocError, Global};
 use std::marker::Model;
 
-/// The book and the files of a walk, for each call how many payments from the account that it names first stand before it in
-/// its file, and where the balances of these accounts are kept.
+/// The book and the files of the part that is walked, for each call how many payments from the account that it names first stand before
+/// it in its file, and where the balances of the accounts are kept that calls of all files name first.
 pub(crate) struct Ground<'a> {
     book: &'a Book,
     files: &'a [Vec<Call>],
+    parts: &'a [u32],
+    part: u32,
     before: Vec<Vec<u32>>,
     places: Places,
 }
@@ -24,6 +27,8 @@ impl<'a> Drop for Ground<'a> {
         let Ground {
             book: _,
             files: _,
+            parts: _,
+            part: _,
             before: _,
             places: _,
         } = self;
@@ -31,7 +36,9 @@ impl<'a> Drop for Ground<'a> {
 }
 
 impl<'a> Model for Ground<'a> {
+    ghost use Rattle.std.specs.Prelude.{◌≡◌, length};
     ghost use Rattle.at_orders.specs.Prelude.{contents_of};
+    ghost use Rattle.at_orders.specs.Parts.{files_of_part};
     ghost use Rattle.at_orders.specs.Stages.{GroundTerms};
     ghost use Rattle.at_orders.specs.Walk.{AreAllCountedBefore, IsGround};
 
@@ -39,30 +46,37 @@ impl<'a> Model for Ground<'a> {
 
     ghost view = { λ g. record {
       book = g.book.now;
-      files = contents_of g.files.now;
+      files = files_of_part (contents_of g.files.now) g.parts.now g.part;
       named = g.places.named.items;
       places = g.places.of.items;
     } };
 
     ghost invariant = { λ g. IsGround (record {
       book = g.book.now;
-      files = contents_of g.files.now;
+      files = files_of_part (contents_of g.files.now) g.parts.now g.part;
       named = g.places.named.items;
       places = g.places.of.items;
-    }) × AreAllCountedBefore (contents_of g.files.now) (contents_of g.before.items) };
+    }) × AreAllCountedBefore (contents_of g.files.now) (contents_of g.before.items)
+        × (length g.parts.now ≡ length g.files.now) };
 }
 
 impl<'a> Ground<'a> {
-    /// Counts the payments. There is a file for each process.
+    /// Counts the payments, and gives a place to each account that a call of all files names first. There is a file for each process.
     pub(crate) fn new(
         alloc: Global,
         book: &'a Book,
         files: &'a [Vec<Call>],
+        parts: &'a [u32],
+        part: u32,
     ) -> Result<Ground<'a>, AllocError>
         requires processes { length files.now ≡ book.now.processes }
         requires files { All (IsPlayable (length book.now.accounts)) (contents_of files.now) }
+        requires parts { length parts.now ≡ length files.now }
         ensures book { IfOk result (λ g. g.book ≡ book.now) }
-        ensures files { IfOk result (λ g. g.files ≡ contents_of files.now) }
+        ensures files { IfOk result
+            (λ g. g.files ≡ files_of_part (contents_of files.now) parts.now part) }
+        ensures named { IfOk result
+            (λ g. All (All (HasFirstPlace g.places)) (contents_of files.now)) }
     {
         let accounts = book.accounts();
         let before = count_all_before(alloc, accounts, files)?;
@@ -70,6 +84,8 @@ impl<'a> Ground<'a> {
         Ok(Ground {
             book,
             files,
+            parts,
+            part,
             before,
             places,
         })
@@ -83,13 +99,17 @@ impl<'a> Ground<'a> {
         self.book
     }
 
-    /// The calls of the process.
+    /// The calls of the process, if it is of the part, and else none.
     pub(crate) fn file(&self, process: u32) -> &[Call]
         requires { process < self.now.book.processes }
         ensures calls { result.now ≡ slice_index_or self.now.files process [] }
         ensures known { IsGround self.now }
     {
-        self.files[process as usize].as_slice()
+        if self.parts[process as usize] == self.part {
+            self.files[process as usize].as_slice()
+        } else {
+            &[]
+        }
     }
 
     /// How many payments from the account that call i of the process names first stand before it in its file.

@@ -1,12 +1,13 @@
-//! What is heard of the replies of each call at the stages that it is made at.
+//! What is heard of the replies of each call at the stages that it is made at, and of the balances there.
 
-ghost use Rattle.std.specs.Prelude.{◌≡◌, ◌<◌, ◌++◌, List, All, IfOk, [], length, slice_index_or};
+ghost use Rattle.std.specs.Prelude.{◌≡◌, ℕ, ◌<◌, ◌++◌, List, All, IfOk, [], Some, None, length, slice_index_or};
 ghost use Rattle.at_orders.specs.Prelude.{contents_of};
+ghost use Rattle.at_orders.specs.Ordered.{AreSpans, range_in};
 ghost use Rattle.at_orders.specs.declared.stage.Stage.{Stage};
 ghost use Rattle.at_orders.specs.Walk.{AreAllHeard, AreHeard, IsSeen};
 
 use crate::ground::Ground;
-use crate::replies::Replies;
+use crate::replies::{Range, Replies};
 use crate::stage::Stage;
 use std::alloc::{AllocError, Global};
 
@@ -63,4 +64,60 @@ pub(crate) fn hear_all(ground: &Ground, stages: &[Stage], answers: &mut Vec<Vec<
             answers[process as usize].as_mut_slice(),
         );
     }
+}
+
+/// What each account with a place opens with.
+pub(crate) fn opening_spans(alloc: Global, ground: &Ground) -> Result<Vec<Range>, AllocError>
+    ensures { IfOk result (λ spans. AreSpans ground.now [] spans.items) }
+{
+    let mut spans = Vec::new(alloc);
+    for account in ground.named() {
+        let opening = ground.book().opening(*account);
+        spans.push(Range {
+            least: opening,
+            greatest: opening,
+        })?;
+    }
+    Ok(spans)
+}
+
+/// The ranges, and in them the balances that are kept at these stages.
+pub(crate) fn widen_all(ground: &Ground, stages: &[Stage], spans: &mut [Range])
+    requires stages { All (IsSeen ground.now) stages.now }
+    requires spans { length spans.old ≡ length ground.now.named }
+    ensures len { length spans.new ≡ length spans.old }
+    ensures widened { (past : List Stage) → AreSpans ground.now past spans.old
+        → AreSpans ground.now (past ++ stages.now) spans.new }
+{
+    let _known = ground.book();
+    for stage in stages {
+        stage.widen(spans);
+    }
+}
+
+/// The range of each account of the book: of one with a place what is known of it, and of another its opening.
+pub(crate) fn spans_of_all(
+    alloc: Global,
+    ground: &Ground,
+    spans: &[Range],
+) -> Result<Vec<Range>, AllocError>
+    requires { length spans.now ≡ length ground.now.named }
+    ensures accounts { IfOk result (λ all. length all.items ≡ length ground.now.book.accounts) }
+    ensures spans { IfOk result (λ all. (account place : ℕ) (d : Range)
+        → slice_index_or ground.now.places account None ≡ Some place
+        → range_in all.items account ≡ slice_index_or spans.now place d) }
+{
+    let book = ground.book();
+    let mut all = Vec::new(alloc);
+    for account in 0..book.accounts() {
+        let opening = book.opening(account);
+        all.push(match ground.find(account) {
+            Some(place) => spans[place],
+            None => Range {
+                least: opening,
+                greatest: opening,
+            },
+        })?;
+    }
+    Ok(all)
 }

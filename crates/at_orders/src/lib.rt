@@ -1,22 +1,23 @@
 //! Which replies depend on the order in which the processes' calls come: for each call of the files, the replies that
 //! some order of all their calls gives it.
 //!
-//! No order is tried by itself. Where the openings cover all that the files ask, what one file does depends on no other,
-//! and `orders` adds up what each does alone. Else it walks the stages that the orders go through, each of them once, level
-//! by level: by how many calls were made in all. Stages that differ only in balances that no reply depends on are one there.
+//! No order is tried by itself. Processes whose payments meet at an account that doesn't open with all that the files ask of it are of
+//! one part, and what one part does depends on no other. Of each part the stages are walked that its orders go through, each of them
+//! once, level by level: by how many calls were made in all. What a read tells is added up from the balances of all parts.
 #![tactic(auto)]
 
-mod alone;
 mod answers;
 mod covered;
-mod covered_answers;
 mod error;
 mod ground;
 mod heard;
+mod part;
+mod parts;
 mod places;
 mod replies;
 mod stage;
 mod walk;
+mod whole;
 
 pub use crate::answers::orders;
 pub use crate::error::OrdersError;

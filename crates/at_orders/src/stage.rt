@@ -1,11 +1,14 @@
 //! A stage of an order.
 
-ghost use Rattle.std.specs.Prelude.{◌≡◌, ℕ, ◌+◌, ◌-◌, ◌^◌, ◌<◌, ◌≤◌, List, length, sum, true, slice_index, slice_set, IfOk};
+ghost use Rattle.std.specs.Prelude.{◌≡◌, ℕ, ◌+◌, ◌-◌, ◌^◌, ◌<◌, ◌≤◌, List, length, sum, true, slice_index, slice_index_or, slice_set, IfOk};
 ghost use Rattle.at_orders.specs.Prelude.{is_owner, AreTargetsOn, IsCallOn, TargetPair, amount_of, first_account, LedgerState, balance_of, credited, is_full, moved, pay, step, with_sent, Done};
+ghost use Rattle.at_orders.specs.Replies.{range_with};
+ghost use Rattle.at_orders.specs.declared.replies.Range.{Range};
 ghost use Rattle.at_orders.specs.Stages.{StageTerms, after_success, first_stage, stage_after};
 ghost use Rattle.at_orders.specs.Walk.{AreKept, HasNumbers, HasPlace, IsMadeTo, IsNextCall, IsNextPayment, IsStanding, StandsFor};
 
 use crate::ground::Ground;
+use crate::replies::Range;
 use at_ledger::{Call, Reply, Targets};
 use std::alloc::{AllocError, Global};
 
@@ -43,6 +46,19 @@ impl Stage {
         ensures { result ≡ slice_index self.now.made.items process }
     {
         self.made[process as usize]
+    }
+
+    /// The ranges, and in them the balances that are kept.
+    pub(crate) fn widen(&self, spans: &mut [Range])
+        requires { length spans.old ≡ length self.now.balances.items }
+        ensures len { length spans.new ≡ length spans.old }
+        ensures widened { (place : ℕ) (d : Range) → place < length spans.old
+            → slice_index_or spans.new place d
+            ≡ range_with (slice_index_or spans.old place d) (slice_index self.now.balances.items place) }
+    {
+        for place in 0..spans.len() {
+            spans[place] = spans[place].with(self.balances[place]);
+        }
     }
 
     /// The balance of an account that is kept.

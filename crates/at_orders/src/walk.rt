@@ -1,16 +1,19 @@
 //! The walk over all stages, level by level: a level has the stages at which so many calls were made in all.
 
-ghost use Rattle.std.specs.Prelude.{◌≡◌, ◌<◌, ◌≤◌, ◌+◌, ◌⊎◌, ℕ, [], All, Contains, Err, IfOk, OnOk, length, sum};
+ghost use Rattle.std.specs.Prelude.{◌≡◌, ◌<◌, ◌≤◌, ◌+◌, ◌⊎◌, ℕ, [], All, Contains, Err, IfOk, OnOk, length, slice_index, slice_index_or, sum};
 ghost use Rattle.at_orders.specs.Prelude.{IsPlayable, contents_of};
 ghost use Rattle.at_orders.specs.declared.stage.Stage.{Stage};
+ghost use Rattle.at_orders.specs.Ordered.{HoldsAt, IsOrdered, IsSpan};
 ghost use Rattle.at_orders.specs.Orders.{AreAnswers};
+ghost use Rattle.at_orders.specs.Parts.{files_of_part};
+ghost use Rattle.at_orders.specs.declared.replies.Range.{Range};
 ghost use Rattle.at_orders.specs.Stages.{GroundTerms, HasMoreStages, StageTerms};
 ghost use Rattle.at_orders.specs.Walk.{AreLevel, Grows, HasAllNext, HasMoreNext, HasNext, HasStage, IsNextLevel, IsSeen, IsWalked, IsWalkedTo, StandsFor};
 
 use crate::error::OrdersError;
 use crate::ground::Ground;
-use crate::heard::{hear_all, silent};
-use crate::replies::Replies;
+use crate::heard::{hear_all, opening_spans, silent, spans_of_all, widen_all};
+use crate::part::Part;
 use crate::stage::Stage;
 use at_ledger::{Book, Call};
 use indexmap::IndexSet;
@@ -121,62 +124,81 @@ fn begin(alloc: Global, ground: &Ground) -> Result<IndexSet<Stage>, AllocError>
     Ok(seen)
 }
 
-/// Hears the replies that the calls get at the stages of the level, and goes on to the next level, after so many stages before.
+/// Hears the replies that the calls get at the stages of the level, and the balances there, and goes on to the next level, after so many
+/// stages before.
 fn walk_level(
     alloc: Global,
     ground: &Ground,
     looked: usize,
     level: &mut IndexSet<Stage>,
-    answers: &mut Vec<Vec<Replies>>,
+    done: &mut Part,
 ) -> Result<(), OrdersError>
-    requires walked { IsWalked ground.now level.old.keys (contents_of answers.old.items) looked }
+    requires walked { IsWalked ground.now level.old.keys (contents_of done.old.replies.items)
+        done.old.spans.items looked }
     requires few { looked + length level.old.keys ≤ STAGES_MAX }
     ensures walked { OnOk result (IsWalked ground.now level.new.keys
-        (contents_of answers.new.items) (looked + length level.old.keys)) }
+        (contents_of done.new.replies.items) done.new.spans.items (looked + length level.old.keys)) }
     ensures few { OnOk result
         (looked + length level.old.keys + length level.new.keys ≤ STAGES_MAX) }
     ensures many { result ≡ Err OrdersError.TooManyOrders
         → HasMoreStages ground.now.book ground.now.files STAGES_MAX }
 {
-    hear_all(ground, level.as_slice(), answers);
+    hear_all(ground, level.as_slice(), &mut done.replies);
+    widen_all(ground, level.as_slice(), done.spans.as_mut_slice());
     let left = STAGES_MAX - looked - level.len();
     let next = next_level(alloc, ground, level.as_slice(), left)?;
     drop(replace(level, next));
     Ok(())
 }
 
-/// The replies of each call of each file in all orders. Two levels at most are held.
-fn walk_on(alloc: Global, ground: &Ground) -> Result<Vec<Vec<Replies>>, OrdersError>
-    ensures answers { IfOk result (λ answers. AreAnswers ground.now.book ground.now.files
-        (contents_of answers.items)) }
+/// The replies of each call of each file in all orders, and the balances of the accounts with a place. Two levels at most are held.
+fn walk_on(alloc: Global, ground: &Ground) -> Result<Part, OrdersError>
+    ensures answers { IfOk result (λ done. AreAnswers ground.now.book ground.now.files
+        (contents_of done.replies.items)) }
+    ensures size { IfOk result (λ done. length done.spans.items ≡ length ground.now.named) }
+    ensures spans { IfOk result (λ done. (place : ℕ) (d : Range) → place < length ground.now.named
+        → IsSpan (HoldsAt ground.now.book ground.now.files (slice_index ground.now.named place))
+        (slice_index_or done.spans.items place d)) }
     ensures many { result ≡ Err OrdersError.TooManyOrders
         → HasMoreStages ground.now.book ground.now.files STAGES_MAX }
 {
     let _known = ground.book();
-    let mut answers = silent(alloc, ground)?;
+    let replies = silent(alloc, ground)?;
+    let spans = opening_spans(alloc, ground)?;
+    let mut done = Part { replies, spans };
     let mut level = begin(alloc, ground)?;
     let mut looked = 0;
     while level.len() > 0 {
         let stages = level.len();
-        walk_level(alloc, ground, looked, &mut level, &mut answers)?;
+        walk_level(alloc, ground, looked, &mut level, &mut done)?;
         looked += stages;
     }
-    Ok(answers)
+    Ok(done)
 }
 
-/// The same for files beside a book.
+/// What the calls of the part do by themselves.
 pub(crate) fn walk(
     alloc: Global,
     book: &Book,
     files: &[Vec<Call>],
-) -> Result<Vec<Vec<Replies>>, OrdersError>
+    parts: &[u32],
+    part: u32,
+) -> Result<Part, OrdersError>
     requires processes { length files.now ≡ book.now.processes }
     requires files { All (IsPlayable (length book.now.accounts)) (contents_of files.now) }
-    ensures answers { IfOk result
-        (λ answers. AreAnswers book.now (contents_of files.now) (contents_of answers.items)) }
+    requires parts { length parts.now ≡ length files.now }
+    ensures ordered { IfOk result
+        (λ done. IsOrdered book.now (contents_of files.now) parts.now part done) }
     ensures many { result ≡ Err OrdersError.TooManyOrders
-        → HasMoreStages book.now (contents_of files.now) STAGES_MAX }
+        → HasMoreStages book.now (files_of_part (contents_of files.now) parts.now part) STAGES_MAX }
 {
-    let ground = Ground::new(alloc, book, files)?;
-    walk_on(alloc, &ground)
+    let ground = Ground::new(alloc, book, files, parts, part)?;
+    let _known = ground.book();
+    let Part { replies, spans } = walk_on(alloc, &ground)?;
+    let all = spans_of_all(alloc, &ground, spans.as_slice())?;
+    drop(spans);
+    Ok(Part {
+        replies,
+        spans: all,
+    })
 }

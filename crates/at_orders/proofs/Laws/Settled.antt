@@ -1,142 +1,12 @@
 -- An account that opens with all that the files ask of it is settled, whatever they ask of the others: at each stage it has what they still ask.
-use Rattle.std.proofs.Common.{◌≡◌, ℕ, zero, suc, ◌+◌, ◌<◌, ◌≤◌, ◌&&◌, Bool, true, false, cond, List, [], ◌∷◌, length, drop, filter, get_or, take, All, Some, refl, sym, ap, subst, ◌∙◌, arith, add-one, length-append, take-append-drop}
+use Rattle.std.proofs.Common.{◌≡◌, ℕ, ◌+◌, ◌<◌, ◌≤◌, ◌&&◌, Bool, true, false, cond, List, [], length, drop, filter, get_or, take, All, Some, refl, sym, ap, subst, ◌∙◌, arith, length-append, take-append-drop}
 use Rattle.std.specs.Prelude.{slice_get, is_some}
-use Rattle.at_orders.proofs.Prelude.{filter-append, length-filter_more, get_or-replicate, get_or_from_slice_get, slice_get-get_or, slice_get_within, account_of, is_owner, is_shared, is_single, BookTerms, IsCallOn, TargetPair, amount_of, first_account, payout_of, LedgerState, opening_state, Step, asked_position, is_full, step, Call, Read, Transfer, Pay, Line, Reply, IsPlayable, AreWithinFiles, IsNextOfProcess, with_made, AreWithinFiles-none, none_made, AreWithinFiles-next, call_known, get_or-with_made, get_or-with_made_other, alone_at, OpeningCovers, asked_by_call, asked_in_file, sum_below, Comes, IsStage, StageTerms, HasOwnRoom, IsSettled, is_own_payment}
-use Rattle.at_orders.proofs.Placing.{same_payout}
-use Rattle.at_orders.proofs.Moved.{at_or_off}
+use Rattle.at_orders.proofs.Prelude.{filter-append, length-filter_more, get_or_from_slice_get, slice_get_within, account_of, is_owner, is_shared, is_single, BookTerms, TargetPair, amount_of, first_account, payout_of, Step, asked_position, is_full, Call, Line, Reply, IsPlayable, IsNextOfProcess, OpeningCovers, Comes, IsStage, StageTerms, HasOwnRoom, IsSettled, is_own_payment}
 use Rattle.at_orders.proofs.Requests.{first_account-payout, step-payout}
-use Rattle.at_orders.proofs.Reaching.{Leads, leads-cons, leads-nil, order-next, stage-reached}
-use Rattle.at_orders.proofs.Stepping.{AreAsked, IsFit, Keeps, alone-single, asked-at, full-own, full-same, ledger_of, pay-reply, reply_by, reply_by-other, reply_by-short, step-asked, step-keeps, step-sent}
-use Rattle.at_orders.proofs.Sums.{sum-one, sum-same, term-up}
-use Rattle.at_orders.proofs.Covering.{alone-next, alone-none, asked-drop, asked_later, fit-opening, opening-at}
-
--- the files of the book
-record AreFiles (b : BookTerms) (files : List (List Call)) : Type 0 where
-  playable : All (IsPlayable (length b.accounts)) files
-  count : length files ≡ b.processes
-
-abbrev own_payments : BookTerms → ℕ → List Call → ℕ
-own_payments b q calls = length (filter (is_own_payment b q) calls)
-
--- what the calls made so far leave
-record IsOnTheWay (b : BookTerms) (files : List (List Call)) (s : LedgerState) (made : List ℕ) : Type 0 where
-  fit : IsFit b s
-  left : (a : ℕ) → a < length b.accounts → OpeningCovers b files a → sum_below (length files) (asked_later b files made a) ≤ get_or s.balances a 0
-  sent : (q : ℕ) → q < length files → get_or s.sent q 0 ≤ own_payments b q (take (get_or made q 0) (get_or files q []))
-  asked : (q : ℕ) → q < length files → AreAsked b q s (alone_at b q (get_or files q []) (get_or made q 0))
-
-alone-fit : (b : BookTerms) (p : ℕ) (calls : List Call) (i : ℕ) → All (IsCallOn (length b.accounts)) calls → i ≤ length calls → IsFit b (alone_at b p calls i)
-alone-fit b p calls zero on within = subst (IsFit b) (sym (alone-none b p calls)) (fit-opening b)
-alone-fit b p calls (suc i) on within =
-    let before = alone-fit b p calls i on (omega arith) in
-    let c : Call = get_or calls i (Read 0) in
-    let is : slice_get calls i ≡ Some c = slice_get-get_or calls i (Read 0) (omega arith) in
-    let kept = step-keeps b p c (alone_at b p calls i) (on i (Read 0) (omega arith)) before in
-    subst (λ (n : ℕ). IsFit b (alone_at b p calls n)) (add-one i) (subst (IsFit b) (sym (alone-next b p calls i c is)) kept.fit)
-
-way-first : (b : BookTerms) (files : List (List Call)) → AreFiles b files → IsOnTheWay b files (opening_state b) (none_made files)
-way-first b files are = record {
-  fit = fit-opening b;
-  left = λ a a_in covered.
-      let same = sum-same (length files) (asked_later b files (none_made files) a) (λ (q : ℕ). asked_in_file b q a (get_or files q []))
-      (λ q q_in. ap (λ (n : ℕ). asked_in_file b q a (drop n (get_or files q []))) (none q q_in)) in
-      let has = opening-at b a a_in in
-      omega arith;
-  sent = λ q q_in. let count = are.count in let zeros : get_or (opening_state b).sent q 0 ≡ 0 = get_or-replicate b.processes q 0 0 (omega arith) in omega arith;
-  asked = λ q q_in. subst (AreAsked b q (opening_state b)) (sym (ap (alone_at b q (get_or files q [])) (none q q_in) ∙ alone-none b q (get_or files q []))) (λ a a_in. refl);
-}
-  where
-    none : (q : ℕ) → q < length files → get_or (none_made files) q 0 ≡ 0
-    none q q_in = get_or-replicate (length files) q 0 0 q_in
-
-way-next : (b : BookTerms) (files : List (List Call)) (s : LedgerState) (made : List ℕ) (l : Line) → AreFiles b files → AreWithinFiles files made → IsOnTheWay b files s made
-    → IsNextOfProcess files s made l → IsOnTheWay b files (step s l.process l.call).ledger (with_made made l.process)
-way-next b files s made l are within way next = record {
-  fit = kept.fit;
-  left = λ a a_in covered.
-      let one = sum-one (length files) p (asked_later b files made a) (asked_later b files (with_made made p) a) next.process
-      (λ q q_in differ. ap (λ (n : ℕ). asked_in_file b q a (drop n (get_or files q []))) (sym (count_off q differ))) in
-      let here : asked_later b files (with_made made p) a p ≡ asked_in_file b p a (drop (i + 1) calls) = ap (λ (n : ℕ). asked_in_file b p a (drop n calls)) count_at in
-      let asks = asked-drop b p a calls i c next.call in
-      let left = way.left a a_in covered in
-      let fall = kept.fall a in
-      omega arith;
-  sent = λ q q_in. at_or_off p q
-      (λ same. subst (λ (n : ℕ). get_or after.sent n 0 ≤ own_payments b n (take (get_or (with_made made p) n 0) (get_or files n []))) same (
-      let more : own_payments b p (take (i + 1) calls) ≡ own_payments b p (take i calls) + cond (is_own_payment b p c) 1 0 =
-      length-filter_more (is_own_payment b p) calls i c (slice_get_within calls i c next.call)
-      ∙ ap (λ (d : Call). own_payments b p (take i calls) + cond (is_own_payment b p d) 1 0) (get_or_from_slice_get calls i c c next.call) in
-      let now : own_payments b p (take (get_or (with_made made p) p 0) calls) ≡ own_payments b p (take (i + 1) calls) = ap (λ (n : ℕ). own_payments b p (take n calls)) count_at in
-      let old = way.sent p next.process in
-      let used = step-sent b p c s p_in way.fit in
-      omega arith))
-      (λ differ.
-      let old = way.sent q q_in in
-      let still = kept.sent q (λ e. differ (sym e)) in
-      let now : own_payments b q (take (get_or (with_made made p) q 0) (get_or files q [])) ≡ own_payments b q (take (get_or made q 0) (get_or files q [])) =
-      ap (λ (n : ℕ). own_payments b q (take n (get_or files q []))) (count_off q differ) in
-      omega arith);
-  asked = λ q q_in. at_or_off p q
-      (λ same. subst (λ (n : ℕ). AreAsked b n after (alone_at b n (get_or files n []) (get_or (with_made made p) n 0))) same
-      (subst (λ (n : ℕ). AreAsked b p after (alone_at b p calls n)) (sym count_at) (subst (AreAsked b p after) (sym (alone-next b p calls i c next.call))
-      (step-asked b p c s (alone_at b p calls i) p_in known way.fit (alone-fit b p calls i (are.playable p [] next.process).known (within.within p next.process)) (way.asked p next.process)))))
-      (λ differ. subst (λ (n : ℕ). AreAsked b q after (alone_at b q (get_or files q []) n)) (sym (count_off q differ))
-      (λ a a_in. kept.asked q a (λ e. differ (sym e)) a_in ∙ way.asked q q_in a a_in));
-}
-  where
-    p : ℕ
-    p = l.process
-
-    c : Call
-    c = l.call
-
-    i : ℕ
-    i = get_or made p 0
-
-    calls : List Call
-    calls = get_or files p []
-
-    after : LedgerState
-    after = (step s p c).ledger
-
-    p_in : p < b.processes
-    p_in = let h = next.process in let n = are.count in omega arith
-
-    known : IsCallOn (length b.accounts) c
-    known = call_known (length b.accounts) files s made l are.playable next
-
-    kept : Keeps b p c s (step s p c)
-    kept = step-keeps b p c s known way.fit
-
-    count_at : get_or (with_made made p) p 0 ≡ i + 1
-    count_at = get_or-with_made made p (let each = within.each in let h = next.process in omega arith)
-
-    count_off : (q : ℕ) → (p ≡ q → ⊥) → get_or (with_made made p) q 0 ≡ get_or made q 0
-    count_off q differ = get_or-with_made_other made p q differ
-
-way-leads : (b : BookTerms) (files : List (List Call)) (s : LedgerState) (made : List ℕ) (lines : List Line) (t : StageTerms) → AreFiles b files → AreWithinFiles files made
-    → IsOnTheWay b files s made → Leads files s made lines t → IsOnTheWay b files t.ledger t.made
-way-leads b files s made [] t are within way leads =
-    let end = leads-nil files s made t leads in
-    subst (λ (u : LedgerState). IsOnTheWay b files u t.made) end.0 (subst (IsOnTheWay b files s) end.1 way)
-way-leads b files s made (l ∷ lines) t are within way leads =
-    let parts = leads-cons files s made l lines t leads in
-    way-leads b files (step s l.process l.call).ledger (with_made made l.process) lines t are (AreWithinFiles-next files s made l within parts.0)
-    (way-next b files s made l are within way parts.0) parts.1
-
-way-stage : (b : BookTerms) (files : List (List Call)) (t : StageTerms) → AreFiles b files → IsStage b files t → IsOnTheWay b files t.ledger t.made
-way-stage b files t are stage =
-    let reached = stage-reached b files t stage in
-    way-leads b files (opening_state b) (none_made files) reached.lines t are (AreWithinFiles-none files) (way-first b files are) reached.leads
-
-asked-payout : (b : BookTerms) (p a : ℕ) (ts : List TargetPair) (c : Call) → payout_of c ≡ Some (a, ts) → is_owner b p a ≡ true → asked_by_call b p a c ≡ amount_of ts
-asked-payout b p a ts (Transfer from to amount) is own =
-    subst (λ (x : ℕ × List TargetPair). asked_by_call b p x.0 (Transfer from to amount) ≡ amount_of x.1) (same_payout (from, (to, amount) ∷ []) (a, ts) is)
-    (asked-at b p from ((to, amount) ∷ []) (ap (is_owner b p) (ap (λ (x : ℕ × List TargetPair). x.0) (same_payout (from, (to, amount) ∷ []) (a, ts) is)) ∙ own))
-asked-payout b p a ts (Read account) is own = absurd (cc is)
-asked-payout b p a ts (Pay from targets) is own =
-    subst (λ (x : ℕ × List TargetPair). asked_by_call b p x.0 (Pay from targets) ≡ amount_of x.1) (same_payout (from, targets) (a, ts) is)
-    (asked-at b p from targets (ap (is_owner b p) (ap (λ (x : ℕ × List TargetPair). x.0) (same_payout (from, targets) (a, ts) is)) ∙ own))
+use Rattle.at_orders.proofs.Reaching.{order-next}
+use Rattle.at_orders.proofs.Stepping.{AreAsked, alone-single, full-own, full-same, ledger_of, pay-reply, reply_by, reply_by-other, reply_by-short}
+use Rattle.at_orders.proofs.OnTheWay.{AreFiles, IsOnTheWay, covered-enough, own_payments, way-stage}
+use Rattle.at_orders.proofs.Covering.{alone_at}
 
 -- the next call at a stage, a payment from a covered account
 record Next (b : BookTerms) (files : List (List Call)) (p i a : ℕ) (x : Reply) : Type 0 where
@@ -158,12 +28,7 @@ line-next b files a ts t l are a_in covered is next pays = record {
     way = way-stage b files t are is
 
     enough : is_owner b l.process a ≡ true → amount_of ts ≤ get_or t.ledger.balances a 0
-    enough own =
-        let left = way.left a a_in covered in
-        let one = term-up (length files) l.process (asked_later b files t.made a) next.process in
-        let asks = asked-drop b l.process a (get_or files l.process []) (get_or t.made l.process 0) l.call next.call in
-        let amount = asked-payout b l.process a ts l.call pays own in
-        omega arith
+    enough own = covered-enough b files a l.process ts l.call t way next.process next.call pays a_in covered own
 
 comes-at : (b : BookTerms) (files : List (List Call)) (p i a : ℕ) (ts : List TargetPair) (c : Call) (x : Reply) → AreFiles b files → a < length b.accounts → OpeningCovers b files a
     → slice_get (get_or files p []) i ≡ Some c → payout_of c ≡ Some (a, ts) → Comes b files p i x → Next b files p i a x

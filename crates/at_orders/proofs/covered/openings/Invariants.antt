@@ -1,5 +1,5 @@
-use Rattle.std.proofs.Common.{◌≡◌, map, take}
+use Rattle.std.proofs.Common.{◌≡◌, Some, map, take}
 use Rattle.at_orders.proofs.covered.openings.Given as goal
 
 abbrev pub invariant-loop-account : goal.invariant-loop-account
-invariant-loop-account l = l.left.items ≡ map (λ t. t.opening) (take l.account l.book.accounts)
+invariant-loop-account l = l.left.items ≡ map (λ t. Some t.opening) (take l.account l.book.accounts)

@@ -1,40 +1,17 @@
-use Rattle.at_orders.proofs.Prelude.{common_steps, sum_by-cons, sum_by_more_le, asked_by_call}
-use Rattle.std.proofs.Common.{[], ap, arith}
+use Rattle.std.proofs.Common.{◌≡◌, ℕ, List, [], take, refl, subst, arith}
+use Rattle.at_orders.proofs.Prelude.{take_all, AreLeft, Call, asked_in_file}
+use Rattle.at_orders.proofs.Leaving.{left-call, left-same}
 use Rattle.at_orders.proofs.covered.take_all.Goals as goal
 
-pub returns-then-not-take-clause-short : goal.returns-then-not-take-clause-short
-returns-then-not-take-clause-short c is =
-    let b = c.args.book.now in
-    let p = c.args.process in
-    let short = c.take.ensures.short c.if-not-take.true in
-    let a = short.account in
-    let one = sum_by-cons (asked_by_call b p a) c.call-item.result [] in
-    let taken = c.loop-call.invariant.1.each a short.known in
-    let less = short.less in
-    let most = sum_by_more_le (asked_by_call b p a) c.args.file.now c.loop-call.call-index c.call-item.result c.loop-call-test.true in
-    let same = ap (asked_by_call b p a) c.call-item.is in
-    record { account = a; known = short.known; less = omega arith }
+pub loop-call-init : goal.loop-call-init
+loop-call-init c = left-same c.args.book.now (λ (a : ℕ). asked_in_file c.args.book.now c.args.process a []) c.args.left.now (λ a. refl)
 
 pub loop-call-preserved : goal.loop-call-preserved
-loop-call-preserved c = grind (arith, common_steps)
+loop-call-preserved c =
+    left-call c.args.book.now c.args.process c.args.file.now c.loop-call.call-index c.call-item.result c.args.left.now c.loop-call.left c.take.new.left c.loop-call-test.true c.call-item.is
+    c.loop-call.invariant c.take.ensures
 
-pub returns-clause-taken : goal.returns-clause-taken
-returns-clause-taken c = grind (arith, common_steps)
-
-pub returns-clause-short : goal.returns-clause-short
-returns-clause-short c = grind (arith, common_steps)
-
-pub take-requires-clause-call_in : goal.take-requires-clause-call_in
-take-requires-clause-call_in c = grind (arith, common_steps)
-
-pub returns-then-not-take-clause-len : goal.returns-then-not-take-clause-len
-returns-then-not-take-clause-len c = grind (arith, common_steps)
-
-pub take-requires-clause-accounts : goal.take-requires-clause-accounts
-take-requires-clause-accounts c = grind (arith, common_steps)
-
-pub returns-clause-len : goal.returns-clause-len
-returns-clause-len c = grind (arith, common_steps)
-
-pub returns-then-not-take-clause-taken : goal.returns-then-not-take-clause-taken
-returns-then-not-take-clause-taken c = grind (arith, common_steps)
+pub returns : goal.returns
+returns c =
+    let whole : take c.loop-call.call-index c.args.file.now ≡ c.args.file.now = take_all c.loop-call.call-index c.args.file.now (let past = c.loop-call-test.false in omega arith) in
+    subst (λ (calls : List Call). AreLeft c.args.book.now (λ a. asked_in_file c.args.book.now c.args.process a calls) c.args.left.now c.loop-call.left) whole c.loop-call.invariant

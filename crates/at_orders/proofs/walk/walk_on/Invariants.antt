@@ -4,7 +4,7 @@ use Rattle.at_orders.proofs.walk.walk_on.Given as goal
 
 abbrev pub invariant-loop-alloc : goal.invariant-loop-alloc
 invariant-loop-alloc l = record {
-  walked : IsWalked l.ground l.level.keys (contents_of l.answers.items) l.looked;
+  walked : IsWalked l.ground l.level.keys (contents_of l.done.replies.items) l.done.spans.items l.looked;
   few : l.looked + length l.level.keys ≤ 1048576;
 }
 

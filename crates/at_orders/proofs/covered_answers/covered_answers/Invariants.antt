@@ -1,5 +1,0 @@
-use Rattle.at_orders.proofs.Prelude.{contents_of, AreFilesAnswers}
-use Rattle.at_orders.proofs.covered_answers.covered_answers.Given as goal
-
-abbrev pub invariant-loop-process : goal.invariant-loop-process
-invariant-loop-process l = AreFilesAnswers l.book (contents_of l.files) (contents_of l.answers.items) l.process

@@ -1,9 +1,0 @@
-use Rattle.std.proofs.Common.{arith}
-use Rattle.at_orders.proofs.Prelude.{common_steps}
-use Rattle.at_orders.proofs.covered_answers.range_alone.Goals as goal
-
-pub returns : goal.returns
-returns c = grind (arith, common_steps)
-
-pub index-requires : goal.index-requires
-index-requires c = grind (arith, common_steps)
