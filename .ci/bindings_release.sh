@@ -1,7 +1,11 @@
 #!/bin/sh
-# Tests the release that `bindings/release.sh` has left: unpacked in a new folder, with an empty environment, a path on which rt isn't, and
-# from another folder, the program and the examples in C, Rust and Python run, and the release's own program verifies their reports.
+# Tests the release that `bindings/release.sh` has left: it holds the program that was tried, and what `bindings/libraries.sh` has left for the
+# other tests. Unpacked in a new folder, with an empty environment, a path on which rt isn't, and from another folder, the program and the
+# examples in C, Rust and Python run, and the release's own program verifies their reports.
+#
+#   bindings_release.sh LIBRARIES
 set -eu
+tested=$(CDPATH='' cd -- "$1" && pwd)
 cd "$(dirname "$0")/.."
 version=$(sed -n 's/^#define BEZGLAMI_VERSION //p' bindings/c/bezglami.h)
 archive=out/bezglami-$version.tar.gz
@@ -24,6 +28,15 @@ fi
 alone() {
     env -i PATH="$path" "$@"
 }
+
+# What it holds is what was tried: the program, the header and the library, of which the shared one shows what the header declares.
+cmp "$release/libexec/bezglami" "$OLDPWD/crates/at_program/out/at_program"
+cmp "$release/include/bezglami.h" "$OLDPWD/bindings/c/bezglami.h"
+[ "$(ar p "$release/lib/libbezglami.a" | cksum)" = "$(ar p "$tested/libbezglami.a" | cksum)" ]
+sed -n '/^static/d; s/^[a-z].*[ *]\(bezglami_[a-z]*\)(.*/\1/p' "$release/include/bezglami.h" | LC_ALL=C sort >declared
+nm -D --defined-only "$release/lib/libbezglami.so" | sed 's/.* //' | LC_ALL=C sort | cmp - declared
+[ "$(grep -c "^version = \"$version\." "$release/bindings/rust/Cargo.toml" "$release/bindings/python/pyproject.toml" | grep -c ':1$')" -eq 2 ]
+tried='what it holds'
 
 examples=$release/examples
 alone "$release/bin/bezglami" run "$examples/usual/book.csv" "$examples/usual/pay0.csv" | cmp - "$examples/usual/usual.report"
@@ -84,7 +97,11 @@ fi
 if python=$(python3 -c 'import sys; sys.version_info >= (3, 10) and print(sys.executable)' 2>/dev/null) && [ -n "$python" ]; then
     alone PYTHONDONTWRITEBYTECODE=1 "$python" "$release/bindings/python/example.py" >report 2>said
     verified "$short/book.csv" "$short/ann.csv" "$short/ann.csv"
-    tried="$tried, Python"
+    export=$examples/export
+    alone PATH="$(dirname -- "$python"):$path" "$release/bin/bezglami" import "$export/payments.csv" --joint "$export/joint.csv" \
+        --openings "$export/openings.csv" --to made >said
+    diff -r made "$export/made"
+    tried="$tried, import, Python"
 fi
 # Debian's pip finds what makes a wheel beside it; nothing is fetched.
 if [ -x /usr/bin/pip3 ] && /usr/bin/python3 -c 'import setuptools, wheel' 2>/dev/null; then

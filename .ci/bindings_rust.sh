@@ -16,7 +16,13 @@ export BEZGLAMI_LIB CARGO_TARGET_DIR="$work/target" RUSTFLAGS='-D warnings'
 cp -r bindings/rust "$work/crate"
 cargo test --quiet --offline --manifest-path "$work/crate/Cargo.toml" >"$work/said" 2>&1 || { cat "$work/said" >&2; exit 1; }
 echo "bindings: Rust, $(awk '/^test result: ok/ { tests += $4 } END { print tests }' "$work/said") tests passed"
-"$work/target/debug/examples/short" >"$work/report" 2>"$work/said" || { cat "$work/said" >&2; exit 1; }
+set --
+if command -v valgrind >/dev/null; then
+    set -- valgrind --quiet --error-exitcode=9 --leak-check=full --errors-for-leak-kinds=definite
+else
+    .ci/left_out.sh 'what the crate frees' 'no valgrind'
+fi
+"$@" "$work/target/debug/examples/short" >"$work/report" 2>"$work/said" || { cat "$work/said" >&2; exit 1; }
 if [ "$(grep -c -e '^[01] was answered done$' -e '^[01] was answered short$' "$work/said")" -ne 2 ]; then
     echo 'bindings: the example in Rust says something else:' >&2
     cat "$work/said" >&2

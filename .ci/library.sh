@@ -6,10 +6,11 @@ cd "$(dirname "$0")/.."
 library=crates/at_c/out/libat_c.a
 kit=$(dirname "$(rt doc)")
 sources='crates.txt crates/*/src crates/*/specs crates/*/proofs'
-if [ -f "$library" ] && [ -z "$(find $sources -newer "$library" | head -n 1)" ]; then
+sum=$({ rt version; find -L $sources -type f | sort | xargs sha256sum; } | sha256sum | cut -c1-64)
+# Times say nothing of what a library was built from, so beside it stands the sum of that, and its own.
+if [ -f "$library" ] && echo "$sum $(sha256sum <"$library")" | cmp -s - "$library.sum"; then
     exit 0
 fi
-sum=$({ rt version; find $sources -type f | sort | xargs sha256sum; } | sha256sum | cut -c1-64)
 kept=${XDG_CACHE_HOME:-${HOME:-/tmp}/.cache}/bezglami
 mkdir -p "$(dirname "$library")"
 mkdir -p "$kept" 2>/dev/null && [ -w "$kept" ] || kept=$PWD/$(dirname "$library")
@@ -39,4 +40,5 @@ if ! [ -f "$kept/libat_c-$sum.a" ]; then
     find "$kept" -name 'libat_c-*.a' ! -name "libat_c-$sum.a" -mtime +30 -exec rm -f -- {} +
 fi
 cp -- "$kept/libat_c-$sum.a" "$library"
+echo "$sum $(sha256sum <"$library")" >"$library.sum"
 echo "bindings: the library for C is $library"

@@ -2,7 +2,7 @@
 # Installs from Debian the tools that the tables of cases and the scripts of bindings need, where they aren't there. Where that may not be, it says so, and
 # those scripts leave out what they would try with them.
 missing=
-for pair in cc:gcc ar:binutils python3:python3 cargo:cargo valgrind:valgrind pkg-config:pkg-config /usr/bin/pip3:python3-pip hledger:hledger ledger:ledger; do
+for pair in cc:gcc c++:g++ ar:binutils python3:python3 cargo:cargo valgrind:valgrind pkg-config:pkg-config /usr/bin/pip3:python3-pip hledger:hledger ledger:ledger; do
     command -v "${pair%:*}" >/dev/null || missing="$missing ${pair#*:}"
 done
 [ -n "$missing" ] || exit 0

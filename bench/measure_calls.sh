@@ -15,13 +15,13 @@ root=$here/..
 seconds=${1:-1}
 folder=${2:-$root/docs/speed}
 part=${3:-all}
-library=$root/crates/at_c/out/libat_c.a
-heap=$(dirname -- "$(rt doc)")/c/liblibc_c.a
 work=$(mktemp -d)
 trap 'rm -rf -- "$work"' EXIT
+"$root/bindings/libraries.sh" "$work/libraries"
+library=$work/libraries/libbezglami.a
 
 compile() {
-    "${CC:-cc}" -std=c11 -D_POSIX_C_SOURCE=200809L -O2 -pthread -I"$root/bindings/c" "$@" "$library" "$heap"
+    "${CC:-cc}" -std=c11 -D_POSIX_C_SOURCE=200809L -O2 -pthread -I"$root/bindings/c" "$@" "$library"
 }
 
 # The crates that one has below it, with it, from the lines of crates.txt.

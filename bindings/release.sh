@@ -54,16 +54,18 @@ copy_licences() {
             if [ -n "$files" ]; then echo "| \`$used\` | $files |"; else without="$without${without:+, }\`$used\`"; fi
         done
         echo
-        echo "The toolchain has no licence file for $without, nor for its \`liblibc_c.a\`. Bezglami itself has no licence file."
+        echo "The toolchain has no licence file for $without, nor for its \`liblibc_c.a\`. No licence has been chosen for Bezglami itself yet."
     } >"$release/licences/README.md"
 }
 
-# The script by which the program runs: the allocator is told what the script `bezglami` of the repository tells it.
+# The script by which the program runs: the allocator is told what the script `bezglami` of the repository tells it. `import` is another
+# script, as there.
 write_script() {
     cat >"$release/bin/bezglami" <<END
 #!/bin/sh
 # Runs the program, and tells the C library's allocator what serves it, unless something else was told.
 here=\$(CDPATH='' cd -- "\$(dirname -- "\$(readlink -f -- "\$0")")/.." && pwd) || exit 1
+if [ "\${1-}" = import ]; then shift && exec python3 -- "\$here/libexec/from_export.py" "\$@"; fi
 export GLIBC_TUNABLES="\${GLIBC_TUNABLES-$(sed -n 's/^allocator=//p' "$root/bezglami")}"
 exec "\$here/libexec/bezglami" "\$@"
 END
@@ -78,13 +80,13 @@ The asset transfer object: a payment ledger that no thread waits for. This folde
 
 | here | what it is |
 |---|---|
-| \`bin/bezglami\` | the program; it prints its commands where it is given no word. It is a script that tells the allocator what serves \`libexec/bezglami\` |
+| \`bin/bezglami\` | the program; it prints its commands where it is given no word. It is a script that tells the allocator what serves \`libexec/bezglami\`. Its word \`import\`, which needs \`python3\`, makes a book and payment files of an export; the \`./bezglami\` of the commands that it tells is \`bin/bezglami\` here |
 | \`include/bezglami.h\` | the header of the library for C |
 | \`lib/libbezglami.a\`, \`lib/libbezglami.so\` | the library, static and shared; \`lib/pkgconfig\` tells both to pkg-config |
 | \`bindings/c\`, \`bindings/rust\`, \`bindings/python\` | examples in C, a crate, and a module |
-| \`docs\` | guides to the bindings, and the forms of books, payments and reports; what they link to otherwise stands in the repository |
+| \`docs\` | how it is used in a program, and the forms of books, payments and reports; what they link to otherwise stands in the repository |
 | \`examples\` | books and payment files, with reports |
-| \`licences\` | the licences of what is linked |
+| \`licences\` | the licences of what is linked. None has been chosen for Bezglami itself yet |
 
 Each of these runs in this folder:
 
@@ -111,9 +113,10 @@ rm -rf -- "$release" "$release.tar.gz"
 mkdir -p -- "$release/bin" "$release/libexec" "$release/docs" "$release/include" "$release/licences"
 "$root/bindings/libraries.sh" "$release/lib"
 cp -- "$root/crates/at_program/out/at_program" "$release/libexec/bezglami"
+cp -- "$root/tools/from_export.py" "$release/libexec/"
 write_script
 cp -- "$root/bindings/c/bezglami.h" "$release/include/"
-for guide in bindings formats using; do cp -- "$root/docs/$guide.md" "$release/docs/"; done
+for guide in formats using; do cp -- "$root/docs/$guide.md" "$release/docs/"; done
 git -C "$root" ls-files bindings/c bindings/rust bindings/python examples | grep -v -e '\.h$' -e '/test\.c$' | (cd -- "$root" && tar -cf - -T -) | tar -xf - -C "$release"
 ln -s ../../../lib/libbezglami.so "$release/bindings/python/bezglami/libbezglami.so"
 copy_licences

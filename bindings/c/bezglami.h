@@ -1,20 +1,27 @@
 /* Bezglami in a program of one's own: a payment ledger that no thread waits for.
  *
- * Link the release's lib/libbezglami.a, or what it is made of: out/libat_c.a of crates/at_c and liblibc_c.a of Rattle's kit (its
- * folder c/); and threads of your own.
- * A handle is a pointer that the library alone follows. Null stands for a handle that holds nothing, so one is made by
+ * Link the release's lib/libbezglami.a, which `bindings/libraries.sh` makes, and threads of your own.
+ * A handle has a pointer that the library alone follows. One whose pointer is null holds nothing, so one is made by
  * `bezglami_handle ledger = BEZGLAMI_NOTHING;`. A handle isn't copied: one place holds it.
  *
+ * What is looked at, so that a mistake is answered and nothing is lost by it:
+ *   - an address that is null is BEZGLAMI_NULL, or 0 where the answer is a count, and `bezglami_free` does nothing then. `book`, `targets`
+ *     and `bytes` may be null where their number is 0, and `line` and `why` always;
+ *   - a handle is for one call at a time. A second one meanwhile, of another thread or of a signal handler, is BEZGLAMI_IN_CALL, or 0
+ *     where the answer is a count, and `bezglami_free` does nothing then.
+ *
  * What C has to keep to, and nothing checks:
- *   - a handle is BEZGLAMI_NOTHING or as an export left it, and its address isn't null;
- *   - one call at a time is given a handle; from one call to the next a handle may go to another thread, where a lock, a
- *     thread's start or join, or a sequentially consistent atomic orders the two. Different handles may be used at once,
- *     in any threads;
+ *   - a handle is BEZGLAMI_NOTHING or as an export left it;
+ *   - from one call to the next a handle may go to another thread, where a lock, a thread's start or join, or a sequentially
+ *     consistent atomic orders the two. Different handles may be used at once, in any threads;
  *   - `answer`, `line` and `why` point to their types, and `bytes` to `room` bytes, that no other thread reads or writes
- *     meanwhile; `book` points to `length` bytes and `targets` to `count` targets that no other thread writes meanwhile; none
- *     of these is null, also where their number is 0, and what one call is given doesn't overlap;
+ *     meanwhile; `book` points to `length` bytes and `targets` to `count` targets that no other thread writes meanwhile; what one
+ *     call is given doesn't overlap;
  *   - malloc, realloc and free are one allocator's, which aligns a block to each power of two up to 16 that divides its
- *     size; no export is called from a signal handler or in the child of a fork of a process with threads.
+ *     size; from a signal handler no export is called that takes or frees memory (open, caller, close, return, free), and in the child of a
+ *     fork of a process with threads none at all;
+ *   - no call is left before it ends, by longjmp out of a signal handler or by pthread_cancel. Where one is, its handle stays in the
+ *     call for good: its process is stopped there, all others go on, and a ledger of which a caller is so lost can't be closed.
  *
  * Costs: `bezglami_read`, `bezglami_transfer` and `bezglami_pay` take no memory, and no more steps than a bound that the book
  * alone sets, and seven for each payment of another process that they count for the first time. Each answer tells its steps. `bezglami_open`, `bezglami_caller` and `bezglami_close` take memory, in proportion to
@@ -31,16 +38,17 @@ extern "C" {
 #endif
 
 /* The version of this header. `bezglami_version` answers that of the library. */
-#define BEZGLAMI_VERSION 3
+#define BEZGLAMI_VERSION 4
 
 uint32_t bezglami_version(void);
 
 typedef struct bezglami_handle {
     void *at;
+    uint32_t in_call; /* 1 while a call has the handle */
 } bezglami_handle;
 
 /* Initializes a handle; nothing else is assigned to one. Static memory, which is zero, holds nothing too. */
-#define BEZGLAMI_NOTHING { NULL }
+#define BEZGLAMI_NOTHING { NULL, 0 }
 
 /* What came of an export. Where it isn't BEZGLAMI_DONE, nothing has changed that an export shows, but for what `bezglami_close` says.
  * `line` and `why` are those of the first fault of a bad book, and are to be read after BEZGLAMI_BAD_BOOK alone. */
@@ -57,8 +65,11 @@ enum bezglami_outcome {
     BEZGLAMI_CALLERS_OUT = 9,  /* a caller of the ledger wasn't given back */
     BEZGLAMI_NO_PROCESS = 10,  /* the book has no process of this number */
     BEZGLAMI_NO_NOTE = 11,     /* no note of the process stands there for this caller: none was left, or it was taken in */
-    BEZGLAMI_BUSY = 12         /* another thread just reaches for the same note or caller: ask again. A thread that was stopped
+    BEZGLAMI_BUSY = 12,        /* another thread just reaches for the same note or caller: ask again. A thread that was stopped
                                 * there keeps it busy; no transfer, pay-out or read ever is */
+    BEZGLAMI_NULL = 13,        /* an address is null that has to be one */
+    BEZGLAMI_IN_CALL = 14,     /* another call has the handle just now */
+    BEZGLAMI_OTHER_PROCESSOR = 15 /* the processor lacks instructions of x86-64-v2, for which the library is compiled */
 };
 
 /* A few words on an outcome, in English. */
@@ -77,6 +88,9 @@ static inline const char *bezglami_outcome_text(uint32_t outcome) {
     case BEZGLAMI_NO_PROCESS: return "no such process";
     case BEZGLAMI_NO_NOTE: return "no note";
     case BEZGLAMI_BUSY: return "busy";
+    case BEZGLAMI_NULL: return "null address";
+    case BEZGLAMI_IN_CALL: return "handle in a call";
+    case BEZGLAMI_OTHER_PROCESSOR: return "other processor";
     default: return "unknown outcome";
     }
 }
@@ -173,7 +187,7 @@ typedef struct bezglami_target {
 #define BEZGLAMI_VERIFY_CALLS_MOST 16384 /* of a process in a report that `verify` takes */
 
 /* Fills `ledger`, which holds nothing, with a ledger for the book that the bytes spell, a CSV file as the programs read it; `length`
- * is without a terminating 0. Other outcomes: BEZGLAMI_IN_USE, BEZGLAMI_BAD_BOOK, BEZGLAMI_NO_MEMORY. */
+ * is without a terminating 0. Other outcomes: BEZGLAMI_OTHER_PROCESSOR, BEZGLAMI_IN_USE, BEZGLAMI_BAD_BOOK, BEZGLAMI_NO_MEMORY. */
 uint32_t bezglami_open(const uint8_t *book, size_t length, bezglami_handle *ledger, uint32_t *line, uint32_t *why);
 
 /* Fills `caller`, which holds nothing, with the caller of the next process of the ledger: the first is that of process 0.
@@ -220,7 +234,7 @@ uint32_t bezglami_return(bezglami_handle *caller);
 uint32_t bezglami_close(bezglami_handle *ledger);
 
 /* How many bytes the report has that the handle holds, and 0 where it holds none. Where `bytes` has room for so many, they are
- * written there, and no 0 behind them; where it hasn't, nothing is. To ask for the length alone give one byte's address and 0. */
+ * written there, and no 0 behind them; where it hasn't, nothing is. To ask for the length alone give NULL and 0. */
 size_t bezglami_report(bezglami_handle *ledger, uint8_t *bytes, size_t room);
 
 /* Frees what the handle holds, whatever it is, and leaves it with nothing. The board of a ledger goes with the last of its

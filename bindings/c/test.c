@@ -4,6 +4,7 @@
 
 #include <pthread.h>
 #include <sched.h>
+#include <signal.h>
 #include <stdatomic.h>
 #include <stdbool.h>
 #include <stdio.h>
@@ -271,6 +272,63 @@ static void test_limits(void) {
     EXPECT(pthread_join(thread, NULL) == 0 && pthread_attr_destroy(&small) == 0);
 }
 
+/* A pay-out has the most targets that the header says, and not one more. */
+static void test_targets(void) {
+    static const bezglami_target targets[BEZGLAMI_TARGETS_MOST + 1] = { { 1, 1 } };
+    bezglami_handle ledger = BEZGLAMI_NOTHING, ann = BEZGLAMI_NOTHING;
+    bezglami_answer answer;
+    open_new(BOOK, &ledger);
+    EXPECT(bezglami_caller(&ledger, 1, &ann) == BEZGLAMI_DONE);
+    EXPECT(bezglami_pay(&ann, 0, targets, BEZGLAMI_TARGETS_MOST + 1, &answer) == BEZGLAMI_NO_PAY_OUT);
+    EXPECT(paid(&ann, 0, targets, BEZGLAMI_TARGETS_MOST) == BEZGLAMI_REPLY_DONE);
+    bezglami_free(&ann);
+    bezglami_free(&ledger);
+}
+
+/* A book of the most accounts, each of the most owners, with names of 16 bytes. */
+static void test_longest_book(void) {
+    static char book[1 << 18];
+    bezglami_handle ledger = BEZGLAMI_NOTHING, ann = BEZGLAMI_NOTHING;
+    int n = sprintf(book, "book,2\nprocesses");
+    for (int p = 0; p < BEZGLAMI_PROCESSES_MOST; p++)
+        n += sprintf(book + n, ",p%015d", p);
+    n += sprintf(book + n, "\nlimits,%d,1\n", BEZGLAMI_OWN_ROOM_MOST);
+    for (int a = 0; a < BEZGLAMI_ACCOUNTS_MOST; a++) {
+        n += sprintf(book + n, "account,a%015d,5,", a);
+        for (int p = 0; p < BEZGLAMI_OWNERS_MOST; p++)
+            n += sprintf(book + n, "%sp%015d", p == 0 ? "" : " ", p);
+        n += sprintf(book + n, "\n");
+    }
+    open_new(book, &ledger);
+    EXPECT(bezglami_caller(&ledger, 2, &ann) == BEZGLAMI_DONE && replied(&ann, BEZGLAMI_ACCOUNTS_MOST - 1, 0, 5) == BEZGLAMI_REPLY_DONE && answered(&ann, 0, 10));
+    EXPECT(bezglami_return(&ann) == BEZGLAMI_DONE && bezglami_close(&ledger) == BEZGLAMI_DONE);
+    bezglami_free(&ledger);
+}
+
+enum { LONG = 100000 };
+
+/* More calls of one caller than a payment file may have, and a report of more bytes. */
+static void test_long_report(void) {
+    static char wanted[12 << 20];
+    static uint8_t report[sizeof wanted];
+    static const bezglami_target targets[] = { { 1, UINT64_MAX }, { 1, UINT64_MAX }, { 1, UINT64_MAX }, { 1, UINT64_MAX } };
+    bezglami_handle ledger = BEZGLAMI_NOTHING, ann = BEZGLAMI_NOTHING;
+    size_t n = (size_t)sprintf(wanted, "journal %d\n", LONG);
+    open_new(BOOK, &ledger);
+    EXPECT(bezglami_caller(&ledger, LONG, &ann) == BEZGLAMI_DONE);
+    for (int i = 1; i <= LONG; i++) {
+        EXPECT(paid(&ann, 3, targets, 4) == BEZGLAMI_REPLY_NOT_OWNER);
+        n += (size_t)sprintf(wanted + n, "0 %d pay 3", i);
+        for (int target = 0; target < 4; target++)
+            n += (size_t)sprintf(wanted + n, " 1 18446744073709551615");
+        n += (size_t)sprintf(wanted + n, " not-owner\n");
+    }
+    n += (size_t)sprintf(wanted + n, "balances 4\n0 500\n1 100\n2 300\n3 0\ntotal 900\n");
+    EXPECT(bezglami_return(&ann) == BEZGLAMI_DONE && bezglami_close(&ledger) == BEZGLAMI_DONE);
+    EXPECT(n > 8 << 20 && bezglami_report(&ledger, report, sizeof report) == n && memcmp(report, wanted, n) == 0);
+    bezglami_free(&ledger);
+}
+
 static void test_report(void) {
     static const char wanted[] = "journal 3\n0 1 transfer 0 1 30 done\n0 2 read 0 70\n0 3 read 1 30\nbalances 2\n0 70\n1 30\ntotal 100\n";
     const size_t length = sizeof wanted - 1;
@@ -484,11 +542,12 @@ static void test_words_of_replies(void) {
 /* The words of each outcome and of each cause are the header's. */
 static void test_words(void) {
     static const char *const outcomes[] = { "done", "wrong handle", "handle in use", "no memory", "bad book", "no caller left", "no such account", "no room for a receipt",
-        "no pay-out", "a caller is out", "no such process", "no note", "busy" };
+        "no pay-out", "a caller is out", "no such process", "no note", "busy", "null address", "handle in a call",
+        "other processor" };
     static const char *const causes[] = { "version", "shape", "number", "account order", "name", "name twice", "unknown owner", "no process",
         "too many processes", "no account", "too many accounts", "owner out of range", "owners not rising", "too many owners", "room out of range",
         "rounds over limit", "total over limit" };
-    for (uint32_t outcome = BEZGLAMI_DONE; outcome <= BEZGLAMI_BUSY; outcome++)
+    for (uint32_t outcome = BEZGLAMI_DONE; outcome <= BEZGLAMI_OTHER_PROCESSOR; outcome++)
         EXPECT(strcmp(bezglami_outcome_text(outcome), outcomes[outcome]) == 0);
     for (uint32_t why = BEZGLAMI_WHY_VERSION; why <= BEZGLAMI_WHY_TOTAL_OVER_LIMIT; why++)
         EXPECT(strcmp(bezglami_why_text(why), causes[why - BEZGLAMI_WHY_VERSION]) == 0);
@@ -603,6 +662,98 @@ static void test_notes_meanwhile(void) {
     bezglami_free(&ledger);
 }
 
+/* Each export answers what is null or in a call, where the ledger's handle and the caller's are these. */
+static void refuse_all(bezglami_handle *ledger, bezglami_handle *caller, uint32_t outcome) {
+    const bezglami_target target = { 1, 1 };
+    bezglami_answer answer = { 7, 7, 7, 7 };
+    uint32_t line = 9, why = 9;
+    EXPECT(bezglami_open((const uint8_t *)BOOK, sizeof BOOK - 1, ledger, &line, &why) == outcome && line == 9 && why == 9);
+    EXPECT(bezglami_caller(ledger, 9, caller) == outcome);
+    EXPECT(bezglami_transfer(caller, 0, 1, 1, &answer) == outcome && bezglami_pay(caller, 0, &target, 1, &answer) == outcome);
+    EXPECT(bezglami_read(caller, 0, &answer) == outcome && answer.reply == 7 && answer.steps == 7);
+    EXPECT(bezglami_note(caller, 0) == outcome && bezglami_learn(caller, 0) == outcome && bezglami_return(caller) == outcome);
+    EXPECT(bezglami_close(ledger) == outcome && bezglami_report(ledger, (uint8_t *)&answer, sizeof answer) == 0 && answer.reply == 7);
+    EXPECT(bezglami_steps(caller) == 0 && bezglami_exchanges(caller) == 0);
+    bezglami_free(ledger);
+    bezglami_free(caller);
+}
+
+/* Addresses that are null, and handles that a call has: nothing is lost by either. */
+static void test_refused(void) {
+    bezglami_handle ledger = BEZGLAMI_NOTHING, ann = BEZGLAMI_NOTHING, spare = BEZGLAMI_NOTHING;
+    bezglami_answer answer;
+    refuse_all(NULL, NULL, BEZGLAMI_NULL);
+    EXPECT(bezglami_open(NULL, 1, &ledger, NULL, NULL) == BEZGLAMI_NULL && bezglami_open(NULL, 0, &ledger, NULL, NULL) == BEZGLAMI_BAD_BOOK);
+    EXPECT(bezglami_open((const uint8_t *)BOOK, sizeof BOOK - 1, &ledger, NULL, NULL) == BEZGLAMI_DONE);
+    EXPECT(bezglami_caller(NULL, 9, &ann) == BEZGLAMI_NULL && bezglami_caller(&ledger, 9, NULL) == BEZGLAMI_NULL);
+    EXPECT(bezglami_caller(&ledger, 9, &ledger) == BEZGLAMI_IN_CALL && bezglami_caller(&ledger, 9, &ann) == BEZGLAMI_DONE);
+    EXPECT(bezglami_read(&ann, 0, NULL) == BEZGLAMI_NULL && bezglami_transfer(&ann, 0, 1, 1, NULL) == BEZGLAMI_NULL);
+    EXPECT(bezglami_pay(&ann, 0, NULL, 1, &answer) == BEZGLAMI_NULL && bezglami_pay(&ann, 0, NULL, 0, &answer) == BEZGLAMI_NO_PAY_OUT);
+    EXPECT(bezglami_pay(&ann, 0, &(bezglami_target){ 1, 1 }, 1, NULL) == BEZGLAMI_NULL && bezglami_steps(&ann) == 0);
+    ledger.in_call = ann.in_call = 1;
+    refuse_all(&ledger, &ann, BEZGLAMI_IN_CALL);
+    EXPECT(bezglami_caller(&ledger, 9, &spare) == BEZGLAMI_IN_CALL && ledger.in_call == 1 && ann.in_call == 1);
+    ledger.in_call = 0;
+    EXPECT(bezglami_caller(&ledger, 9, &ann) == BEZGLAMI_IN_CALL && bezglami_close(&ledger) == BEZGLAMI_CALLERS_OUT);
+    ann.in_call = 0;
+    EXPECT(answered(&ann, 0, 500) && bezglami_return(&ann) == BEZGLAMI_DONE && bezglami_close(&ledger) == BEZGLAMI_DONE);
+    EXPECT(bezglami_report(&ledger, NULL, 0) > 0 && bezglami_report(&ledger, NULL, 9) == bezglami_report(&ledger, NULL, 0));
+    EXPECT(has_report(&ledger, "journal 1\n0 1 read 0 500\nbalances 4\n0 500\n1 100\n2 300\n3 0\ntotal 900\n", true));
+    bezglami_free(&ledger);
+}
+
+static bezglami_handle shared_handle;
+static atomic_long shared_done, shared_refused;
+
+/* A read by the shared handle is made, or another call has the handle. */
+static void read_shared(void) {
+    bezglami_answer answer;
+    uint32_t outcome = bezglami_read(&shared_handle, 0, &answer);
+    EXPECT(outcome == BEZGLAMI_IN_CALL || (outcome == BEZGLAMI_DONE && answer.reply == BEZGLAMI_REPLY_BALANCE && answer.balance == 500));
+    ++*(outcome == BEZGLAMI_DONE ? &shared_done : &shared_refused);
+}
+
+static void read_at_signal(int signal) {
+    (void)signal;
+    read_shared();
+}
+
+enum { SHARED_CALLS = 100000 };
+
+static void *share_handle(void *unused) {
+    for (int call = 0; call < SHARED_CALLS; call++) {
+        bezglami_steps(&shared_handle);
+        read_shared();
+    }
+    return unused;
+}
+
+/* One caller's handle is given to calls of two threads at once, and of a signal handler that interrupts them: each call is made whole or
+ * answered, and the report has those that were made. */
+static void test_shared_handle(void) {
+    bezglami_handle ledger = BEZGLAMI_NOTHING;
+    pthread_t threads[2];
+    char wanted[64];
+    struct sigaction action = { .sa_handler = read_at_signal };
+    open_new(BOOK, &ledger);
+    EXPECT(bezglami_caller(&ledger, 1 << 20, &shared_handle) == BEZGLAMI_DONE && sigaction(SIGUSR1, &action, NULL) == 0);
+    for (int t = 0; t < 2; t++)
+        EXPECT(pthread_create(&threads[t], NULL, share_handle, NULL) == 0);
+    for (int signals = 0; signals < 1000; signals++) {
+        EXPECT(pthread_kill(threads[signals % 2], SIGUSR1) == 0);
+        sched_yield();
+    }
+    for (int t = 0; t < 2; t++)
+        EXPECT(pthread_join(threads[t], NULL) == 0);
+    EXPECT(shared_done > 0 && shared_done + shared_refused >= 2 * SHARED_CALLS);
+    EXPECT(bezglami_return(&shared_handle) == BEZGLAMI_DONE && bezglami_close(&ledger) == BEZGLAMI_DONE);
+    size_t length = bezglami_report(&ledger, NULL, 0), head = (size_t)snprintf(wanted, sizeof wanted, "journal %ld\n", (long)shared_done);
+    uint8_t *report = malloc(length);
+    EXPECT(report != NULL && bezglami_report(&ledger, report, length) == length && memcmp(report, wanted, head) == 0);
+    free(report);
+    bezglami_free(&ledger);
+}
+
 /* What is done again where memory was wanting, which it was once at most. */
 static bool again(uint32_t outcome, bool *refused) {
     EXPECT(outcome == BEZGLAMI_DONE || (outcome == BEZGLAMI_NO_MEMORY && !*refused));
@@ -668,6 +819,9 @@ int main(void) {
     test_misuse();
     test_bad_books();
     test_limits();
+    test_targets();
+    test_longest_book();
+    test_long_report();
     test_report();
     test_closed();
     test_order_of_closing();
@@ -682,6 +836,8 @@ int main(void) {
     test_stopped();
     test_closing_meanwhile();
     test_notes_meanwhile();
+    test_refused();
+    test_shared_handle();
     test_freed_half_closed();
     EXPECT(bezglami_version() == BEZGLAMI_VERSION);
     EXPECT(blocks == before);

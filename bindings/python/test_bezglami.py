@@ -2,7 +2,9 @@
 
 import gc
 import os
+import resource
 import signal
+import sys
 import unittest
 from concurrent.futures import ThreadPoolExecutor
 from contextlib import suppress
@@ -11,8 +13,8 @@ from unittest.mock import DEFAULT
 
 import bezglami
 from bezglami import (
-    BadBook, Busy, CallersOut, Error, Forked, InCall, Ledger, NoAccount, NoCaller, NoMemory, NoNote, NoPayOut, NoProcess, NoRoom, OtherVersion,
-    Reply, Why,
+    TARGETS_MOST, BadBook, Busy, CallersOut, Error, Forked, InCall, Ledger, NoAccount, NoCaller, NoMemory, NoNote, NoPayOut, NoProcess, NoRoom,
+    OtherProcessor, OtherVersion, Reply, Why,
 )
 
 BOOK = b"book,1\nprocesses,3\nlimits,100,20\naccount,0,500,0\naccount,1,100,1\naccount,2,300,0 1\naccount,3,0,\n"
@@ -63,6 +65,20 @@ class Calls(unittest.TestCase):
         for _ in range(99):
             ann.transfer(0, 0, 0)
         self.assertEqual(ann.transfer(0, 0, 0), (Reply.FULL, None, 0, 0))
+
+    def test_large_amounts(self):
+        ledger = Ledger(b"book,1\nprocesses,1\nlimits,9,9\naccount,0,18446744073709551615,0\naccount,1,0,\n")
+        caller = ledger.caller(9)
+        self.assertIs(caller.transfer(0, 1, 2**63 + 5).reply, Reply.DONE)
+        self.assertEqual(caller.read(1).balance, 2**63 + 5)
+        self.assertIs(caller.pay(0, [(1, 2**40)] * TARGETS_MOST).reply, Reply.DONE)
+        self.assertRaises(NoPayOut, caller.pay, 0, [(1, 2**40)] * (TARGETS_MOST + 1))
+        self.assertEqual(caller.read(0).balance, 2**63 - 6 - 2**42)
+
+    def test_a_large_room(self):
+        with Ledger(BOOK) as ledger, ledger.caller(65537) as ann:
+            self.assertEqual({ann.read(0).balance for _ in range(65537)}, {500})
+            self.assertRaises(NoRoom, ann.read, 0)
 
     def test_steps(self):
         _, (ann, _, carl) = three()
@@ -168,6 +184,17 @@ class Calls(unittest.TestCase):
         self.assertTrue(issubclass(NoCaller, Error))
         with mock.patch("bezglami._VERSION", 2):
             self.assertRaises(OtherVersion, Ledger, BOOK)
+
+    def test_errors_of_outcomes(self):
+        """The error of each outcome, by its number in the header."""
+        ledger = Ledger(BOOK)
+        ann = ledger.caller(9)
+        kinds = {3: NoMemory, 5: NoCaller, 6: NoAccount, 7: NoRoom, 8: NoPayOut, 9: CallersOut, 10: NoProcess, 11: NoNote, 12: Busy, 14: InCall,
+                 15: OtherProcessor}
+        for outcome, kind in kinds.items():
+            for export, use in [("read", ann.read), ("note", ann.note), ("learn", ann.learn), ("caller", ledger.caller)]:
+                with mock.patch.object(bezglami._library, "bezglami_" + export, return_value=outcome):
+                    self.assertRaises(kind, use, 1)
 
     def test_words_of_errors(self):
         ledger = Ledger(BOOK)
@@ -278,6 +305,33 @@ class Calls(unittest.TestCase):
         ledger.free()
         del ledger, ann
         gc.collect()
+
+    def test_one_caller_of_many_threads(self):
+        """Threads that use one caller do so one after another."""
+        ledger = Ledger(BOOK)
+        before = sys.getswitchinterval()
+        sys.setswitchinterval(1e-6)
+        try:
+            with ledger.caller(2000) as ann, ThreadPoolExecutor(8) as threads:
+                found = list(threads.map(lambda _: [ann.read(0).balance for _ in range(250)], range(8)))
+        finally:
+            sys.setswitchinterval(before)
+        self.assertEqual(found, [[500] * 250] * 8)
+        self.assertTrue(ledger.close().startswith("journal 2000\n"))
+
+    def test_what_is_collected(self):
+        """What is let go of is freed: of 60 ledgers of 4 MiB and more the memory of a few is enough."""
+        book = b"book,1\nprocesses,16\nlimits,4096,1\n" + b"".join(b"account,%d,5,%d\n" % (p, p) for p in range(16))
+        for time in range(65):
+            ledger = Ledger(book)
+            for caller in ledger.callers(4096):
+                caller.transfer(caller.process, 0, 1)
+            del caller
+            if time % 2 == 0:
+                ledger.close()
+            if time == 4:
+                most = resource.getrusage(resource.RUSAGE_SELF).ru_maxrss
+        self.assertLess(resource.getrusage(resource.RUSAGE_SELF).ru_maxrss, most + 60 * 1024)
 
     def test_threads(self):
         book = b"book,1\nprocesses,16\nlimits,4096,1000\naccount,0,10000,0 1 2 3 4 5 6 7\n"

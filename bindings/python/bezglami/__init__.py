@@ -23,13 +23,13 @@ from typing import ClassVar, NamedTuple, NoReturn, TypeVar
 
 __all__ = [
     "TARGETS_MOST", "BadBook", "Busy", "Caller", "CallersOut", "Error", "Forked", "InCall", "Ledger", "NoAccount", "NoCaller", "NoMemory",
-    "NoNote", "NoPayOut", "NoProcess", "NoRoom", "OtherVersion", "Receipt", "Reply", "Why",
+    "NoNote", "NoPayOut", "NoProcess", "NoRoom", "OtherProcessor", "OtherVersion", "Receipt", "Reply", "Why",
 ]
 
 TARGETS_MOST = 4
 """The most targets that a pay-out has."""
 
-_VERSION = 3
+_VERSION = 4
 """The version of the header that this module was written by."""
 
 
@@ -119,6 +119,10 @@ class OtherVersion(Error):
     """The library is of another version than this module."""
 
 
+class OtherProcessor(Error):
+    """The processor lacks instructions of x86-64-v2, for which the library is compiled."""
+
+
 class Reply(Enum):
     """The reply of a call."""
 
@@ -139,7 +143,7 @@ class Receipt(NamedTuple):
 
 
 class _Handle(ctypes.Structure):
-    _fields_ = [("at", ctypes.c_void_p)]
+    _fields_ = [("at", ctypes.c_void_p), ("in_call", ctypes.c_uint32)]
 
 
 class _Answer(ctypes.Structure):
@@ -190,6 +194,7 @@ _library = _load()
 _wrong_handle, _bad_book, _no_caller, _busy = 1, 4, 5, 12
 _errors: dict[int, type[Error]] = {
     3: NoMemory, _no_caller: NoCaller, 6: NoAccount, 7: NoRoom, 8: NoPayOut, 9: CallersOut, 10: NoProcess, 11: NoNote, _busy: Busy,
+    14: InCall, 15: OtherProcessor,
 }
 
 
@@ -355,7 +360,7 @@ def _number(number: int) -> int:
 
 
 class Ledger(_Holder):
-    """A ledger for the book that the bytes spell. Raises BadBook, NoMemory and OtherVersion.
+    """A ledger for the book that the bytes spell. Raises BadBook, NoMemory, OtherVersion and OtherProcessor.
 
     It is freed at the end of a `with`, by `free`, and else when it is collected.
     """

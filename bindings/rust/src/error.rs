@@ -34,6 +34,8 @@ pub enum Error {
         /// The version that the library tells.
         library: u32,
     },
+    /// The processor lacks instructions of x86-64-v2, for which the library is compiled.
+    OtherProcessor,
 }
 
 impl fmt::Display for Error {
@@ -52,6 +54,7 @@ impl fmt::Display for Error {
             Error::NoNote => f.write_str("the process has left no note"),
             Error::Busy => f.write_str("another thread is reaching for the same note"),
             Error::OtherVersion { library } => write!(f, "the library is of version {library}"),
+            Error::OtherProcessor => f.write_str("the processor lacks instructions of x86-64-v2"),
         }
     }
 }

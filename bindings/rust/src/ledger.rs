@@ -28,7 +28,7 @@ impl Ledger {
     ///
     /// # Errors
     ///
-    /// [`Error::BadBook`], [`Error::NoMemory`] and [`Error::OtherVersion`].
+    /// [`Error::BadBook`], [`Error::NoMemory`], [`Error::OtherVersion`] and [`Error::OtherProcessor`].
     pub fn open(book: &[u8]) -> Result<Ledger, Error> {
         let handle = Handle::open(book)?;
         Ok(Ledger {

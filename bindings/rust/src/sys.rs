@@ -7,7 +7,7 @@ use std::ptr;
 use std::sync::atomic::{AtomicPtr, Ordering};
 
 /// The version of the header that this module was written by.
-const VERSION: u32 = 3;
+const VERSION: u32 = 4;
 
 const DONE: u32 = 0;
 const WRONG_HANDLE: u32 = 1;
@@ -22,6 +22,9 @@ const CALLERS_OUT: u32 = 9;
 const NO_PROCESS: u32 = 10;
 const NO_NOTE: u32 = 11;
 const BUSY: u32 = 12;
+const NULL: u32 = 13;
+const IN_CALL: u32 = 14;
+const OTHER_PROCESSOR: u32 = 15;
 
 /// What a call answered, as the library writes it.
 #[repr(C)]
@@ -72,6 +75,7 @@ extern "C" {
 #[repr(C)]
 pub(crate) struct Handle {
     at: *mut c_void,
+    in_call: u32,
 }
 
 // SAFETY: the library lets a handle go to another thread between two calls, where something orders the two. Whatever moves a value of
@@ -101,7 +105,9 @@ fn done(outcome: u32) -> Result<(), Error> {
         NO_PROCESS => Err(Error::NoProcess),
         NO_NOTE => Err(Error::NoNote),
         BUSY => Err(Error::Busy),
+        OTHER_PROCESSOR => Err(Error::OtherProcessor),
         WRONG_HANDLE | IN_USE => unreachable!("the library has lost what a handle holds"),
+        NULL | IN_CALL => unreachable!("a handle is lent to one call at a time"),
         other => unreachable!("the library answered {other}, which its header doesn't have"),
     }
 }
@@ -154,6 +160,7 @@ impl Handle {
     const fn nothing() -> Handle {
         Handle {
             at: ptr::null_mut(),
+            in_call: 0,
         }
     }
 
@@ -338,6 +345,26 @@ fn return_aside() {
 #[cfg(test)]
 mod tests {
     use super::*;
+
+    /// The error of each outcome, by its number in the header.
+    #[test]
+    fn outcomes() {
+        assert_eq!(done(0), Ok(()));
+        for (number, error) in [
+            (3, Error::NoMemory),
+            (5, Error::NoCaller),
+            (6, Error::NoAccount),
+            (7, Error::NoRoom),
+            (8, Error::NoPayOut),
+            (9, Error::CallersOut),
+            (10, Error::NoProcess),
+            (11, Error::NoNote),
+            (12, Error::Busy),
+            (15, Error::OtherProcessor),
+        ] {
+            assert_eq!(done(number), Err(error));
+        }
+    }
 
     /// A caller that was put aside goes back with the next one, or with the closing of its ledger. Where its own is gone it is lost.
     #[test]

@@ -1,6 +1,6 @@
 //! Each kind of call, each error, notes, closing, and threads.
 
-use bezglami::{Caller, Error, Ledger, Reply, Report, Target, Why};
+use bezglami::{Caller, Error, Ledger, Reply, Report, Target, Why, TARGETS_MOST};
 use std::mem;
 use std::thread;
 
@@ -54,6 +54,68 @@ fn replies() {
     }
     let full = callers[0].transfer(0, 0, 0).unwrap();
     assert_eq!((full.reply, full.steps), (Reply::Full, 0));
+}
+
+/// No amount, balance or number of targets is cut.
+#[test]
+fn large_amounts() {
+    let book = b"book,1\nprocesses,1\nlimits,9,9\naccount,0,18446744073709551615,0\naccount,1,0,\n";
+    let mut caller = Ledger::open(book).unwrap().caller(9).unwrap();
+    let (large, most) = ((1 << 63) + 5, u64::MAX);
+    assert!(caller.transfer(0, 1, large).unwrap().reply.is_done());
+    assert_eq!(caller.read(1).unwrap().reply, Reply::Balance(large));
+    let target = Target {
+        account: 1,
+        amount: 1 << 40,
+    };
+    assert!(caller
+        .pay(0, &[target; TARGETS_MOST])
+        .unwrap()
+        .reply
+        .is_done());
+    let five = caller.pay(0, &[target; TARGETS_MOST + 1]).unwrap_err();
+    assert_eq!(five, Error::NoPayOut);
+    let left = most - large - (4 << 40);
+    assert_eq!(caller.read(0).unwrap().reply, Reply::Balance(left));
+}
+
+#[test]
+fn a_large_room() {
+    let mut ledger = Ledger::open(BOOK).unwrap();
+    let mut caller = ledger.caller(65_537).unwrap();
+    for _ in 0..65_537 {
+        assert_eq!(caller.read(0).unwrap().reply, Reply::Balance(500));
+    }
+    assert_eq!(caller.read(0).unwrap_err(), Error::NoRoom);
+}
+
+/// The words of each error.
+#[test]
+fn words_of_errors() {
+    for (error, words) in [
+        (Error::NoMemory, "no memory"),
+        (Error::NoCaller, "the caller of each process was handed out"),
+        (Error::NoAccount, "no such account"),
+        (Error::NoRoom, "no room for one more receipt"),
+        (Error::NoPayOut, "a pay-out has from 1 to 4 targets"),
+        (
+            Error::CallersOut,
+            "a caller of the ledger wasn't given back",
+        ),
+        (Error::NoProcess, "no such process"),
+        (Error::NoNote, "the process has left no note"),
+        (Error::Busy, "another thread is reaching for the same note"),
+        (
+            Error::OtherVersion { library: 2 },
+            "the library is of version 2",
+        ),
+        (
+            Error::OtherProcessor,
+            "the processor lacks instructions of x86-64-v2",
+        ),
+    ] {
+        assert_eq!(error.to_string(), words);
+    }
 }
 
 /// The word of each reply is that of the report.
