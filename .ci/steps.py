@@ -151,6 +151,7 @@ class Check:
         for named in file.attributes:
             if not named.path.startswith(lists.ATTRIBUTES):
                 self.say(where, named, "an attribute that is not listed")
+        self.exports(where, file)
         self.kept(crate, where, file)
 
     def path(self, crate, where, named, path):
@@ -186,6 +187,12 @@ class Check:
             return
         if head not in meanings and head not in self.declared and head not in lists.PRELUDE:
             self.say(where, named, "a type that is not listed")
+
+    def exports(self, where, file):
+        """What programs in C see are the functions of the header, by names that no other library has."""
+        exported = [it for it in file.attributes if it.path == lists.EXPORT]
+        if len(exported) != sum(it.name.startswith("bezglami_") for it in file.functions):
+            self.faults.append(f"{where}: an export that isn't named bezglami_")
 
     def kept(self, crate, where, file):
         """Notes each word that is kept to its places."""

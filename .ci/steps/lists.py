@@ -14,7 +14,7 @@ EVERYWHERE = paths("""
     std::cmp::Reverse std::fmt::Debug std::fmt::Display std::hash::Hash std::hash::Hasher std::mem::drop std::mem::replace
     std::collections::BTreeMap std::collections::BTreeMap::new std::collections::BTreeSet std::collections::BTreeSet::new
     std::collections::HashSet std::collections::HashSet::new std::collections::LinkedList
-    std::collections::VecDeque std::collections::VecDeque::from std::marker::PhantomData
+    std::collections::VecDeque std::collections::VecDeque::from std::collections::VecDeque::new std::marker::PhantomData
     arrayvec::ArrayVec arrayvec::ArrayVec::from arrayvec::ArrayVec::new itoa::Buffer::new
 """)
 
@@ -75,14 +75,15 @@ METHODS = set("""
     all alloc any as_bytes as_mut_slice as_ref as_str capacity checked_add checked_mul checked_sub clear contains copied copy_from_slice
     enumerate extend_from_slice filter flexible flush format free from_reader get get_index_of get_mut has_headers insert into_iter
     is_ascii_digit is_ascii_lowercase is_empty is_err is_none is_null is_ok is_some iter iter_mut len map map_err max min new next
-    partition_point pop pop_first pop_front push push_reserved read_byte_record reserve resize saturating_add saturating_mul saturating_sub
+    partition_point pop pop_first pop_front push push_back_reserved push_reserved read_byte_record reserve resize retain saturating_add saturating_mul saturating_sub
     skip split_at split_first stderr stdout strip_prefix take to_be_bytes to_vec truncate try_extend_from_slice unwrap unwrap_or wrapping_add wrapping_mul zip
 """.split())
 
 MACROS = {"matches", "unreachable", "vec"}
 # Who prints: a write may wait.
 PRINTS = ["at_example"]
-ATTRIBUTES = ("cfg ( test )", "derive ( ", "error ( ", "error_bound", "inline ( always )", "repr ( C )", "tactic ( ", "unsafe ( no_mangle )")
+EXPORT = "unsafe ( no_mangle )"
+ATTRIBUTES = ("cfg ( test )", "derive ( ", "error ( ", "error_bound", "inline ( always )", "repr ( C )", "tactic ( ", EXPORT)
 
 # The traits of others that crates implement. What calls a method of a trait may be any crate below.
 TRAITS = [
@@ -141,7 +142,7 @@ KEPT_IN = [
     ([*OBJECT, "at_workers", "at_c"], set("""
         Box::new vec push reserve resize insert append extend_from_slice try_extend_from_slice to_vec with_capacity from_array from_slice
     """.split())),
-    (OBJECT, {"Global"}),
+    ([*OBJECT, "at_workers"], {"Global"}),
 ]
 
 # In a function with one of these words all is run once and in order: it has no loop, no closure, no branch and no early end.
@@ -247,6 +248,7 @@ PLACES = """
     at_broadcast/progress.rt settle: while
     at_broadcast/progress.rt store: store
     at_broadcast/progress.rt store_all: store
+    at_logs/compact.rt settle: while
     at_commands/commanding.rt answer_by: FnOnce
     at_commands/commanding.rt command_text: FnOnce load
     at_commands/given.rt words_given: AllocGlobal
@@ -256,8 +258,8 @@ PLACES = """
     at_commands/playing.rt jobs_for: map_vec
     at_commands/playing.rt make_calls: run_all
     at_program/main.rt main: HostRuntime
-    at_workers/job.rt new: with_capacity
-    at_workers/job.rt noting: with_capacity
+    at_workers/job.rt new: Global with_capacity
+    at_workers/job.rt noting: Global with_capacity
     at_workers/running.rt run_all: for_each_mut
     at_example/main.rt closed_after: Ledger::new
     at_example/main.rt main: HostRuntime

@@ -76,8 +76,12 @@ class Walk:
         while at < len(tokens):
             token = tokens[at]
             if token.is_mark("#"):
-                at += 2 if at + 1 < len(tokens) and tokens[at + 1].is_mark("!") else 1
-                attributes.append(self.attribute(tokens[at]))
+                is_inner = at + 1 < len(tokens) and tokens[at + 1].is_mark("!")
+                at += 2 if is_inner else 1
+                said = self.attribute(tokens[at])
+                if is_inner and said == TESTS:
+                    raise Unreadable(f"line {token.line}: what only tests read is a module in a file of its own")
+                attributes += [] if is_inner else [said]
                 at += 1
                 continue
             at = self.passed(tokens, at) if TESTS in attributes else self.one(tokens, at)

@@ -35,19 +35,48 @@ def is_good(record, book, process, number, call):
 
 
 def made(text):
-    """How many steps and exchanges each call makes by a text of `costs`, by process and line."""
+    """How many steps and exchanges each call makes by a text of `costs`, and how many records it counts anew, by process and line."""
     records = [record.split(",") for record in text.split("\n")[1:-1]]
-    return {(process, line): [int(steps), int(exchanges)] for process, line, *_, steps, exchanges, _, _, _ in records}
+    return {(process, line): [int(steps), int(exchanges), int(new)] for process, line, *_, steps, exchanges, new, _, _ in records}
 
 
 def made_by_turns(text):
-    """The same by a text of `trace`."""
+    """The same by a text of `trace`: a record of another process is counted once its first word is loaded."""
     calls = {}
     for record in text.split("\n")[1:-1]:
-        _, process, line, step, _, _ = record.split(",")
-        call = calls.setdefault((process, line), [0, 0])
+        _, process, line, step, word, _ = record.split(",")
+        call = calls.setdefault((process, line), [0, 0, 0])
         call[0] += step != "none"
         call[1] += step == "exchange"
+        parts = word.split()
+        call[2] += step == "load" and parts[0] == "record" and parts[1] != process and parts[3] == "0"
+    return calls
+
+
+def made_in_turn(book, files, order):
+    """The same, reckoned from the book and the files alone, where the processes make their calls one after another in this order. A look is
+    two collects, and the loads of the records that are new; a record has a store for each word and one more. Who asks on a shared account
+    loads the announced word of each owner, and the last request of each that has asked before; then it looks again, decides, and loads its
+    own request."""
+    n, calls = len(book.processes), {}
+    journal, _ = model.play(book, files, [p for p in order for _ in files[p]])
+    published, seen, asked = [0] * n, [0] * n, {}
+    for line in journal:
+        p, kind = line.process, model.kind_of(book, line.process, line.call)
+        made = calls.setdefault((book.processes[p], str(line.number)), [0, 0, 0])
+        if line.answer in ("not-owner", "full"):
+            continue
+        others = sum(published) - published[p]
+        new, seen[p] = others - seen[p], others
+        made[:] = [2 * n + 7 * new, 0, new]
+        if kind == "agreed":
+            owners, askers = book.accounts[line.call.account].owners, asked.setdefault(line.call.account, set())
+            made[0] += 7 + len(owners) + 6 * len(askers - {p}) + 2 * n + 1 + 6
+            made[1] = 1
+            askers.add(p)
+        if kind == "agreed" or line.answer == "done":
+            made[0] += n + 8
+            published[p] += 1
     return calls
 
 

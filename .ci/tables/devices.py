@@ -1,16 +1,25 @@
 """Devices that fail: calls that open or read a file, outputs with little room, reads and writes that move less than was asked."""
 
+import errno
+import os
 import random
+import threading
+import time
 from itertools import product
 
 from tables.shim import over
-from tables.trying import EXAMPLES, Case, expect, is_true, lines, printed, refused
+from tables.trying import EXAMPLES, Case, expect, is_true, lines, printed, ran, refused
 
 USUAL = ["run", "usual/book.csv", "usual/pay0.csv"]
 DELIVER = ["deliver", "deliver/book.csv", "deliver/order.csv", "deliver/send0.csv", "deliver/send1.csv"]
 REPORT = (EXAMPLES / "usual" / "usual.report").read_bytes()
 MOST = 8388608
 DRAWN = 50
+# Names of files, as they are written and as the words have them: each is that of one file and of no other.
+NAMES = [(name, name) for name in (
+    "b", " b", "b ", "a b", " ", "-", "--", "--book", "B", "b.", "~", "*", "$HOME", "%62", "'b'", '"b"', "b\\n", "b\tb", "b\nb", "@b", "#b", "b,1", "file:b",
+    "b\u00fcch", "x" * 255,
+)] + [("far", "./" * 2000 + "far")]
 # Words by which a file of each kind is the longest, and its number: it is the last one that is read.
 LONGEST = {
     "book": (["check", "long", "few"], 0),
@@ -33,6 +42,65 @@ def each_call_fails(folder, grain, reads, paid):
 def no_further_call(folder, grain, calls):
     """There are no more calls than these."""
     printed(over(folder, *USUAL, GRAIN=grain, FAIL=calls + 1), REPORT)
+
+
+def put_sixteen(folder):
+    """Writes a book of sixteen processes, a file for each, and their report. It gives the files in the order of their numbers."""
+    folder.write("book", lines("book,1", "processes,16", "limits,4,4", "account,0,5,0"))
+    pays = [folder.write(str(p), "read,0\n") for p in range(16)]
+    folder.write("report", ran(folder, "run", "book", *pays))
+    return ["book", *pays, "report"]
+
+
+def each_of_sixteen_fails(folder):
+    """Each of the most files is missing in turn, and each call that opens or reads one fails in turn: it is opened, and read twice."""
+    files = put_sixteen(folder)
+    for number in range(len(files)):
+        book, *pays, report = files[:number] + ["nothing"] + files[number + 1 :]
+        refused(folder.run("verify", book, report, *pays), 5, f"read fault: file {number}")
+        for call in range(3 * number + 1, 3 * number + 4):
+            refused(over(folder, "verify", "book", "report", *files[1:-1], FAIL=call), 5, f"read fault: file {number}")
+    return f"{3 * len(files)} calls"
+
+
+def each_error(folder):
+    """A read that fails is a fault, whatever the error is."""
+    for name in ("EINTR", "EAGAIN", "EBADF", "EISDIR", "EINVAL", "ENOMEM", "EACCES", "ESTALE", "ENOTCONN"):
+        for call in (2, 3, 5, 6):
+            refused(over(folder, *USUAL, FAIL=call, ERRNO=getattr(errno, name)), 5, f"read fault: file {int(call > 3)}")
+
+
+def named(folder):
+    """A word is the name of a file as it stands, beside files with names that are like it."""
+    folder.write("pay", "read,0\n")
+    for number, (name, _) in enumerate(NAMES):
+        folder.write(name, lines("book,1", "processes,1", "limits,4,4", f"account,0,{number},0"))
+    for number, (_, word) in enumerate(NAMES):
+        report = lines("journal 1", f"0 1 read 0 {number}", "balances 1", f"0 {number}", f"total {number}")
+        printed(folder.run("run", os.fsencode(word), "pay"), report)
+    for number, (name, _) in enumerate(NAMES):
+        folder.write(name, "read,0\n" * number)
+    for number, (_, word) in enumerate(NAMES):
+        printed(folder.run("check", "usual/book.csv", os.fsencode(word)), f"checked 1 2 {number}\n")
+    return f"{len(NAMES)} names"
+
+
+def piped(folder, seed):
+    """A file that is a pipe, into which a few bytes are written at a time, is read to its end."""
+    pipe, draw = folder.path / "pipe", random.Random(seed)
+    os.mkfifo(pipe)
+
+    def write():
+        left = b"read,0\n" * 9000
+        with open(pipe, "wb", buffering=0) as file:
+            while left:
+                left = left[file.write(left[: draw.randint(1, 3000)]) :]
+                time.sleep(0.002)
+
+    writer = threading.Thread(target=write, daemon=True)
+    writer.start()
+    printed(folder.run("check", "usual/book.csv", "pipe"), "checked 1 2 9000\n")
+    writer.join()
 
 
 def put_longest(folder):
@@ -110,6 +178,26 @@ def short_writes(folder, grains):
     return f"{len(text)} bytes, {len(grains)} sizes"
 
 
+def full_late(folder, grain, nothing):
+    """A disk that is full after a thousand writes and more is a write fault, and one that then takes nothing and tells no error."""
+    words = put_most_calls(folder)
+    text = folder.run(*words).out
+    draw = random.Random(grain)
+    for room in (len(text) - 1, draw.randrange(len(text)), draw.randrange(len(text))):
+        expect(over(folder, *words, ROOM=room, GRAIN=grain, **nothing), 6, text[:room], b"write fault\n")
+    return f"{len(text)} bytes"
+
+
+def in_drawn_pieces(folder, grain, seeds):
+    """Files and streams that give and take another number of bytes each time change nothing."""
+    folder.write("reads", "read,0\n" * 4000)
+    for seed in seeds:
+        answer = over(folder, "run", "usual/book.csv", "reads", GRAIN=grain, VARY=seed)
+        folder.write("report", answer.out)
+        printed(over(folder, "verify", "usual/book.csv", "report", "reads", GRAIN=grain, VARY=seed), "verified 4000\n")
+        printed(over(folder, *USUAL, GRAIN=grain, VARY=seed), REPORT)
+
+
 def in_pieces(folder, grain):
     """Files and streams that give and take so many bytes at a time change nothing."""
     printed(over(folder, *USUAL, GRAIN=grain), REPORT)
@@ -165,4 +253,12 @@ def cases():
         yield Case(f"a refusal, {grain} bytes at a time", refused_in_pieces, grain)
     for grain in (16384, 4096, 1):
         yield Case(f"a report of more than 50,000 bytes, written and read back {grain} bytes at a time", read_back, grain)
+    for grain in (16384, 1000, 20):
+        yield Case(f"drawn numbers of bytes at a time, {grain} at most", in_drawn_pieces, grain, range(1, 6))
+    for grain, nothing in ((1000, {}), (100, {}), (1000, {"NOTHING": "too"})):
+        yield Case(f"a disk that is full late, which takes {grain} bytes at once{', and tells no error' if nothing else ''}", full_late, grain, nothing)
+    yield Case("each of eighteen files is missing or fails", each_of_sixteen_fails)
+    yield Case("each error of a read", each_error)
+    yield Case("names of files as they stand", named)
+    yield Case("a file that is a pipe", piped, 1)
     yield Case("an empty name", empty_name)

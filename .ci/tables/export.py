@@ -159,6 +159,12 @@ BESIDE = [
         "book": book_of("ann", "1,1", "ann,1000,ann", "bob,725,"), "ann": pays("ann,bob,1250")},
         {"open.csv": "Ann,10\nBob,7.25\n"},
         "openings, as open.csv has them, and 0 of each other account:\n  ann 1000, of 1250 needed\n  bob 725\n"),
+    ("openings of accounts that no payment names", FROM + "Ann,Shop,12.5,Joint\n", ["--joint", "joint.csv", "--openings", "open.csv"], {
+        "book": book_of("ann,bob", "1,1", "joint,2000,ann bob", "shop,0,", "internet,3999,", "bob,0,bob"),
+        "ann": pays("joint,shop,1250"), "bob": ""},
+        JOINT | {"open.csv": "joint,20\ninternet,39.99\nbob,0\n"},
+        "openings, as open.csv has them, and 0 of each other account:\n  joint 2000\n"
+        "  internet 3999: no payment names it, and nobody owns it\n  bob 0: no payment names it, and bob owns it\n"),
     ("openings that are chosen are told", "payer,payee,amount,currency\nAnn,Bob,12.5,EUR\n", [], {
         "book": book_of("ann", "1,1", "ann,125,ann", "bob,0,"), "ann": pays("ann,bob,125")}, {},
         "1 payments, 1 processes, 2 accounts; amounts in units of 0.1 EUR\n"
@@ -304,9 +310,10 @@ REFUSED_BESIDE = [
         f'paid.csv: line 2: found "ann": it pays 1025 times from joint, and has room for 1024: {LATER}']),
     ("many owners, who have less room", FROM + "Ann,Shop,5,Joint\n" * 513, *SHARED, "joint,ann b c d e f g h\nother,ann b c d e f g h\n", [
         f'paid.csv: line 2: found "ann": it pays 513 times from joint, and has room for 512: {LATER}']),
-    ("openings of no account, and below 0", HEAD + "1,Ann,Bob,5\n", "open.csv", "--openings", "Carl,5\nann,-1\n", [
-        f'open.csv: line {line}: column 2: found "{text}": {name} is no account of the book, or opens below 0: correct the line'
-        for line, text, name in ((1, "5", "carl"), (2, "-1", "ann"))]),
+    ("openings below 0", HEAD + "1,Ann,Bob,5\n", "open.csv", "--openings", "Carl,5\nann,-1\n", [
+        'open.csv: line 2: column 2: found "-1": ann opens below 0: correct the line']),
+    ("openings of more accounts than a book has", HEAD + "1,Ann,Bob,5\n", "open.csv", "--openings", "".join(f"a{i},0\n" for i in range(1024)), [
+        'open.csv: line 1023: column 2: found "0": a1022 is one account more than 1024, the most: take lines out']),
     ("an opening that is no amount", HEAD + "1,Ann,Bob,5\n", "open.csv", "--openings", "ann,much\n", [
         f'open.csv: line 1: column 2: found "much": {PLAIN}']),
     ("openings over 64 bits", HEAD + "1,Ann,Bob,5\n", "open.csv", "--openings", "ann,18446744073709551615\nbob,1\n", [
@@ -374,9 +381,9 @@ def covers(folder):
 
 
 def guide(folder):
-    """The words of docs/export.md make what is said there."""
+    """The words of docs/formats.md make what is said there."""
     (folder.path / "examples").symlink_to(EXAMPLES)
-    text = (ROOT / "docs" / "export.md").read_text("utf-8")
+    text = (ROOT / "docs" / "formats.md").read_text("utf-8")
     words = next(line for line in text.splitlines() if line.startswith("./bezglami import ")).split()[1:]
     answer = folder.run(*words, program=ROOT / "bezglami")
     expect(answer, 0, answer.out, b"")

@@ -4,7 +4,8 @@ messages, deliveries and bytes."""
 from functools import lru_cache
 
 from tables import costs, model
-from tables.trying import Case, expect, is_true, lines, printed, ran
+from tables.shim import over
+from tables.trying import Case, expect, is_true, lines, printed, ran, refused
 
 PROCESSES = range(16)
 PAYS = [f"{p}" for p in PROCESSES]
@@ -137,6 +138,69 @@ def longest_report(folder):
     printed(folder.run("verify", "book", "report", *pays), f"verified {number}\n")
 
 
+def forged_at_the_end(folder):
+    """A report of the most calls whose last line has another reply is refused for that line."""
+    put_largest(folder, 16384)
+    report = folder.run("run", "book", *PAYS).out.decode().split("\n")
+    last = report[262144]
+    call, _, reply = last.rpartition(" ")
+    report[262144] = f"{call} {int(reply) + 1 if reply.isdigit() else 'full' if reply == 'done' else 'done'}"
+    folder.write("report", "\n".join(report))
+    told = f"report: line 262145: not legal\n  report, line 262145: expected: {last}"
+    refused(folder.run("verify", "book", "report", *PAYS), 12, told)
+
+
+def longest_text(folder):
+    """A report of more bytes than a file may have, of pay-outs of the longest form that are answered not-owner. A disk that is full before its
+    end takes what it has room for."""
+    names = put_longest_names(folder)
+    call = "from-12345678901" + " to-1234567890123 18446744073709551615" * 4
+    pays = [folder.write(name, f"pay,{call.replace(' ', ',')}\n" * 16384) for name in names]
+    answer = folder.run("run", "book", *pays)
+    text = done(answer)
+    wanted = [f"{name} {i} pay {call} not-owner" for name in names for i in range(1, 16385)]
+    left = ["balances 2", "from-12345678901 7", "to-1234567890123 5", "total 12"]
+    is_true(text[0] == "journal 49152" and sorted(text[1:-4]) == sorted(wanted) and text[-4:] == left, "it has other lines")
+    for room in (8388608, len(answer.out) - 1):
+        cut = over(folder, "run", "book", *pays, ROOM=room)
+        is_true(len(answer.out) > room and (cut.status, len(cut.out), cut.err) == (6, room, b"write fault\n"), f"status {cut.status}, {len(cut.out)} bytes")
+
+
+def eight_owners(folder):
+    """A book of 1,024 accounts, each of eight owners and with the longest names. Each owner asks for what the account opens with, which one gets."""
+    processes = [f"p{p}-".ljust(16, "x") for p in PROCESSES]
+    accounts = [model.Account(f"a{a}-".ljust(16, "x"), 1, sorted((a + 2 * slot) % 16 for slot in range(8))) for a in range(1024)]
+    book = model.Book(processes, 4096, 1, accounts, 2)
+    own = [[a for a, account in enumerate(accounts) if p in account.owners] for p in PROCESSES]
+    files = [[model.Call("transfer", a, [((a + 1) % 1024, 1)]) for a in own[p]] + [model.Call("read", p, [])] for p in PROCESSES]
+    folder.write("book", model.csv(model.book_records(book)))
+    for p, file in enumerate(files):
+        folder.write(str(p), model.csv(model.file_records(book, file)))
+    model.is_report(book, files, ran(folder, "run", "book", *PAYS).decode())
+    model.is_ledger(book, files, folder.run("ledger", "book", *PAYS).out.decode())
+    printed(folder.run("kinds", "book", *PAYS), model.kinds_text(book, files))
+    printed(folder.run("needs", "book", *PAYS), model.needs_text(book, files))
+    found = costs.fault(book, files, folder.run("costs", "book", *PAYS).out.decode())
+    is_true(found is None, found)
+
+
+def sums_needs(folder):
+    """The needs of the most calls."""
+    put_largest(folder, 16384)
+    printed(folder.run("needs", "book", *PAYS), model.needs_text(*loaded(folder)))
+
+
+def orders_most(folder):
+    """The orders of the most calls, which the openings cover: each process reads the account of the one before it, which pays once."""
+    folder.write("book", lines("book,1", "processes,16", "limits,4,4", *(f"account,{p},5,{p}" for p in PROCESSES), "account,16,0,"))
+    for p in PROCESSES:
+        folder.write(str(p), f"read,{(p - 1) % 16}\n" * 16383 + f"transfer,{p},16,1\n")
+    rows = ["process,line,call,account,kind,replies"]
+    for p in PROCESSES:
+        rows += [f"{p},{i},read,{(p - 1) % 16},read,4 5" for i in range(1, 16384)] + [f"{p},16384,transfer,{p},alone,done"]
+    printed(folder.run("orders", "book", *PAYS), lines(*rows))
+
+
 def counts_kinds(folder):
     """The kinds of the most calls."""
     put_largest(folder, 16384)
@@ -178,6 +242,11 @@ def cases():
         ("a page at the limits", shows),
         ("the most messages and deliveries", delivers),
         ("a right report of the most bytes", longest_report),
+        ("a report of the most calls that is wrong at its end", forged_at_the_end),
+        ("a report of more bytes than a file may have", longest_text),
+        ("the most owners of all accounts", eight_owners),
+        ("the needs of the most calls", sums_needs),
+        ("the orders of the most calls", orders_most),
         ("the kinds of the most calls", counts_kinds),
         ("the costs of the most calls", costs_most),
         ("a payment makes more than one exchange", helps),

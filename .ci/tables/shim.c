@@ -1,8 +1,8 @@
 // Loaded before the C library, it has devices and memory fail as the environment says:
 //
-//   FAIL=N          the Nth call of `open` or `read` fails
-//   GRAIN=N         a read or a write moves at most N bytes
-//   ROOM=N          the output takes at most N bytes
+//   FAIL=N          the Nth call of `open` or `read` fails, with the error ERRNO, or else EIO
+//   GRAIN=N         a read or a write moves at most N bytes; where there is VARY=SEED at most as many as are drawn each time, 1 to N
+//   ROOM=N          the output takes at most N bytes; where NOTHING is set it tells no error then, and takes nothing
 //   REFUSE=N        the Nth request for memory is refused, and makes the file `refused`; where REST is set, each later one too
 #define _GNU_SOURCE
 #include <errno.h>
@@ -22,7 +22,8 @@ extern void asks_memory(int);
 
 static atomic_long calls, asked;
 static long failing, refused;
-static int rest;
+static int rest, nothing;
+static unsigned long drawn;
 static size_t grain = (size_t)-1, room = (size_t)-1;
 
 static long number_of(const char *name, long otherwise) {
@@ -36,18 +37,30 @@ __attribute__((constructor)) static void begin(void) {
     room = (size_t)number_of("ROOM", -1);
     refused = number_of("REFUSE", 0);
     rest = getenv("REST") != NULL;
+    nothing = getenv("NOTHING") != NULL;
+    drawn = (unsigned long)number_of("VARY", 0);
     calls = asked = 0;
 }
 
 static int fails(void) {
     if (++calls != failing)
         return 0;
-    errno = EIO;
+    errno = (int)number_of("ERRNO", EIO);
     return 1;
 }
 
 static int open_at(int folder, const char *path, int how) {
     return fails() ? -1 : (int)syscall(SYS_openat, folder, path, how, 0);
+}
+
+// How many of so many bytes are moved.
+static size_t moved(size_t size) {
+    size_t most = grain;
+    if (drawn != 0) {
+        drawn = drawn * 6364136223846793005UL + 1442695040888963407UL;
+        most = 1 + (drawn >> 33) % grain;
+    }
+    return size < most ? size : most;
 }
 
 // No program makes a file, so the mode that one would have is left out.
@@ -57,16 +70,15 @@ int openat(int folder, const char *path, int how, ...) { return open_at(folder, 
 int openat64(int folder, const char *path, int how, ...) { return open_at(folder, path, how); }
 
 ssize_t read(int file, void *bytes, size_t size) {
-    return fails() ? -1 : syscall(SYS_read, file, bytes, size < grain ? size : grain);
+    return fails() ? -1 : syscall(SYS_read, file, bytes, moved(size));
 }
 
 ssize_t write(int file, const void *bytes, size_t size) {
-    if (size > grain)
-        size = grain;
+    size = moved(size);
     if (file == 1 && room != (size_t)-1) {
         if (room == 0) {
             errno = ENOSPC;
-            return -1;
+            return nothing ? 0 : -1;
         }
         if (size > room)
             size = room;

@@ -2,9 +2,10 @@
 
 import subprocess
 
-from tables.trying import EXAMPLES, TYPED, Case, Failed, expect, is_true, printed, refused
+from tables.trying import EXAMPLES, PATHS, TYPED, Case, Failed, expect, is_true, printed, refused
 
 BOOK, PAY = "usual/book.csv", "usual/pay0.csv"
+PRINTED = (EXAMPLES / "usual" / "usual.report").read_bytes()
 # Words that each command answers with a text.
 WORDS = {
     "run": ["run", BOOK, PAY],
@@ -42,6 +43,13 @@ def full_errors(folder):
     """A refusal whose line is not taken has its status."""
     with open("/dev/full", "wb") as device:
         expect(folder.run("run", "nothing", PAY, err=device), 5, b"", b"")
+
+
+def closed(folder):
+    """An output that is closed is a write fault. An error output or a standard input that is closed changes no answer."""
+    for how, wanted in ((">&-", (6, b"", b"write fault\n")), ("2>&-", (0, PRINTED, b"")), ("<&-", (0, PRINTED, b"")), ("<&- >&- 2>&-", (6, b"", b""))):
+        answer = folder.run("-c", f'exec "$0" "$@" {how}', PATHS["at_program"], *WORDS["run"], program="/bin/sh")
+        expect(answer, *wanted)
 
 
 def little(folder, command):
@@ -82,5 +90,6 @@ def cases():
     yield Case("a program that reads the standard input is found", reader_is_found)
     yield Case("an output that closes early", closes)
     yield Case("an error output that is full", full_errors)
+    yield Case("streams that are closed", closed)
     yield Case("too little memory", little, "run")
     yield Case("too little memory for a command that shows", little, "kinds")

@@ -6,7 +6,7 @@ call it can't see: the tests of at_program hold them at a gate before it and aft
 import itertools
 import random
 
-from tables import costs, model, orders, reading
+from tables import costs, orders, pages, reading
 from tables.shim import over
 from tables.trying import EXAMPLES, Case, Failed, is_true, lines, printed, ran, verified
 
@@ -81,12 +81,11 @@ def costs_in_turn(folder, contents, *either_way):
 
 
 def costs_are_turns(folder, first):
-    """Where the processes of drawn files make their calls one after another, `costs` tells the steps and exchanges of each call that
-    `trace` does, by the schedule that has the processes so."""
+    """Where the processes of drawn files make their calls one after another, `costs` tells the steps, exchanges and new records of each call
+    that `trace` does, by the schedule that has the processes so."""
     for seed in range(first, first + 25):
         book, files = orders.draw_case(seed)
-        pays = [folder.write(str(p), model.csv(model.file_records(book, file))) for p, file in enumerate(files)]
-        folder.write("book", model.csv(model.book_records(book)))
+        pays = pages.put_files(folder, book, files)
         answer = over(folder, "costs", "book", *pays, THREADS="none")
         is_true(answer.status == 0, f"seed {seed}: status {answer.status}")
         told = costs.made(answer.out.decode())
@@ -96,6 +95,19 @@ def costs_are_turns(folder, first):
                 break
         else:
             raise Failed(f"the files of seed {seed}: `trace` has other steps, whichever process is first")
+
+
+def costs_of_long(folder, seed, calls):
+    """Where the processes of drawn files of so many calls make them one after another, each call costs what the book and the files say."""
+    draw = random.Random(seed)
+    book = pages.draw_book(draw, seed % 2, calls // 3, calls // 4, [100, 500])
+    files = pages.draw_files(draw, book, [calls] * len(book.processes))
+    pays = pages.put_files(folder, book, files)
+    answer = over(folder, "costs", "book", *pays, THREADS="none")
+    is_true(answer.status == 0, f"status {answer.status}")
+    told = costs.made(answer.out.decode())
+    wanted = [costs.made_in_turn(book, files, order) for order in itertools.permutations(range(len(files)))]
+    is_true(told in wanted, "some call costs something else, whichever process is first")
 
 
 def voices_in_turn(folder):
@@ -154,6 +166,20 @@ def have_threads(folder, processes):
     return f"{found} threads"
 
 
+def each_number(folder, command, numbers):
+    """A command makes as many threads more for each process more, however many there are."""
+    made = []
+    for number in numbers:
+        if command == "agree":
+            words = [command, *["7"] * number]
+        else:
+            words = [command, "7", str(number), "3"] if command == "make" else [command, "book", *put_long(folder, number, 1)]
+        made.append(made_threads(folder, *words))
+    each = (made[-1] - made[0]) // (numbers[-1] - numbers[0])
+    is_true(each > 0 and made == [made[0] + each * i for i in range(len(numbers))], f"they are {made}")
+    return f"{made[0]} to {made[-1]} threads"
+
+
 def each_can_be_first(folder, voices):
     """Where threads are held up for drawn times each voice comes first in some run: its value is agreed on."""
     values = [str(10 + voice) for voice in range(voices)]
@@ -203,11 +229,15 @@ def cases():
     yield Case("payments from accounts of one owner, one process after the other", costs_in_turn, own, one, other)
     for seed in range(1, 101, 25):
         yield Case(f"costs and turns of random files, seeds {seed} to {seed + 24}", costs_are_turns, seed)
+    for seed in range(1, 9):
+        yield Case(f"costs of each call of long files, seed {seed}", costs_of_long, seed, 400)
     yield Case("three voices in turn answer what the first of them proposed", voices_in_turn)
     # Of more threads on few processors the first may have ended before the last begin: these meet at the gates of at_program's tests.
     yield Case("the longest files of two processes meet", meet, 2)
     for processes in (2, 4, 16):
         yield Case(f"the longest files of {processes} processes have a thread each", have_threads, processes)
         yield Case(f"of {processes} processes one stops in the middle of the longest files", stops, processes, processes)
+    for command, numbers in (("run", range(2, 17)), ("costs", range(2, 17)), ("ledger", range(2, 17)), ("make", range(2, 9)), ("agree", range(2, 9))):
+        yield Case(f"{command}: as many threads as processes", each_number, command, numbers)
     for voices in (2, 3, 8):
         yield Case(f"of {voices} voices each can be first", each_can_be_first, voices)
