@@ -1,7 +1,7 @@
 #!/usr/bin/env python3
 """Makes a book and a payment file for each payer from an export of payments: a CSV file with a head, and a line for each payment.
 
-docs/export.md is its guide, and docs/formats.md has the forms and limits of what it makes. Where it refuses anything it writes nothing.
+docs/formats.md is its guide, and has the forms and limits of what it makes. Where it refuses anything it writes nothing.
 """
 
 import argparse
@@ -238,6 +238,7 @@ class Book:
         self.processes, self.accounts = self.list_all(joint)
         self.rooms = self.find_rooms(joint)
         self.openings = self.least = self.least_openings()
+        self.unnamed = set()
 
     def fault(self, line, found, why):
         """Notes a fault of a line."""
@@ -303,10 +304,15 @@ class Book:
         return least
 
     def open_with(self, openings):
-        """Takes the openings of a file, if there is one, in place of the least."""
+        """Takes the openings of a file, if there is one, in place of the least. An account there that no payment names is one more."""
         for name, (amount, units) in openings.items():
-            if name not in self.accounts or units < 0:
-                self.faults.add(amount.place, amount.text, f"{name} is no account of the book, or opens below 0: correct the line")
+            if name not in self.accounts:
+                self.accounts[name] = self.payments[-1].line
+                self.unnamed.add(name)
+                if len(self.accounts) == MOST_ACCOUNTS + 1:
+                    self.faults.add(amount.place, amount.text, f"{name} is one account more than {MOST_ACCOUNTS}, the most: take lines out")
+            if units < 0:
+                self.faults.add(amount.place, amount.text, f"{name} opens below 0: correct the line")
         if self.asked.openings:
             self.openings = Counter({name: units for name, (_, units) in openings.items()})
         if sum(self.openings.values()) > LARGEST:
@@ -331,8 +337,10 @@ class Book:
         chosen = f"as {self.asked.openings} has them" if self.asked.openings else "the least that cover the payments in this order"
         yield f"openings, {chosen}, and 0 of each other account:"
         for name in self.accounts:
-            if self.openings[name] or self.least[name]:
-                yield f"  {name} {self.openings[name]}" + f", of {self.least[name]} needed" * (self.openings[name] < self.least[name])
+            if self.openings[name] or self.least[name] or name in self.unnamed:
+                lacks = f", of {self.least[name]} needed" * (self.openings[name] < self.least[name])
+                named = f': no payment names it, and {self.owners.get(name, ["nobody"])[0]} owns it' * (name in self.unnamed)
+                yield f"  {name} {self.openings[name]}{lacks}{named}"
         files = shlex.join(str(self.asked.to / f"{name}.csv") for name in ["book", *self.processes])
         yield from (f"./bezglami {command} {files}" for command in ("kinds", "needs", "orders"))
 
@@ -370,7 +378,7 @@ def make(asked, faults):
 
 
 def parse(words):
-    """The words of the command line. docs/export.md tells of each."""
+    """The words of the command line. docs/formats.md tells of each."""
     parser = argparse.ArgumentParser(prog="bezglami import", allow_abbrev=False, description="Makes a book and payment files of an export.")
     parser.add_argument("export", metavar="EXPORT")
     parser.add_argument("--to", required=True, metavar="FOLDER", type=Path)
