@@ -20,7 +20,7 @@ pub use Rattle.at_board.specs.Counting.{raised, stepped}
 pub use Rattle.at_board.specs.Ends.Closing.{EndTerms, IsEnd, records_of}
 pub use Rattle.at_board.specs.Ends.Opening.{starting_seat}
 pub use Rattle.at_board.specs.Knowledge.Parts.{asking_on, no_asking, no_part, own_part, starting_asking, with_part}
-pub use Rattle.at_board.specs.Knowledge.Records.{IsRecordWord, SeesRecord}
+pub use Rattle.at_board.specs.Knowledge.Records.{IsRecordWord, RecordWordTerms, SeesRecord}
 pub use Rattle.at_board.specs.Knowledge.Seats.{IsKept, IsSeat, SeatTerms}
 pub use Rattle.at_board.specs.Steps.Publish.{FitsNext, MayPublish, Publishes, with_record}
 pub use Rattle.at_board.specs.Steps.StoreRecordWord.{MayStoreWord, StoresWord, with_word}

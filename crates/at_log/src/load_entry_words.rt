@@ -17,7 +17,7 @@ pub fn load_entry(board: &Board, seat: &mut BoardSeat, p: u32, i: u32) -> Entry
     seat.known();
     let mut words = [0u64; RECORD_WORDS as usize];
     for j in 0..RECORD_WORDS {
-        words[j as usize] = board.load_record_word(seat, p, i, j);
+        words[j as usize] = board.load_record_word(seat, p, i, j).value();
     }
     entry_of(words)
 }

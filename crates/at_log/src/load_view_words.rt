@@ -19,7 +19,7 @@ pub fn load_view(board: &Board, seat: &mut BoardSeat, p: u32, i: u32) -> Counts
     let processes = board.book().processes();
     let mut view = Counts::zeros(processes);
     for q in 0..processes {
-        let count = board.load_record_word(seat, p, i, RECORD_WORDS + q);
+        let count = board.load_record_word(seat, p, i, RECORD_WORDS + q).value();
         view.set(q, count as u32);
     }
     view

@@ -1,6 +1,6 @@
 -- Totals that catch up, from one turn to the next.
 use Rattle.std.proofs.Common.{◌≡◌, ◌≢◌, ◌↔◌, ℕ, ◌+◌, ◌-◌, ◌*◌, ◌^◌, ◌<◌, ◌≤◌, Bool, true, false, not, IsTrue, List, [], length, get_or, set, refl, sym, ap, subst, arith, inl, inr, Option, Some, None, get_or-set_other, get_or-set_same, length-set, if◌then◌else◌, ◌∙◌}
-use Rattle.at_machines.proofs.Prelude.{cases_eq, cases_lt, eq-eqb, ne_eqb, sum, is_some, Covers, BookTerms, get_or-counts, length-counts, sum-Covers-le, log_room_of-le, count_of, Entry, Publication, IsKept, Knowledge, BoardStep, BoardWord, RECORD_WORDS, MayCount-IsCatchingUp, count_of-IsCatchingUp, IsCatchingUp-more, upto-IsCatchingUp, sum-caught, IsCatchingUp, HasCounted, MayCount, TotalSums, IsEntryOf, CatchingUpTerms, CountsNext, FollowsLoad, catch_step, loaded_of, IsCatchingUpSo, IsLoadingNext, AddsWord, LoadingTerms, entry_step, loading_after, starting_loading}
+use Rattle.at_machines.proofs.Prelude.{cases_eq, cases_lt, eq-eqb, ne_eqb, sum, is_some, Covers, BookTerms, get_or-counts, length-counts, sum-Covers-le, log_room_of-le, count_of, Entry, Publication, IsKept, Knowledge, BoardStep, BoardWord, RECORD_WORDS, MayCount-IsCatchingUp, count_of-IsCatchingUp, IsCatchingUp-more, upto-IsCatchingUp, sum-caught, IsCatchingUp, HasCounted, MayCount, TotalSums, IsEntryOf, CatchingUpTerms, CountsNext, FollowsLoad, catch_step, loaded_of, IsCatchingUpSo, IsLoadingNext, LoadingTerms, entry_step, loading_after, starting_loading}
 
 -- of the processes up to this one nothing is left to count
 past : (b : BookTerms) (seen : List Publication) (counts start : List ℕ) (t : TotalSums) (p p' : ℕ) → IsCatchingUp b seen counts start t p → p' ≤ length counts
@@ -96,23 +96,20 @@ catch_step-None v counts t p so =
 
 -- one more word of a record is loaded, which isn't its last
 pub FollowsLoad-word : (v : Knowledge) (counts : List ℕ) (t : TotalSums) (p : ℕ) (l m : LoadingTerms) → IsCatchingUpSo v counts t p (Some l)
-    → m ≡ loading_after l m.words → AddsWord l.knows l.process l.number l.loaded l.words m.words → l.loaded + 1 ≢ RECORD_WORDS
+    → m ≡ loading_after l l.loaded → l.loaded + 1 ≢ RECORD_WORDS
     → FollowsLoad (record { counts = counts; knows = v; totals = t; process = p; loaded = l.loaded; words = l.words })
     (record { counts = counts; knows = v; totals = t; process = p; loaded = m.loaded; words = m.words })
-FollowsLoad-word v counts t p l m so after word more =
-    let next : ℕ → CatchingUpTerms = λ n. record { counts = counts; knows = v; totals = t; process = p; loaded = n; words = m.words } in (
-      λ few. (
-        ap next (ap (λ (k : LoadingTerms). k.loaded) after),
-        subst (λ (k : LoadingTerms). AddsWord k.knows k.process k.number l.loaded l.words m.words) so.loading_so.3 word,
-      ),
+FollowsLoad-word v counts t p l m so after more =
+    let next : LoadingTerms → CatchingUpTerms = λ k. record { counts = counts; knows = v; totals = t; process = p; loaded = k.loaded; words = k.words } in (
+      λ few. ap next (after ∙ ap (λ k. loading_after k l.loaded) so.loading_so.3),
       λ last. absurd (more last),
     )
 
 pub IsCatchingUpSo-word : (v : Knowledge) (counts : List ℕ) (t : TotalSums) (p : ℕ) (l m : LoadingTerms) → IsCatchingUpSo v counts t p (Some l)
-    → m ≡ loading_after l m.words → l.loaded + 1 ≢ RECORD_WORDS → IsCatchingUpSo v counts t p (Some m)
+    → m ≡ loading_after l l.loaded → l.loaded + 1 ≢ RECORD_WORDS → IsCatchingUpSo v counts t p (Some m)
 IsCatchingUpSo-word v counts t p l m so after more =
     let loaded : m.loaded ≡ l.loaded + 1 = ap (λ (k : LoadingTerms). k.loaded) after in
-    let next : LoadingTerms → ℕ → LoadingTerms = λ k n. record { knows = k.knows; process = k.process; number = k.number; loaded = n; words = m.words } in
+    let is : LoadingTerms → LoadingTerms = λ k. record m { knows = k.knows; process = k.process; number = k.number } in
     record {
       kept = so.kept;
       catching = so.catching;
@@ -121,7 +118,7 @@ IsCatchingUpSo-word v counts t p l m so after more =
         so.loading_so.0,
         so.loading_so.1,
         omega (arith, loaded, more, so.loading_so.2),
-        after ∙ (ap (λ k. next k (l.loaded + 1)) so.loading_so.3 ∙ ap (next (record l { knows = v; process = p; number = get_or t.upto p 0 })) (sym loaded)),
+        ap is after ∙ ap is so.loading_so.3,
       );
     }
 

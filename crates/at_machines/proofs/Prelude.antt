@@ -2,9 +2,10 @@
 pub use Rattle.std.proofs.Math.Nat.{suc-mul}
 pub use Rattle.std.proofs.lemmas.Bool.{cases_eq, cases_lt, eq-eqb, ne_eqb}
 pub use Rattle.std.proofs.lemmas.Grind.{common_steps, same_number_lists}
-pub use Rattle.std.proofs.lemmas.List.{append_assoc, get_or-set_other, get_or-set_same, get_or_append_left, length-set, set-get_or, take_more_set}
+pub use Rattle.std.proofs.lemmas.List.{append_assoc, get_or-set_other, get_or-set_same, get_or_append_left, length-append, length-set, set-get_or}
+pub use Rattle.std.proofs.lemmas.List.FromFn.{get_or-map-range_with_len, map-range_with_len_more}
 pub use Rattle.std.proofs.lemmas.Nat.{mul-le}
-pub use Rattle.std.specs.List.{Contains, sum}
+pub use Rattle.std.specs.List.{Contains, range_with_len, sum}
 pub use Rattle.std.specs.Option.{is_some, option_to_list}
 pub use Rattle.at_base.specs.Counts.{Covers}
 pub use Rattle.at_base.specs.Decision.{word_of}
@@ -12,7 +13,7 @@ pub use Rattle.at_base.specs.declared.decision.Decision.{Decision}
 pub use Rattle.at_board.specs.Knowledge.Candidates.{HasLoadedRows}
 pub use Rattle.at_board.specs.Knowledge.Overviews.{LearnsOverview}
 pub use Rattle.at_board.specs.Knowledge.Parts.{SeesDecision, SeesRequest, asking_on, loads_of, no_part, own_part}
-pub use Rattle.at_board.specs.Knowledge.Records.{IsRecordWord, SeesForms, SeesRecord}
+pub use Rattle.at_board.specs.Knowledge.Records.{IsRecordWord, RecordWordTerms, SeesRecord, seen_word}
 pub use Rattle.at_board.specs.Knowledge.Seats.{IsKept, SeatTerms}
 pub use Rattle.at_board.specs.Steps.Announce.{Announces, MayAnnounce}
 pub use Rattle.at_board.specs.Steps.Decide.{Decides, MayPropose}
@@ -79,7 +80,7 @@ pub use Rattle.at_machines.specs.KeptLooking.{IsLookingSo}
 pub use Rattle.at_machines.specs.KeptRequests.{IsLoadingRequestSo}
 pub use Rattle.at_machines.specs.KeptRows.{IsCollectingRowsSo, IsLoadingRowSo}
 pub use Rattle.at_machines.specs.KeptSnapshots.{HasLoadedSoFar, IsSnapped, IsSnappingSo, LeadsTo, TurnsStage, scan_of}
-pub use Rattle.at_machines.specs.Loading.{AddsWord, LoadingTerms, entry_step, loading_after, starting_loading}
+pub use Rattle.at_machines.specs.Loading.{LoadingTerms, entry_step, loading_after, loading_with, starting_loading}
 pub use Rattle.at_machines.specs.LoadingRequest.{LoadingRequestTerms, request_after, starting_request}
 pub use Rattle.at_machines.specs.LoadingRow.{LoadingRowTerms, MakesLoadOf, NextRowLoad, row_after, row_step, row_turns, starting_row}
 pub use Rattle.at_machines.specs.LoadingRow.NextRowLoad.{announced_word, nothing, request_word}

@@ -1,17 +1,17 @@
 -- Totals that catch up with counts, one load a turn.
-use Rattle.std.specs.Prelude.{◌≡◌, ℕ, ◌+◌, ◌-◌, ◌*◌, ◌<◌, ◌==◌, List, [], slice_index, slice_set, sum, Option, Some, None, if◌then◌else◌}
-use Rattle.at_machines.specs.Prelude.{BookTerms, MayLoadWord, Knowledge, BoardStep, BoardWord, RECORD_WORDS, TotalSums}
-use Rattle.at_machines.specs.Loading.{AddsWord, LoadingTerms}
+use Rattle.std.specs.Prelude.{◌≡◌, ℕ, ◌+◌, ◌-◌, ◌*◌, ◌<◌, ◌++◌, ◌==◌, List, [], ◌∷◌, slice_index, slice_set, sum, Option, Some, None, if◌then◌else◌}
+use Rattle.at_machines.specs.Prelude.{BookTerms, RecordWordTerms, seen_word, MayLoadWord, Knowledge, BoardStep, BoardWord, RECORD_WORDS, TotalSums}
+use Rattle.at_machines.specs.Loading.{LoadingTerms}
 
 -- totals that catch up, by the counts that they are to reach, by what their seat knows, by what they have counted after the last turn,
--- by the process of the next record, and by how many of its words are loaded, and which
+-- by the process of the next record, and by how many of its words are loaded, and these
 pub record CatchingUpTerms : Type 0 where
   pub counts : List ℕ
   pub knows : Knowledge
   pub totals : TotalSums
   pub process : ℕ
   pub loaded : ℕ
-  pub words : List ℕ
+  pub words : List RecordWordTerms
 
 -- the loads that are left: of each word of the records that the counts count and the totals don't
 abbrev pub loads_left : CatchingUpTerms → ℕ
@@ -47,15 +47,17 @@ LoadsNextWord c now = (c.loaded + 1 < RECORD_WORDS → now ≡ c.totals) × (c.l
 -- after that comes the record's next word, beside those that are loaded, and after its last one the first word of another
 abbrev pub FollowsLoad : CatchingUpTerms → CatchingUpTerms → Type 0
 FollowsLoad c d =
-    (c.loaded + 1 < RECORD_WORDS → (d ≡ record c { loaded = c.loaded + 1; words = d.words })
-    × AddsWord c.knows c.process (number_left c) c.loaded c.words d.words)
+    (c.loaded + 1 < RECORD_WORDS → d ≡ record c {
+      loaded = c.loaded + 1;
+      words = c.words ++ seen_word c.knows c.process (number_left c) c.loaded ∷ [];
+    })
     × (c.loaded + 1 ≡ RECORD_WORDS → (d.loaded ≡ 0) × (d.words ≡ []))
 
--- how many words of a record are loaded, if one is, and which
+-- how many words of a record are loaded, if one is, and these
 abbrev pub loaded_of : Option LoadingTerms → ℕ
 loaded_of None = 0
 loaded_of (Some l) = l.loaded
 
-abbrev pub words_held : Option LoadingTerms → List ℕ
+abbrev pub words_held : Option LoadingTerms → List RecordWordTerms
 words_held None = []
 words_held (Some l) = l.words

@@ -1,9 +1,9 @@
 -- What the types of state machines keep of their fields, which no caller sees.
-use Rattle.std.specs.Prelude.{◌≡◌, ℕ, ◌+◌, ◌<◌, ◌≤◌, List, length, slice_index, take}
-use Rattle.at_machines.specs.Prelude.{IsRecordWord, SeesRecord, IsKept, FitsNext, record_width, record_words, IsStoring, MayAppend, IsCollecting}
+use Rattle.std.specs.Prelude.{◌≡◌, ℕ, ◌<◌, ◌≤◌, List, length, map}
+use Rattle.at_machines.specs.Prelude.{range_with_len, SeesRecord, seen_word, IsKept, FitsNext, record_width, record_words, IsStoring, MayAppend, IsCollecting}
 use Rattle.at_machines.specs.Appending.{AppendingTerms, publication_of}
 use Rattle.at_machines.specs.Collecting.{CollectingTerms}
-use Rattle.at_machines.specs.Loading.{LoadingTerms}
+use Rattle.at_machines.specs.Loading.{LoadingTerms, loading_with}
 use Rattle.at_machines.specs.declared.appending.Appending.TheInside as appending
 use Rattle.at_machines.specs.declared.collecting.Collecting.TheInside as collecting
 use Rattle.at_machines.specs.declared.loading_entry.LoadingEntry.TheInside as entry
@@ -11,22 +11,10 @@ use Rattle.at_machines.specs.declared.loading_view.LoadingView.TheInside as view
 
 -- the terms of their fields
 abbrev pub loading_entry_of : entry.Inside → LoadingTerms
-loading_entry_of l = record {
-  knows = l.seat.value.knows;
-  process = l.process;
-  number = l.number;
-  loaded = l.loaded;
-  words = take l.loaded l.words;
-}
+loading_entry_of l = loading_with l.seat.value.knows l.process l.number l.words.items
 
 abbrev pub loading_view_of : view.Inside → LoadingTerms
-loading_view_of l = record {
-  knows = l.seat.value.knows;
-  process = l.process;
-  number = l.number;
-  loaded = l.loaded;
-  words = take l.loaded l.view;
-}
+loading_view_of l = loading_with l.seat.value.knows l.process l.number l.words.items
 
 abbrev pub collecting_of : collecting.Inside → CollectingTerms
 collecting_of c = record {
@@ -49,11 +37,10 @@ pub record IsCollectingSo (c : CollectingTerms) (counts : List ℕ) : Type 0 whe
   pub within : c.loaded ≤ c.start.book.processes
   pub so_far : IsCollecting c.start.book c.start c.mark counts c.loaded
 
--- what the types of loads keep: the seat has seen the record, and so many of its words are loaded, from this one on
-pub record IsLoadingSo (l : LoadingTerms) (first : ℕ) (words : List ℕ) : Type 0 where
+-- what the types of loads keep: the seat has seen the record, and those that are loaded are its words from this one on, in order
+pub record IsLoadingSo (l : LoadingTerms) (first : ℕ) : Type 0 where
   pub record_seen : SeesRecord l.knows l.process l.number
-  pub within : l.loaded ≤ length words
-  pub words_are : (k : ℕ) → k < l.loaded → IsRecordWord l.knows l.process l.number (first + k) (slice_index words k)
+  pub words_are : l.words ≡ map (seen_word l.knows l.process l.number) (range_with_len first l.loaded)
 
 -- what an append's type keeps: the record may come next after all that was seen at the start, and until it is published so many of its
 -- words are stored since then, and nothing else has changed

@@ -1,11 +1,12 @@
 -- What this crate's contracts and definitions name of other crates, in one place.
+pub use Rattle.std.specs.List.{range_with_len}
 pub use Rattle.at_base.specs.Counts.{Covers}
 pub use Rattle.at_base.specs.declared.decision.Decision.{Decision}
 pub use Rattle.at_board.specs.Counting.{raised, stepped}
 pub use Rattle.at_board.specs.Knowledge.Candidates.{HasLoadedRows}
 pub use Rattle.at_board.specs.Knowledge.Overviews.{IsOverviewOf}
 pub use Rattle.at_board.specs.Knowledge.Parts.{SeesDecision, SeesRequest, asking_on, loads_of, own_part}
-pub use Rattle.at_board.specs.Knowledge.Records.{IsRecordWord, SeesRecord}
+pub use Rattle.at_board.specs.Knowledge.Records.{RecordWordTerms, SeesForms, SeesRecord, seen_word}
 pub use Rattle.at_board.specs.Knowledge.Seats.{IsKept, IsOf, SeatTerms}
 pub use Rattle.at_board.specs.Steps.Announce.{Announces}
 pub use Rattle.at_board.specs.Steps.Decide.{MayPropose}

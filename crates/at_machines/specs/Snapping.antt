@@ -2,7 +2,7 @@
 use Rattle.std.specs.Prelude.{◌≡◌, ℕ, ◌+◌, ◌-◌, ◌*◌, ◌<◌, List, [], Option, None, Some}
 use Rattle.at_machines.specs.Prelude.{BookTerms, IsPrefix, Publication, stepped, MayLoadWord, SeatTerms, Knowledge, BoardStep, BoardWord, RECORD_WORDS}
 use Rattle.at_machines.specs.Collecting.{LoadsLengthOf}
-use Rattle.at_machines.specs.Loading.{AddsWord, LoadingTerms, loading_after}
+use Rattle.at_machines.specs.Loading.{LoadingTerms, loading_after}
 use Rattle.at_machines.specs.declared.stage.Stage.{Stage}
 use Rattle.at_machines.specs.declared.stage.Stage.TheVariants.{Borrow, Collect, Ended}
 
@@ -49,8 +49,7 @@ BeginsAnew nothing = Unit {0}
 abbrev pub MayFollow : ℕ → NextLoad → NextLoad → Type 0
 MayFollow n (length_of p) next = (p + 1 < n → next ≡ length_of (p + 1)) × (p + 1 ≡ n → BeginsAnew next)
 MayFollow n (view_word l) next =
-    (l.loaded + 1 < n → (words : List ℕ) × AddsWord l.knows l.process l.number (RECORD_WORDS + l.loaded) l.words words
-    × (next ≡ view_word (loading_after l words)))
+    (l.loaded + 1 < n → next ≡ view_word (loading_after l (RECORD_WORDS + l.loaded)))
     × (l.loaded + 1 ≡ n → next ≡ nothing)
 MayFollow n nothing next = ⊥
 

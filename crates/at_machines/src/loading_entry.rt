@@ -1,27 +1,31 @@
 //! A load of a record's entry, a word a turn.
 
 ghost use Rattle.std.specs.Prelude.{◌≡◌, ◌+◌, ◌<◌, ◌↔◌, IfSome, IsSome};
-ghost use Rattle.at_machines.specs.Prelude.{stepped, SeesRecord, IsOf, MayLoadWord, RECORD_WORDS, IsEntryOf};
-ghost use Rattle.at_machines.specs.Loading.{AddsWord, entry_step, loading_after, starting_loading};
+ghost use Rattle.at_machines.specs.Prelude.{stepped, SeesForms, SeesRecord, IsOf, MayLoadWord, RECORD_WORDS, IsEntryOf};
+ghost use Rattle.at_machines.specs.Loading.{entry_step, loading_after, starting_loading};
 
-use at_board::{Board, BoardSeat, BoardStep, BoardWord, Entry, RECORD_WORDS, entry_of};
+use arrayvec::ArrayVec;
+use at_board::{
+    Board, BoardSeat, BoardStep, BoardWord, Entry, LoadedRecordWord, RECORD_WORDS, entry_of,
+};
 use std::marker::Model;
 use std::snapshot::Snapshot;
 
-/// A load of an entry in the making: a load of each of its words, by rising number.
+/// The words of an entry.
+const ENTRY_WORDS: usize = RECORD_WORDS as usize;
+
+/// A load of an entry in the making: a load of each of its words, by rising number. It keeps the words as they were loaded until
+/// the entry is whole, so a word that was not loaded is not told, whatever is known of it.
 #[derive(Drop)]
 pub struct LoadingEntry {
     process: u32,
     number: u32,
-    words: [u64; RECORD_WORDS as usize],
-    loaded: u32,
+    words: ArrayVec<LoadedRecordWord, ENTRY_WORDS>,
     /// The seat, for contracts alone. These loads leave it as it is.
     seat: Snapshot<BoardSeat>,
 }
 
 impl Model for LoadingEntry {
-    ghost use Rattle.std.specs.Prelude.{◌≡◌, length};
-    ghost use Rattle.at_machines.specs.Prelude.{RECORD_WORDS};
     ghost use Rattle.at_machines.specs.Loading.{LoadingTerms};
 
     ghost Value = { LoadingTerms };
@@ -30,8 +34,7 @@ impl Model for LoadingEntry {
 
     ghost view = { loading_entry_of };
 
-    ghost invariant = { λ l. (length l.words ≡ RECORD_WORDS)
-        × IsLoadingSo (loading_entry_of l) 0 l.words };
+    ghost invariant = { λ l. IsLoadingSo (loading_entry_of l) 0 };
 }
 
 impl LoadingEntry {
@@ -43,8 +46,7 @@ impl LoadingEntry {
         LoadingEntry {
             process: p,
             number: i,
-            words: [0; RECORD_WORDS as usize],
-            loaded: 0,
+            words: ArrayVec::new(),
             seat: Snapshot::of(seat),
         }
     }
@@ -53,13 +55,14 @@ impl LoadingEntry {
     pub fn next(&self) -> Option<BoardStep>
         ensures { result ≡ entry_step self.now }
     {
-        if self.loaded == RECORD_WORDS {
+        let loaded = self.words.len();
+        if loaded == ENTRY_WORDS {
             return None;
         }
         Some(BoardStep::Load(BoardWord::Record {
             process: self.process,
             number: self.number,
-            word: self.loaded,
+            word: loaded as u32,
         }))
     }
 
@@ -68,9 +71,7 @@ impl LoadingEntry {
         requires board { IsOf seat.old board.now }
         requires mark { seat.old.knows ≡ self.old.knows }
         requires left { self.old.loaded < RECORD_WORDS }
-        ensures after { self.new ≡ loading_after self.old self.new.words }
-        ensures word { AddsWord self.old.knows self.old.process self.old.number self.old.loaded
-            self.old.words self.new.words }
+        ensures after { self.new ≡ loading_after self.old self.old.loaded }
         ensures ends { IsSome result ↔ (self.new.loaded ≡ RECORD_WORDS) }
         ensures entry { IfSome result (λ entry. IsEntryOf self.old.knows self.old.process
             self.old.number entry) }
@@ -80,12 +81,25 @@ impl LoadingEntry {
     {
         board.book().known();
         seat.known();
-        let (p, i, j) = (self.process, self.number, self.loaded);
-        self.words[j as usize] = board.load_record_word(seat, p, i, j);
-        self.loaded += 1;
-        if self.loaded < RECORD_WORDS {
+        let (p, i, j) = (self.process, self.number, self.words.len());
+        let word = board.load_record_word(seat, p, i, j as u32);
+        self.words.push(word);
+        if self.words.len() < ENTRY_WORDS {
             return None;
         }
-        Some(entry_of(self.words))
+        Some(self.entry())
+    }
+
+    /// The entry that the words are of, which are all loaded.
+    fn entry(&self) -> Entry
+        requires whole { self.now.loaded ≡ RECORD_WORDS }
+        requires forms { SeesForms self.now.knows }
+        ensures { IsEntryOf self.now.knows self.now.process self.now.number result }
+    {
+        let mut values = [0; ENTRY_WORDS];
+        for j in 0..ENTRY_WORDS {
+            values[j] = self.words[j].value();
+        }
+        entry_of(values)
     }
 }

@@ -1,5 +1,5 @@
-use Rattle.std.proofs.Common.{◌≡◌, get_or, set, sym, subst, ◌∙◌, arith, below_more}
-use Rattle.at_log.proofs.Prelude.{same_number_lists, get_or_append_left, get_or-set_other, get_or-set_same, length-set, Publication, Knowledge, publication_at, publications_of, stepped-stepped, IsRecordWord, SeatTerms, entry_words, RECORD_WORDS}
+use Rattle.std.proofs.Common.{◌≡◌, get_or, set, sym, ap, subst, ◌∙◌, arith, below_more}
+use Rattle.at_log.proofs.Prelude.{same_number_lists, get_or_append_left, get_or-set_other, get_or-set_same, length-set, Publication, Knowledge, publication_at, publications_of, stepped-stepped, IsRecordWord, RecordWordTerms, SeatTerms, entry_words, RECORD_WORDS}
 use Rattle.at_log.proofs.load_entry_words.load_entry.Goals as goal
 
 pub loop-j-preserved : goal.loop-j-preserved
@@ -8,9 +8,9 @@ loop-j-preserved c =
     let p = c.args.p in
     let i = c.args.i in
     let j = c.loop-j.j in
-    let w = c.load_record_word.result in
+    let w = c.value-in-loop-j.result in
     let word : IsRecordWord v p i j w =
-    subst (λ (s : SeatTerms). IsRecordWord s.knows p i j w) c.loop-j.invariant.same c.load_record_word.ensures.word in
+    subst (λ (s : SeatTerms). IsRecordWord s.knows p i j w) c.loop-j.invariant.same (c.value-in-loop-j.ensures ∙ ap (λ (t : RecordWordTerms). t.value) c.load_record_word.ensures.word) in
     record {
       same = c.load_record_word.ensures.same ∙ stepped-stepped c.args.seat.now c.loop-j.seat c.loop-j.j 1 c.loop-j.invariant.same;
       sized = length-set c.loop-j.words j w ∙ c.loop-j.invariant.sized;

@@ -35,9 +35,9 @@ at c =
     let known : After-self = (goal.at.After-record_index-index c).After-self in
     c.record_index-index.ensures.index ∙ ap (λ t. index_of t (record_word c.args.p c.args.i c.args.j)) (ours known)
 
-pub load-requires : goal.load-requires
-load-requires c =
-    let indexed : After-record_index-index = (goal.at.load-requires c).After-record_index-index in
+pub load-value-requires : goal.load-value-requires
+load-value-requires c =
+    let indexed : After-record_index-index = (goal.at.load-value-requires c).After-record_index-index in
     let known : After-self = (goal.at.After-record_index-index indexed).After-self in (
       ap (λ s. s.board) c.seat.view_is ∙ (c.requires.board.id ∙ sym (ap (λ t. t.id) c.self.view_is)),
       omega (
@@ -56,8 +56,10 @@ returns-clause-word c =
     let indexed : After-record_index-index = (goal.at.returns-clause-word c).After-record_index-index in
     let known : After-self = (goal.at.After-record_index-index indexed).After-self in
     let here = place known in
-    subst (λ t. IsRecordWord t c.args.p c.args.i c.args.j c.load.result) (mine known)
-    (c.load.ensures.2.1 c.args.p c.args.i c.args.j here.0 here.2 (may known).seen (at indexed))
+    let told : IsRecordWord c.args.seat.now.knows c.args.p c.args.i c.args.j c.load-value.result =
+    subst (λ t. IsRecordWord t c.args.p c.args.i c.args.j c.load-value.result) (mine known)
+    (c.load-value.ensures.2.1 c.args.p c.args.i c.args.j here.0 here.2 (may known).seen (at indexed)) in
+    grind (told, arith, common_steps)
 
 pub invariant_of-seat : goal.invariant_of-seat
 invariant_of-seat c = grind (arith, common_steps)

@@ -205,7 +205,7 @@ returns-in_err-entry-clause-follows c =
     subst (λ (s : CatchingUpTerms). FollowsLoad s (with_loaded (Some m))) c.self.view_is
     (subst (λ (x : Option LoadingTerms). FollowsLoad (with_loaded x) (with_loaded (Some m))) (sym c.in-Some.is)
     (FollowsLoad-word i.seat.value.knows i.counts i.totals.value i.process l m
-    (subst (IsCatchingUpSo i.seat.value.knows i.counts i.totals.value i.process) c.in-Some.is c.self.invariant) told.after told.word
+    (subst (IsCatchingUpSo i.seat.value.knows i.counts i.totals.value i.process) c.in-Some.is c.self.invariant) told.after
     (λ last. let wrong : false ≡ true = c.in_err-entry.ensures.ends.1 (ap (λ (k : LoadingTerms). k.loaded) told.after ∙ last) in absurd (cc wrong))))
 
 pub returns-clause-follows : goal.returns-clause-follows
