@@ -2,6 +2,7 @@ pub mod Prelude
 pub mod Faults
 pub mod Owners
 pub mod Books
+pub mod Carried
 pub mod Credited
 pub mod Run
 pub mod Slots

@@ -17,7 +17,7 @@ pub use Rattle.std.specs.List.{All, range_with_len, sum_by, zip}
 pub use Rattle.std.specs.Option.{option_or}
 pub use Rattle.at_ledger.specs.Account.{AccountTerms, is_owner_in, rounds_room, rounds_room_of, slot_in}
 unfoldable pub use Rattle.at_ledger.specs.Account.{IsRisingFrom}
-pub use Rattle.at_ledger.specs.Book.{BookTerms, IsAccount, IsBegun, IsBook, IsSummed, account_of, rounds_of, total_of}
+pub use Rattle.at_ledger.specs.Book.{BookTerms, IsAccount, IsBegun, IsBook, IsSummed, account_of, rounds_of, total_of, with_openings}
 pub use Rattle.at_ledger.specs.Call.{IsCallOn, TargetPair, amount_of, target_at}
 pub use Rattle.at_ledger.specs.Draft.{account_fault, book_fault, book_without_accounts, limits_fault, owner_fault, sums_fault, terms_of, terms_with, with_account}
 unfoldable pub use Rattle.at_ledger.specs.Draft.{accounts_fault, owners_fault}

@@ -1,6 +1,6 @@
 -- A checked book: its processes, its accounts in order, and the room that each process has.
-use Rattle.std.specs.Prelude.{◌≡◌, ℕ, ◌+◌, ◌^◌, ◌<◌, ◌≤◌, Bool, List, length, All, sum_by, slice_index_or, Some, if◌then◌else◌}
-use Rattle.at_ledger.specs.Prelude.{list_any}
+use Rattle.std.specs.Prelude.{◌≡◌, ℕ, ◌+◌, ◌^◌, ◌<◌, ◌≤◌, Bool, List, length, map, All, sum_by, slice_index_or, Some, if◌then◌else◌}
+use Rattle.at_ledger.specs.Prelude.{list_any, zip}
 use Rattle.at_ledger.specs.Account.{AccountTerms, no_account, is_owner_in, is_single, rounds_room, rounds_room_of, slot_in, slots_of, IsRisingFrom}
 use Rattle.at_ledger.specs.Limits.{most_accounts, most_own_room, most_owners, most_processes, most_request_room, most_rounds}
 
@@ -37,6 +37,10 @@ has_single b = list_any is_single b.accounts
 -- the book with the own room that can be used: its own where some account has one owner, and else 1, the least that a book has
 abbrev pub with_usable_room : BookTerms → BookTerms
 with_usable_room b = record b { own_room = if has_single b then b.own_room else 1 }
+
+-- the book with these openings, in the order of its accounts
+abbrev pub with_openings : BookTerms → List ℕ → BookTerms
+with_openings b openings = record b { accounts = map (λ p. record p.0 { opening = p.1 }) (zip b.accounts openings) }
 
 -- the rounds of all accounts together: for each shared account the number of its owners times the request room, summed
 abbrev pub rounds_of : BookTerms → ℕ

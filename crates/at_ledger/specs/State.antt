@@ -1,7 +1,7 @@
 -- The sequential ledger: what each call answers and changes.
 use Rattle.std.specs.Prelude.{◌≡◌, ℕ, ◌+◌, ◌-◌, ◌*◌, ◌≤◌, Bool, not, ◌&&◌, ◌||◌, ◌==◌, List, [], ◌∷◌, length, map, replicate, sum, All, nat_lt, slice_index, slice_set, if◌then◌else◌}
 use Rattle.at_ledger.specs.Account.{is_single, is_shared}
-use Rattle.at_ledger.specs.Book.{BookTerms, IsBook, account_of, is_owner, total_of}
+use Rattle.at_ledger.specs.Book.{BookTerms, IsBook, account_of, is_owner, total_of, with_openings}
 use Rattle.at_ledger.specs.Call.{TargetPair, amount_of}
 use Rattle.at_ledger.specs.declared.call.Call.{Call}
 use Rattle.at_ledger.specs.declared.call.Call.TheVariants.{Transfer, Read, Pay}
@@ -94,6 +94,10 @@ abbrev pub step : LedgerState → ℕ → Call → Step
 step s process (Transfer from to amount) = pay s process from ((to, amount) ∷ [])
 step s process (Read account) = record { ledger = s; reply = Balance (balance_of s account) }
 step s process (Pay from targets) = pay s process from targets
+
+-- the book of the next ledger, which opens with these balances
+abbrev pub carried : LedgerState → BookTerms
+carried s = with_openings s.book s.balances
 
 -- what holds of every state that calls can reach
 pub record IsLedger (s : LedgerState) : Type 0 where

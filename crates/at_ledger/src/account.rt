@@ -89,6 +89,16 @@ impl Account {
         }
     }
 
+    /// The same account with another opening.
+    pub(crate) fn opening_with(&self, opening: u64) -> Account
+        ensures { result ≡ record self.now { opening = opening } }
+    {
+        Account {
+            opening,
+            ..self.copy()
+        }
+    }
+
     pub(crate) fn copy(&self) -> Account
         ensures { result ≡ self.now }
     {

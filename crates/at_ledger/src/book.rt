@@ -1,6 +1,6 @@
 //! A checked book.
 
-ghost use Rattle.std.specs.Prelude.{◌≡◌, ◌<◌, ◌≤◌, length, map, slice_index, None, Some, IfOk, OnOk, IfSome};
+ghost use Rattle.std.specs.Prelude.{◌≡◌, ◌<◌, ◌≤◌, length, map, slice_index, sum, None, Some, IfOk, OnOk, IfSome};
 ghost use Rattle.at_ledger.specs.Limits.{most_owners};
 
 use crate::account::Account;
@@ -41,7 +41,7 @@ impl Model for Book {
 
 impl Book {
     ghost use Rattle.at_ledger.specs.Account.{is_shared, is_single, slot_in, slots_of};
-    ghost use Rattle.at_ledger.specs.Book.{IsBook, account_of, has_single, is_owner, log_room_of, with_usable_room};
+    ghost use Rattle.at_ledger.specs.Book.{IsBook, account_of, has_single, is_owner, log_room_of, total_of, with_openings, with_usable_room};
     ghost use Rattle.at_ledger.specs.Draft.{book_fault, book_of};
 
     /// Checks a draft and copies it. A refusal names the first fault: the limits, then the accounts in
@@ -218,6 +218,25 @@ impl Book {
             book.own_room = 1;
         }
         Ok(book)
+    }
+
+    /// The same book with other openings, one for each account and with the same total, in memory of its own.
+    pub(crate) fn with_openings(&self, alloc: Global, openings: &[u64]) -> Result<Book, AllocError>
+        requires count { length openings.now ≡ length self.now.accounts }
+        requires total { sum openings.now ≡ total_of self.now }
+        ensures openings { IfOk result (λ b. b ≡ with_openings self.now openings.now) }
+        ensures total { IfOk result (λ b. total_of b ≡ total_of self.now) }
+    {
+        let mut accounts = Vec::new(alloc);
+        for (i, opening) in openings.iter().enumerate() {
+            accounts.push(self.accounts[i].opening_with(*opening))?;
+        }
+        Ok(Book {
+            processes: self.processes,
+            own_room: self.own_room,
+            request_room: self.request_room,
+            accounts,
+        })
     }
 
     /// The same book, in memory of its own.

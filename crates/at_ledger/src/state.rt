@@ -42,7 +42,7 @@ impl Model for State {
 impl State {
     ghost use Rattle.at_ledger.specs.Book.{is_owner, total_of};
     ghost use Rattle.at_ledger.specs.Call.{IsCallOn};
-    ghost use Rattle.at_ledger.specs.State.{IsLedger, after_short, asked_of, asked_position, balance_of, counted, is_full, moved, opening_state, pay, sent_of, step, with_asked, with_sent};
+    ghost use Rattle.at_ledger.specs.State.{IsLedger, after_short, asked_of, asked_position, balance_of, carried, counted, is_full, moved, opening_state, pay, sent_of, step, with_asked, with_sent};
 
     /// The openings, with no room used. The state keeps a copy of the book.
     pub fn new(alloc: Global, book: &Book) -> Result<State, AllocError>
@@ -130,6 +130,14 @@ impl State {
         ensures checked { IsLedger self.now }
     {
         self.balances.iter().sum()
+    }
+
+    /// The book of the next ledger: these balances are its openings, and no room is used. All else of the book is as it was.
+    pub fn carried(&self, alloc: Global) -> Result<Book, AllocError>
+        ensures carried { IfOk result (λ b. b ≡ carried self.now) }
+        ensures total { IfOk result (λ b. total_of b ≡ total_of self.now.book) }
+    {
+        self.book.with_openings(alloc, self.balances.as_slice())
     }
 
     fn asked_position(&self, process: u32, account: u32) -> usize
