@@ -16,7 +16,7 @@ amount_if this account amount = cond (eqb this account) amount 0
 pub amount_if-other : (this account amount : ℕ) → account ≢ this → amount_if this account amount ≡ 0
 amount_if-other this account amount apart = grind (arith, nat_tests, apart)
 
-get_or-less : (balances : List ℕ) (from amount a : ℕ) → from < length balances → amount ≤ get_or balances from 0
+pub get_or-less : (balances : List ℕ) (from amount a : ℕ) → from < length balances → amount ≤ get_or balances from 0
     → get_or (less balances from amount) a 0 + amount_if from a amount ≡ get_or balances a 0
 get_or-less balances from amount a known covered =
     elim (cases_eq a from) as (λ _. get_or (less balances from amount) a 0 + amount_if from a amount ≡ get_or balances a 0) [

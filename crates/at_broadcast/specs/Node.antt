@@ -5,7 +5,7 @@ use Rattle.at_broadcast.specs.Messages.{MessageList, list_of, message_of, no_mes
 use Rattle.at_broadcast.specs.Validated.{IsValid, Reached, balance_at, came, went}
 use Rattle.at_broadcast.specs.declared.message.Message.{Message}
 use Rattle.at_broadcast.specs.declared.message.TheConstants.{MESSAGES_MAX}
-use Rattle.at_broadcast.specs.declared.progress.Payout.{Payout}
+use Rattle.at_broadcast.specs.declared.payout.Payout.{Payout}
 
 -- the messages of each log, how many of each are validated, and the balance of each account
 pub record NodeState : Type 0 where

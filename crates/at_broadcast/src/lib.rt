@@ -11,6 +11,7 @@ mod delivered;
 mod log_book;
 mod message;
 mod node;
+mod payout;
 mod progress;
 mod sender;
 
@@ -18,3 +19,4 @@ pub use crate::counts::{LOGS_MAX, LogCounts};
 pub use crate::log_book::{LogAccount, LogBook, single_log};
 pub use crate::message::{MESSAGES_MAX, Message};
 pub use crate::node::Node;
+pub use crate::payout::{Payout, credit};

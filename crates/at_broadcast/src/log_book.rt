@@ -1,6 +1,6 @@
 //! What a node needs of a book.
 
-ghost use Rattle.std.specs.Prelude.{◌≡◌, ◌<◌, length, IfOk, None, Some};
+ghost use Rattle.std.specs.Prelude.{◌≡◌, ◌<◌, length, map, IfOk, None, Some};
 ghost use Rattle.at_broadcast.specs.Prelude.{account_of};
 ghost use Rattle.at_broadcast.specs.LogBook.{single_log};
 
@@ -78,6 +78,18 @@ impl LogBook {
         ensures { result ≡ (account_on_logs self.now account).opening }
     {
         self.accounts[account as usize].opening
+    }
+
+    /// What each account opens with, in order.
+    pub fn openings(&self, alloc: Global) -> Result<Vec<u64>, AllocError>
+        ensures openings { IfOk result (λ balances. balances.items ≡ map (λ t. t.opening) self.now.accounts) }
+        ensures checked { IsLogBook self.now }
+    {
+        let mut balances = Vec::new(alloc);
+        for account in 0..self.accounts() {
+            balances.push(self.opening(account))?;
+        }
+        Ok(balances)
     }
 
     /// The one log that debits the account, if any.

@@ -19,8 +19,8 @@ pub struct Message {
 }
 
 impl Message {
-    /// An equal message. It takes no memory.
-    pub(crate) fn copy(&self) -> Message
+    /// An equal message. It takes no memory, so it can't fail as a clone can.
+    pub fn copy(&self) -> Message
         ensures { result ≡ self.now }
     {
         Message {

@@ -12,18 +12,10 @@ ghost use Rattle.at_broadcast.specs.declared.message.TheConstants.{MESSAGES_MAX}
 use crate::counts::LogCounts;
 use crate::log_book::LogBook;
 use crate::message::Message;
+use crate::payout::{Payout, credit};
 use crate::sender::Sender;
-use at_ledger::Targets;
 use std::alloc::{AllocError, Global};
 use std::marker::Model;
-
-/// What a valid message of a log moves.
-#[derive(Drop)]
-pub(crate) struct Payout {
-    pub(crate) log: u32,
-    pub(crate) from: u32,
-    pub(crate) targets: Targets,
-}
 
 /// What was delivered, how much of it is validated, and the balances there. Further messages may be valid.
 #[derive(Drop)]
@@ -59,7 +51,7 @@ impl Progress {
         ensures steady { IfOk result IsSteady }
     {
         let senders = new_senders(alloc, book)?;
-        let balances = openings(alloc, book)?;
+        let balances = book.openings(alloc)?;
         Ok(Progress {
             book: book.copy(alloc)?,
             validated: LogCounts::zeros(book.logs()),
@@ -303,28 +295,4 @@ fn new_senders(alloc: Global, book: &LogBook) -> Result<Vec<Sender>, AllocError>
         senders.push(Sender::new(alloc, accounts)?)?;
     }
     Ok(senders)
-}
-
-/// Adds each amount to its target, in order.
-fn credit(balances: &mut [u64], targets: &Targets)
-    requires targets_in { AreTargetsOn (length balances.old) targets.now }
-    requires fits { sum balances.old + amount_of targets.now < 2 ^ 64 }
-    ensures { balances.new ≡ credited balances.old targets.now }
-{
-    for i in 0..targets.len() {
-        balances[targets.to(i) as usize] += targets.amount(i);
-    }
-}
-
-/// The openings of the accounts.
-fn openings(alloc: Global, book: &LogBook) -> Result<Vec<u64>, AllocError>
-    ensures openings { IfOk result
-        (λ balances. balances.items ≡ map (λ t. t.opening) book.now.accounts) }
-    ensures checked { IsLogBook book.now }
-{
-    let mut balances = Vec::new(alloc);
-    for account in 0..book.accounts() {
-        balances.push(book.opening(account))?;
-    }
-    Ok(balances)
 }

@@ -1,6 +1,6 @@
 use Rattle.std.proofs.Common.{◌≡◌, ◌+◌, drop, sum}
 use Rattle.at_broadcast.proofs.Prelude.{amount_of, credited}
-use Rattle.at_broadcast.proofs.progress.credit.Given as goal
+use Rattle.at_broadcast.proofs.payout.credit.Given as goal
 
 abbrev pub invariant-loop-i : goal.invariant-loop-i
 invariant-loop-i l =

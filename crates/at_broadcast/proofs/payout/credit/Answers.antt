@@ -1,6 +1,6 @@
 use Rattle.std.proofs.Common.{◌<◌, length, sym, ◌∙◌, arith}
 use Rattle.at_broadcast.proofs.Prelude.{common_steps, All-get_or, get_or-le-sum_by, amount_of-drop_more, credited-drop_more, credited-drop_all, sum-set_more}
-use Rattle.at_broadcast.proofs.progress.credit.Goals as goal
+use Rattle.at_broadcast.proofs.payout.credit.Goals as goal
 
 pub overflow_add-balances : goal.overflow_add-balances
 overflow_add-balances c =
