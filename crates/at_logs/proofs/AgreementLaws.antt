@@ -1,6 +1,6 @@
 -- Nodes that have read the same logs agree, as far as both have read.
 use Rattle.std.proofs.Common.{◌≡◌, ℕ, ◌+◌, ◌<◌, ◌≤◌, cond, leb, List, [], length, get_or, map, Option, None, Some, IsSome, slice_get, refl, ap, sym, subst, ◌∙◌, inl, inr, arith, get_or-set_same, get_or-set_other}
-use Rattle.at_logs.proofs.Prelude.{cases_eq, cases_lt, ext_get_or, get_or_from_slice_get, get_or_past, get_or-map-range_with_len, length-map-range_with_len, range_with_len, get_or-replicate, slice_get_within, differ, leb_tells, AgreesOnLogs, Answer, Taken, NotAnEntry, Forked, Gap, Again, BookTerms, IsBook, Extends, FollowsOnLogs, HasPrefixes-IsNode, AgreesWithAll-IsNode, SharesBalances-IsNode, EntryTerms, Fits, HasTaken, HasReadLogs, HasReadAsMuch, opened, taken, told, IsAnswerAt, IsPassed, IsReading, LeavesAfter, LogBytes, LogTerms, Message, MessageList, NodeState, ReadBoth, ReadsGrown, ReadingState, SharesBalancesOnLogs, SharesPrefixesOnLogs, Tail, TakesFrom, list_of, logs_of, message_at, message_of, message_of-unlisted, messages_in_log, no_tail, opened_node, passed_over, sha256, tail_after, tail_of}
+use Rattle.at_logs.proofs.Prelude.{cases_eq, cases_lt, ext_get_or, get_or_from_slice_get, get_or_past, get_or-map-range_with_len, length-map-range_with_len, range_with_len, get_or-replicate, slice_get_within, differ, leb_tells, AgreesOnLogs, Answer, Taken, NotAnEntry, Forked, Gap, Again, BookTerms, IsBook, Extends, FollowsOnLogs, HasPrefixes-IsNode, AgreesWithAll-IsNode, SharesBalances-IsNode, EntryTerms, Fits, HasTaken, entry_book, HasReadLogs, HasReadAsMuch, opened, taken, told, IsAnswerAt, IsPassed, IsReading, LeavesAfter, LogBytes, LogTerms, Message, MessageList, NodeState, ReadBoth, ReadsGrown, ReadingState, SharesBalancesOnLogs, SharesPrefixesOnLogs, Tail, TakesFrom, list_of, logs_of, message_at, message_of, message_of-unlisted, messages_in_log, no_tail, opened_node, passed_over, sha256, tail_after, tail_of}
 use Rattle.at_logs.proofs.DraftLaws.{SpellsEntry-same}
 use Rattle.at_logs.proofs.ReadingLaws.{length-messages_in_log}
 use Rattle.at_logs.proofs.SameLogsLaws.{HasMore-with_messages, IsLogRead, IsLogRead-passed, IsLogRead-same, IsLogRead-took, IsReadTo, IsSmall, read_first, same_read, slice_get-left}
@@ -54,7 +54,7 @@ IsReadOf-taken b hash logs s t is step = by_answer step.answer step.answered ste
   stands place here = get_or_from_slice_get (get_or logs log []) place bytes [] (ap (slice_get (get_or logs log [])) (sym here) ∙ step.stands)
 
   -- the entry is taken
-  took : (e : EntryTerms) → Fits s log step.place bytes e → HasTaken s log bytes e t → IsReadOf b hash logs t
+  took : (e : EntryTerms) → Fits (entry_book s) (tail_of s log) log step.place bytes e → HasTaken s log bytes e t → IsReadOf b hash logs t
   took e fits has = record {
     reading = step.reading;
     book = has.book ∙ is.book;
@@ -85,7 +85,7 @@ IsReadOf-taken b hash logs s t is step = by_answer step.answer step.answered ste
         (ap (λ (l : List MessageList). list_of l log) has.messages)) (is.parts log known))
 
   -- bytes are passed over
-  passed : IsPassed s log step.place bytes → t ≡ passed_over s log bytes → IsReadOf b hash logs t
+  passed : IsPassed (entry_book s) (tail_of s log) log step.place bytes → t ≡ passed_over s log bytes → IsReadOf b hash logs t
   passed answered left = subst (IsReadOf b hash logs) (sym left) (record {
     reading = subst IsReading left step.reading;
     book = is.book;

@@ -1,6 +1,6 @@
 -- Sums of kept credits.
-use Rattle.std.proofs.Common.{◌≡◌, ◌≢◌, ℕ, ◌+◌, ◌-◌, ◌<◌, ◌≤◌, length, get_or, set, get_or-set_same, get_or-set_other, Bool, true, false, not, cond, eqb, List, [], ◌∷◌, ◌++◌, filter, sum_by, Option, Some, refl, ap, sym, ◌∙◌, inl, inr, arith}
-use Rattle.at_logs.proofs.Prelude.{All, All-head, All-tail, AllByRecursion, amount_if, amount_if-other, cases_eq, eq-eqb, eqb_tells, nat_tests, sum_by-cons, LogTerms, TargetPair, account_on_logs, amount_to, Credit, credit_below, credit_to, credits_of, is_below, is_log}
+use Rattle.std.proofs.Common.{◌≡◌, ◌≢◌, ℕ, ◌+◌, ◌≤◌, Bool, true, false, not, cond, eqb, List, [], ◌∷◌, ◌++◌, filter, sum_by, Option, Some, refl, ap, sym, ◌∙◌, inl, inr, arith}
+use Rattle.at_logs.proofs.Prelude.{All, All-head, All-tail, AllByRecursion, eq-eqb, eqb_tells, nat_tests, sum_by-cons, LogTerms, TargetPair, account_on_logs, amount_to, Credit, credit_below, credit_to, credits_of, is_below, is_log}
 
 -- an element that passes a test
 sum-cond : (f : Credit → ℕ) (test : Bool) (x : Credit) (rest : List Credit) → sum_by f (cond test (x ∷ rest) rest) ≡ cond test (f x) 0 + sum_by f rest
@@ -163,21 +163,3 @@ credits_of-append b p log number (t ∷ first) rest =
           ≡ cond test (x ∷ credits_of b p log number first) (credits_of b p log number first) ++ credits_of b p log number rest
       chosen true x same = ap (λ l. x ∷ l) same
       chosen false x same = same
-
--- an account has what it had, less the amount where it is the one that pays
-pub get_or-less : (balances : List ℕ) (from amount a : ℕ) → from < length balances → amount ≤ get_or balances from 0
-    → get_or (set balances from (get_or balances from 0 - amount)) a 0 + amount_if from a amount ≡ get_or balances a 0
-get_or-less balances from amount a known covered =
-    elim (cases_eq a from) as (λ _. get_or (set balances from (get_or balances from 0 - amount)) a 0 + amount_if from a amount ≡ get_or balances a 0) [
-      | inl same ↦
-          let test : amount_if from a amount ≡ amount = ap (λ t. cond t amount 0) (eq-eqb from a (sym same)) in
-          omega (
-            arith,
-            test,
-            ap (λ k. get_or (set balances from (get_or balances from 0 - amount)) k 0) same,
-            ap (λ k. get_or balances k 0) same,
-            get_or-set_same balances from (get_or balances from 0 - amount) 0 known,
-          )
-      | inr apart ↦
-          omega (arith, amount_if-other from a amount apart, get_or-set_other balances from a (get_or balances from 0 - amount) 0 apart)
-    ]

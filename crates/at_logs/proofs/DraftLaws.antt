@@ -1,7 +1,7 @@
 -- A draft is made, and is final once it was read at its place.
 use Rattle.std.proofs.Common.{◌≡◌, ℕ, ◌+◌, ◌<◌, List, [], ◌∷◌, length, get_or, set, Some, refl, sym, ap, subst, ◌∙◌, arith, get_or-set_same}
 use Rattle.std.specs.Prelude.{IsTrue}
-use Rattle.at_logs.proofs.Prelude.{All-from_recursion, set-get_or, message_of-listed, account_on_logs, is_owner, AreTargetsOn, BookTerms, CanPay, EntryMessage, EntryTerms, HasBytes, HasTaken, IsAnswerAt, IsDraft, IsEntryOn, IsFinalAt, IsFinal-IsNode, IsReading, IsSource, LeavesAfter, LogTerms, MessageList, ReadingState, SpellsEntry, Draft, Tail, Taken, TargetPair, entry_bytes, message_in_log, message_of, messages_in_log, no_tail, payment_entry, tail_after, tail_of}
+use Rattle.at_logs.proofs.Prelude.{All-from_recursion, set-get_or, message_of-listed, account_on_logs, is_owner, AreTargetsOn, BookTerms, CanPay, EntryMessage, EntryTerms, HasBytes, HasTaken, IsAnswerAt, IsDraft, IsEntryOn, IsFinalAt, IsFinal-IsNode, IsReading, IsSource, LeavesAfter, LogTerms, MessageList, NodeTerms, ReadingState, SpellsEntry, entry_book, Draft, Tail, Taken, TargetPair, entry_bytes, message_in_log, message_of, messages_in_log, no_tail, payment_entry, read_state, shown, tail_after, tail_of}
 use Rattle.at_logs.proofs.ReadingLaws.{Covers-tail, accounts-logs_of, length-messages_in_log}
 
 pub IsDraft-made : (s : ReadingState) (writer from : ℕ) (paid : List TargetPair) (name : List ℕ) (d : Draft) → IsReading s → d.log < s.node.book.logs → writer < s.book.processes
@@ -27,7 +27,7 @@ IsDraft-made s writer from paid name d is log writer_in source targets can bytes
           };
           exact = spelled;
           book = refl;
-          sources = All-from_recursion (λ (m : EntryMessage). IsSource s d.log writer m.from) one (can.source, tt);
+          sources = All-from_recursion (λ (m : EntryMessage). IsSource (entry_book s) d.log writer m.from) one (can.source, tt);
         };
         before = refl;
         next = record { own = can.all; room = omega (arith, can.number); kept = Covers-tail s.node d.log (tail_of s d.log) is.node (is.tails d.log log) can.all };
@@ -41,6 +41,10 @@ IsDraft-made s writer from paid name d is log writer_in source targets can bytes
       };
     }
 
+-- who can pay is told without the messages
+pub CanPay-shown : (n : NodeTerms) (messages : List MessageList) (log writer from : ℕ) (paid : List TargetPair) → CanPay (shown n) log writer from paid → CanPay (read_state n messages) log writer from paid
+CanPay-shown n messages log writer from paid can = record { source = can.source; all = can.all; number = can.number; place = can.place; covered = can.covered }
+
 -- an entry by its parts
 pub payment_entry-parts : (s : ReadingState) (log writer from : ℕ) (paid : List TargetPair) (name deps before : List ℕ) (messages : List EntryMessage) → deps ≡ s.node.validated
     → before ≡ (tail_of s log).hash → messages ≡ record { from = from; targets = paid; reference = name } ∷ []
@@ -51,7 +55,7 @@ payment_entry-parts s log writer from paid name deps before messages deps_are be
     ∙ ap (λ (l : List EntryMessage). record { writer = writer; deps = s.node.validated; book = s.hash; before = (tail_of s log).hash; messages = l }) messages_are)
 
 -- bytes spell the same to nodes of one book
-pub SpellsEntry-same : (r s : ReadingState) (log : ℕ) (bytes : List ℕ) (e : EntryTerms) → r.node.book ≡ s.node.book → r.book ≡ s.book → r.hash ≡ s.hash → SpellsEntry r log bytes e → SpellsEntry s log bytes e
+pub SpellsEntry-same : (r s : ReadingState) (log : ℕ) (bytes : List ℕ) (e : EntryTerms) → r.node.book ≡ s.node.book → r.book ≡ s.book → r.hash ≡ s.hash → SpellsEntry (entry_book r) log bytes e → SpellsEntry (entry_book s) log bytes e
 SpellsEntry-same r s log bytes e logs book hash is = record {
   on = subst (λ (l : LogTerms). IsEntryOn l.logs (length s.book.accounts) s.book.processes e) logs
       (subst (λ (b : BookTerms). IsEntryOn r.node.book.logs (length b.accounts) b.processes e) book is.on);
@@ -81,7 +85,7 @@ IsFinalAt-taken s t d is new known taken leaves maker writer from paid name draf
     by_other : HasTaken s log d.bytes.items other t
     by_other = leaves other taken.1.spelled
 
-    spelled : SpellsEntry s log d.bytes.items e
+    spelled : SpellsEntry (entry_book s) log d.bytes.items e
     spelled = SpellsEntry-same maker s log d.bytes.items e (follows.book ∙ by_other.logs) (book ∙ by_other.book) (hash ∙ by_other.hash) draft.fits.spelled
 
     has : HasTaken s log d.bytes.items e t

@@ -14,3 +14,5 @@ pub mod CompactLaws
 pub mod KeptLaws
 pub mod RoomLaws
 pub mod StateLaws
+pub mod HistoryLaws
+pub mod CallLaws

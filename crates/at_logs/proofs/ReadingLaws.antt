@@ -1,14 +1,10 @@
 -- One entry more of a log is read.
-use Rattle.std.proofs.Common.{◌≡◌, ℕ, zero, suc, ◌+◌, ◌-◌, ◌<◌, ◌≤◌, IsSome, List, [], ◌∷◌, length, get_or, set, replicate, Option, None, Some, refl, add-one, ap, sym, subst, ◌∙◌, inl, inr, arith, length-set, get_or-set_same, get_or-set_other}
+use Rattle.std.proofs.Common.{◌≡◌, ◌≢◌, ℕ, zero, suc, ◌+◌, ◌-◌, ◌<◌, ◌≤◌, ◌⊎◌, IsSome, List, [], ◌∷◌, length, get_or, set, replicate, Option, None, Some, refl, add-one, ap, sym, subst, ◌∙◌, inl, inr, arith, length-set, get_or-set_same, get_or-set_other}
 use Rattle.std.specs.Prelude.{is_some}
-use Rattle.at_logs.proofs.Prelude.{All, cases_eq, cases_lt, le_prop, ∥∥₁_elim, ∥∥₁_map, get_or-map-range_with_len, get_or-replicate, get_or-zeros, length-map-range_with_len, length-replicate, one_more_of-ge, one_more_of-le, same_Some, BookTerms, Covers, ComesNext, EntryTerms, IsCounted, IsCounted-Reached, IsMessageOn, IsUndelivered, Reached, Reached-with_place, after-Reached, list_of, with_message, raise, zeros, LogTerms, MessageList, message_in_log, message_of, message_of-listed, message_of-unlisted, messages_in_log, no_messages, with_messages, IsNode, NodeState, starting_state, one_more_of, Message, none-start, IsReading, IsTail, ReadingState, Tail, log_account, logs_of, no_tail, opened_node, tail_after, tail_of}
+use Rattle.at_logs.proofs.Prelude.{All, cases_eq, cases_lt, le_prop, ∥∥₁_elim, ∥∥₁_map, get_or-map-range_with_len, get_or-replicate, get_or-zeros, get_or_past, differ, HasRisingDeps, length-map-range_with_len, length-replicate, one_more_of-ge, one_more_of-le, same_Some, BookTerms, Covers, ComesNext, EntryTerms, IsCounted, IsCounted-Reached, IsMessageOn, Reached, Reached-with_place, after-Reached, list_of, with_message, raise, zeros, LogTerms, MessageList, message_in_log, message_of, message_of-listed, message_of-unlisted, messages_in_log, no_messages, with_messages, IsNode, NodeState, starting_state, one_more_of, Message, none-start, IsReading, IsTail, ReadingState, Tail, log_account, logs_of, no_tail, opened_node, tail_after, tail_of}
 
 pub length-messages_in_log : (e : EntryTerms) (log : ℕ) → length (messages_in_log e log) ≡ length e.messages
 length-messages_in_log e log = length-map-range_with_len (message_in_log e log) 0 (length e.messages)
-
--- the messages of the next entry weren't delivered
-pub IsUndelivered-tail : (n : NodeState) (p count : ℕ) (t : Tail) → IsTail n p t → IsUndelivered n.messages p t.messages count
-IsUndelivered-tail n p count t is k within = is.unread (t.messages + k) (omega arith)
 
 -- where nothing of the log changes
 pub IsTail-same : (n after : NodeState) (p : ℕ) (t : Tail) → after.book ≡ n.book → ((number : ℕ) → message_of after.messages p number ≡ message_of n.messages p number)
@@ -22,12 +18,14 @@ IsTail-same n after p t book same is =
       first = λ none. is.first none ∙ ap (λ k. replicate k 0) (sym logs);
       later = λ number m next found. is.later number m next (sym (same number) ∙ found);
       named = λ number m found. subst (λ (b : LogTerms). IsMessageOn b.logs (length b.accounts) m) (sym book) (is.named number m (sym (same number) ∙ found));
+      own = λ number m found. is.own number m (sym (same number) ∙ found);
+      others = λ number m found. is.others number m (sym (same number) ∙ found);
     }
 
 -- where bytes are passed over
 pub IsTail-passed : (n : NodeState) (p entries : ℕ) (hash : List ℕ) (t : Tail) → IsTail n p t
     → IsTail n p (record { entries = entries; messages = t.messages; deps = t.deps; hash = hash })
-IsTail-passed n p entries hash t is = record { counted = is.counted; read = is.read; unread = is.unread; first = is.first; later = is.later; named = is.named }
+IsTail-passed n p entries hash t is = record { counted = is.counted; read = is.read; unread = is.unread; first = is.first; later = is.later; named = is.named; own = is.own; others = is.others }
 
 -- the `deps` of an entry are no more than those of its messages
 le-in_log : (e : EntryTerms) (p i q : ℕ) → p < length e.deps → get_or e.deps q 0 ≤ get_or (message_in_log e p i).deps q 0
@@ -37,6 +35,93 @@ le-in_log e p i q within =
           omega (arith, ap (λ k. get_or e.deps k 0) same, ap (λ k. get_or (message_in_log e p i).deps k 0) same, get_or-set_same e.deps p (get_or e.deps p 0 + i) 0 within)
       | inr apart ↦ omega (arith, get_or-set_other e.deps p q (get_or e.deps p 0 + i) 0 apart)
     ]
+
+-- the own count of a message of an entry, and the others
+own-in_log : (e : EntryTerms) (p i : ℕ) → p < length e.deps → get_or (message_in_log e p i).deps p 0 ≡ get_or e.deps p 0 + i
+own-in_log e p i within = get_or-set_same e.deps p (get_or e.deps p 0 + i) 0 within
+
+other-in_log : (e : EntryTerms) (p i q : ℕ) → q ≢ p → get_or (message_in_log e p i).deps q 0 ≡ get_or e.deps q 0
+other-in_log e p i q apart = get_or-set_other e.deps p q (get_or e.deps p 0 + i) 0 apart
+
+-- the `deps` of the next entry are no less than those before
+le-next : (t : Tail) (p : ℕ) (e : EntryTerms) → ComesNext t p e → length t.deps ≡ length e.deps → (q : ℕ) → get_or t.deps q 0 ≤ get_or e.deps q 0
+le-next t p e next long q = elim (cases_lt q (length e.deps)) as (λ _. get_or t.deps q 0 ≤ get_or e.deps q 0) [
+  | inl within ↦ next.kept q within
+  | inr past ↦ omega (arith, get_or_past t.deps q 0 (omega (arith, past, long)))
+]
+
+-- a message of the log is one of the entry
+record IsOfEntry (t : Tail) (e : EntryTerms) (p number : ℕ) (m : Message) : Type 0 where
+  pub position : ℕ
+  pub within : position < length e.messages
+  pub place : t.messages + position ≡ number
+  pub same : message_in_log e p position ≡ m
+
+-- once an entry was read, a message of the log is one of it, or was there
+found-read : (n : NodeState) (p : ℕ) (e : EntryTerms) (t : Tail) (number : ℕ) (m : Message) → IsNode n → p < n.book.logs → ComesNext t p e
+    → message_of (with_messages n.messages p t.messages (messages_in_log e p)) p number ≡ Some m → (message_of n.messages p number ≡ Some m) ⊎ IsOfEntry t e p number m
+found-read n p e t number m node known next found =
+    let listed : p < length n.messages = omega (arith, known, node.steady.sized) in
+    let more : List Message = messages_in_log e p in
+    let long : length more ≡ length e.messages = length-messages_in_log e p in
+    elim (cases_lt number t.messages) as (λ _. (message_of n.messages p number ≡ Some m) ⊎ IsOfEntry t e p number m) [
+      | inl below ↦ inl (sym (message_of-unlisted n.messages p t.messages more p number listed (λ _ low. absurd (omega (arith, low, below)))) ∙ found)
+      | inr above ↦
+          let i : ℕ = number - t.messages in
+          let at : t.messages + i ≡ number = omega (arith, above) in
+          elim (cases_lt i (length more)) as (λ _. (message_of n.messages p number ≡ Some m) ⊎ IsOfEntry t e p number m) [
+            | inl within ↦
+                let inside : i < length e.messages = omega (arith, within, long) in
+                let there : Some (get_or more i m) ≡ Some m =
+                sym (message_of-listed n.messages p t.messages more i m listed (omega (arith, node.steady.lists p known, next.room, long)) within)
+                ∙ (ap (message_of (with_messages n.messages p t.messages more) p) at ∙ found) in
+                inr (record {
+                  position = i;
+                  within = inside;
+                  place = at;
+                  same = sym (get_or-map-range_with_len (message_in_log e p) 0 (length e.messages) i i m inside (omega arith)) ∙ same_Some (get_or more i m) m there;
+                })
+            | inr past ↦ inl (sym (message_of-unlisted n.messages p t.messages more p number listed (λ _ _. omega (arith, at, past))) ∙ found)
+          ]
+    ]
+
+own-of_entry : (t : Tail) (e : EntryTerms) (p number : ℕ) (m : Message) → ComesNext t p e → p < length e.deps → IsOfEntry t e p number m → get_or m.deps p 0 ≡ number
+own-of_entry t e p number m next within one =
+    omega (arith, ap (λ (x : Message). get_or x.deps p 0) one.same, own-in_log e p one.position within, next.own, one.place)
+
+other-of_entry : (t : Tail) (e : EntryTerms) (p number q : ℕ) (m : Message) → q ≢ p → IsOfEntry t e p number m → get_or m.deps q 0 ≡ get_or e.deps q 0
+other-of_entry t e p number q m apart one = ap (λ (x : Message). get_or x.deps q 0) (sym one.same) ∙ other-in_log e p one.position q apart
+
+-- the `deps` of a log's messages still don't fall
+pub HasRisingDeps-read : (n : NodeState) (p : ℕ) (e : EntryTerms) (t : Tail) → IsNode n → IsTail n p t → p < n.book.logs → ComesNext t p e → length e.deps ≡ n.book.logs
+    → HasRisingDeps n.messages → HasRisingDeps (with_messages n.messages p t.messages (messages_in_log e p))
+HasRisingDeps-read n p e t node is known next deps rising q number later m x order there after i inside =
+    elim (cases_eq q p) as (λ _. get_or m.deps i 0 ≤ get_or x.deps i 0) [
+      | inr apart ↦
+          let same = λ (k : ℕ). message_of-unlisted n.messages p t.messages (messages_in_log e p) q k (omega (arith, known, node.steady.sized)) (λ at _. absurd (apart at)) in
+          rising q number later m x order (sym (same number) ∙ there) (sym (same later) ∙ after) i inside
+      | inl at ↦
+          let all : List MessageList = with_messages n.messages p t.messages (messages_in_log e p) in
+          by_log (found-read n p e t number m node known next (ap (λ k. message_of all k number) (sym at) ∙ there))
+          (found-read n p e t later x node known next (ap (λ k. message_of all k later) (sym at) ∙ after))
+    ] where
+      within : p < length e.deps
+      within = omega (arith, deps, known)
+
+      by_log : (message_of n.messages p number ≡ Some m) ⊎ IsOfEntry t e p number m → (message_of n.messages p later ≡ Some x) ⊎ IsOfEntry t e p later x → get_or m.deps i 0 ≤ get_or x.deps i 0
+      by_log (inl a) (inl b) = rising p number later m x order a b i inside
+      by_log (inr a) (inl b) = absurd (differ x (sym (is.unread later (omega (arith, order, a.place))) ∙ b))
+      by_log (inl a) (inr b) = elim (cases_eq i p) as (λ _. get_or m.deps i 0 ≤ get_or x.deps i 0) [
+        | inl same ↦
+            subst (λ k. get_or m.deps k 0 ≤ get_or x.deps k 0) (sym same) (omega (arith, is.own number m a, own-of_entry t e p later x next within b, order))
+        | inr apart ↦
+            omega (arith, is.others number m a i apart, le-next t p e next (is.counted ∙ sym deps) i, other-of_entry t e p later i x apart b)
+      ]
+      by_log (inr a) (inr b) = elim (cases_eq i p) as (λ _. get_or m.deps i 0 ≤ get_or x.deps i 0) [
+        | inl same ↦
+            subst (λ k. get_or m.deps k 0 ≤ get_or x.deps k 0) (sym same) (omega (arith, own-of_entry t e p number m next within a, own-of_entry t e p later x next within b, order))
+        | inr apart ↦ omega (arith, other-of_entry t e p number i m apart a, other-of_entry t e p later i x apart b)
+      ]
 
 -- where an entry is read
 pub IsTail-read : (n after : NodeState) (p : ℕ) (bytes : List ℕ) (e : EntryTerms) (t : Tail) → IsNode n → IsTail n p t → p < n.book.logs → after.book ≡ n.book
@@ -75,7 +160,17 @@ IsTail-read n after p bytes e t node is known book messages next deps some named
             | inl below ↦ is.named number m (sym (message_of-unlisted n.messages p t.messages more p number listed (λ _ low. absurd (omega (arith, low, below)))) ∙ (sym (ap (λ (l : List MessageList). message_of l p number) messages) ∙ found))
             | inr above ↦ named_new number m above (sym (ap (λ (l : List MessageList). message_of l p number) messages) ∙ found)
           ]);
+      own = λ number m found. by_own number m (found-read n p e t number m node known next (sym (ap (λ (l : List MessageList). message_of l p number) messages) ∙ found));
+      others = λ number m found q apart. by_other number m q apart (found-read n p e t number m node known next (sym (ap (λ (l : List MessageList). message_of l p number) messages) ∙ found));
     } where
+      by_own : (number : ℕ) (m : Message) → (message_of n.messages p number ≡ Some m) ⊎ IsOfEntry t e p number m → get_or m.deps p 0 ≡ number
+      by_own number m (inl old) = is.own number m old
+      by_own number m (inr new) = own-of_entry t e p number m next (omega (arith, deps, known)) new
+
+      by_other : (number : ℕ) (m : Message) (q : ℕ) → q ≢ p → (message_of n.messages p number ≡ Some m) ⊎ IsOfEntry t e p number m → get_or m.deps q 0 ≤ get_or e.deps q 0
+      by_other number m q apart (inl old) = omega (arith, is.others number m old q apart, le-next t p e next (is.counted ∙ sym deps) q)
+      by_other number m q apart (inr new) = omega (arith, other-of_entry t e p number q m apart new)
+
       read_new : (number : ℕ) → t.messages ≤ number → number < t.messages + length e.messages → IsSome (message_of (with_messages n.messages p t.messages (messages_in_log e p)) p number)
       read_new number above below =
           let listed : p < length n.messages = omega (arith, known, node.steady.sized) in
@@ -175,6 +270,8 @@ IsReading-opened_node b hash node = record {
     first = λ _. refl;
     later = λ number m next found. absurd (omega (arith, next));
     named = λ number m found. absurd (none-start (logs_of b) (logs_of b).logs p number m found);
+    own = λ number m found. absurd (none-start (logs_of b) (logs_of b).logs p number m found);
+    others = λ number m found. absurd (none-start (logs_of b) (logs_of b).logs p number m found);
   });
   told = ∣ zeros ∣₁;
 } where

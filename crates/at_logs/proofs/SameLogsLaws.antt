@@ -1,13 +1,13 @@
 -- What a node has read of a log is told by the bytes that stand there.
 use Rattle.std.proofs.Common.{◌≡◌, ℕ, zero, suc, ◌+◌, ◌-◌, ◌^◌, ◌<◌, ◌≤◌, ◌⊎◌, List, [], ◌∷◌, ◌++◌, length, get_or, None, slice_get, refl, add-one, ap, sym, subst, ◌∙◌, inl, inr, arith, append_assoc}
-use Rattle.at_logs.proofs.Prelude.{append-nil, cases_lt, length-append, slice_get-get_or, slice_get_past, ComesNext, EntryTerms, Message, MessageList, ReadingState, SpellsEntry, Tail, list_of, message_at, message_of, message_of-listed, message_of-unlisted, messages_in_log, no_tail, sha256, tail_after, with_messages}
+use Rattle.at_logs.proofs.Prelude.{append-nil, cases_lt, length-append, slice_get-get_or, slice_get_past, ComesNext, EntryTerms, Message, MessageList, ReadingState, SpellsEntry, entry_book, Tail, list_of, message_at, message_of, message_of-listed, message_of-unlisted, messages_in_log, no_tail, sha256, tail_after, with_messages}
 use Rattle.at_logs.proofs.EntryLaws.{same_entry}
 use Rattle.at_logs.proofs.ReadingLaws.{length-messages_in_log}
 
 -- an entry is taken at the next place of a log
 pub record Took (o : ReadingState) (p : ℕ) (before : Tail) (bytes : List ℕ) (after : Tail) (new : List Message) : Type 0 where
   pub entry : EntryTerms
-  pub spelled : SpellsEntry o p bytes entry
+  pub spelled : SpellsEntry (entry_book o) p bytes entry
   pub hash : entry.before ≡ before.hash
   pub next : ComesNext before p entry
   pub tail : after ≡ tail_after before bytes entry
@@ -15,7 +15,7 @@ pub record Took (o : ReadingState) (p : ℕ) (before : Tail) (bytes : List ℕ) 
 
 -- or bytes are passed over
 pub record Passed (o : ReadingState) (p : ℕ) (before : Tail) (bytes : List ℕ) (after : Tail) (new : List Message) : Type 0 where
-  pub unfit : (e : EntryTerms) → SpellsEntry o p bytes e → ¬ ComesNext before p e
+  pub unfit : (e : EntryTerms) → SpellsEntry (entry_book o) p bytes e → ¬ ComesNext before p e
   pub tail : after ≡ record before { entries = before.entries + 1; hash = sha256 bytes }
   pub messages : new ≡ []
 
@@ -105,7 +105,7 @@ IsLogRead-same o p log t u list after tail same is =
 
 -- bytes are passed over at the next place
 pub IsLogRead-passed : (o : ReadingState) (p : ℕ) (log : List (List ℕ)) (t : Tail) (bytes : List ℕ) (list : MessageList) → get_or log t.entries [] ≡ bytes
-    → ((e : EntryTerms) → SpellsEntry o p bytes e → ¬ ComesNext t p e) → IsLogRead o p log t list
+    → ((e : EntryTerms) → SpellsEntry (entry_book o) p bytes e → ¬ ComesNext t p e) → IsLogRead o p log t list
     → IsLogRead o p log (record t { entries = t.entries + 1; hash = sha256 bytes }) list
 IsLogRead-passed o p log t bytes list stands unfit is =
     let after : Tail = record t { entries = t.entries + 1; hash = sha256 bytes } in
@@ -123,7 +123,7 @@ pub record HasMore (before after : MessageList) (number : ℕ) (more : List Mess
 
 -- an entry is taken there
 pub IsLogRead-took : (o : ReadingState) (p : ℕ) (log : List (List ℕ)) (t : Tail) (bytes : List ℕ) (e : EntryTerms) (list after : MessageList) → get_or log t.entries [] ≡ bytes
-    → SpellsEntry o p bytes e → e.before ≡ t.hash → ComesNext t p e → HasMore list after t.messages (messages_in_log e p) → IsLogRead o p log t list
+    → SpellsEntry (entry_book o) p bytes e → e.before ≡ t.hash → ComesNext t p e → HasMore list after t.messages (messages_in_log e p) → IsLogRead o p log t list
     → IsLogRead o p log (tail_after t bytes e) after
 IsLogRead-took o p log t bytes e list after stands spelled hash next has is =
     let new : List Message = messages_in_log e p in

@@ -1,7 +1,6 @@
 -- What is told is a legal run, and in the end all that is validated.
 use Rattle.std.proofs.Common.{◌≡◌, ℕ, ◌+◌, ◌<◌, ◌≤◌, List, length, get_or, replicate, take, sum_by, cond, ◌⊎◌, Option, None, Some, ◌↔◌, refl, ap, sym, subst, ◌∙◌, inl, inr, arith, get_or-set_same, get_or-set_other}
-use Rattle.std.specs.Prelude.{is_some}
-use Rattle.at_logs.proofs.Prelude.{within-there, MESSAGES_MAX, cases_eq, cases_lt, eq-eqb, le_prop, list_of, ℕ_set, ∥∥₁_elim, ∥∥₁_map, nat_tests, same_number_lists, same_Some, Covers, LogTerms, account_on_logs, amount_of, Message, MessageList, delivered-process, length-Reached, below-Reached, get_or-zeros, message_credit, message_debit, message_of, one_more_of, one_more_of-ge, one_more_of-le, raise, went-deps, zeros, IsNode, IsReading, IsValid, NodeState, Reached, IsButTold, IsNextWithin, IsUntold, ReadingState, TellsLegally, Told, balance_at-covers, came, covers-from_balance_at, part, range-sum, sum_of_first-le, sum_of_first-one_more_of, went}
+use Rattle.at_logs.proofs.Prelude.{cases_eq, cases_lt, eq-eqb, le_prop, list_of, ℕ_set, ∥∥₁_elim, ∥∥₁_map, nat_tests, same_number_lists, same_Some, Covers, LogTerms, account_on_logs, amount_of, Message, MessageList, delivered-process, length-Reached, below-Reached, get_or-zeros, message_credit, message_debit, message_of, one_more_of, one_more_of-ge, one_more_of-le, raise, went-deps, zeros, IsNode, IsReading, IsValid, NodeState, Reached, IsNextWithin, ReadingState, TellsLegally, balance_at-covers, came, covers-from_balance_at, part, range-sum, sum_of_first-le, sum_of_first-one_more_of, went}
 
 -- ---- no balance is below zero at counts that are reached
 
@@ -152,16 +151,6 @@ TellsLegally-IsReading s is = record {
       (∥∥₁_elim is.told le_prop (λ r. omega (arith, solvent-Reached s.node.book s.node.messages s.told is.node.steady.sized r account)));
 }
 
--- one message more is told
-pub IsReading-told : (s : ReadingState) (x : Told) → IsReading s → IsUntold s x → IsReading (record s { told = one_more_of s.told x.log })
-IsReading-told s x is untold = record {
-  node = is.node;
-  book = is.book;
-  sized = is.sized;
-  tails = is.tails;
-  told = ∥∥₁_map is.told (λ r. raise s.told x.log untold.message r untold.next);
-}
-
 -- ---- counts that are reached below others
 
 -- what is next within counts is valid where its `deps` are counted
@@ -218,31 +207,3 @@ reached-within n counts limit node reached sized below none = (comes, is_reached
   is_reached there p within =
       ∥∥₁_elim there le_prop (λ r.
       below-stuck n.book n.messages limit counts limit node.steady.sized r long (λ q m under valid. none q (record { message = m; next = valid; within = under })) (λ q. omega arith) p)
-
--- what a node that has read the same had told
-pub reached-same : (s t : ReadingState) (told : List ℕ) → IsReading t → IsButTold s t → t.told ≡ told → ∥ Reached s.node.book s.node.messages told ∥₁
-reached-same s t told is same told_is =
-    subst (λ (l : List ℕ). ∥ Reached s.node.book s.node.messages l ∥₁) told_is
-    (subst (λ (n : NodeState). ∥ Reached n.book n.messages t.told ∥₁) (ap (λ (x : ReadingState). x.node) same) is.told)
-
--- the node with such counts is a node
-pub IsReading-resumed : (s : ReadingState) (told : List ℕ) → IsReading s → ∥ Reached s.node.book s.node.messages told ∥₁ → IsReading (record s { told = told })
-IsReading-resumed s told is reached = record { node = is.node; book = is.book; sized = is.sized; tails = is.tails; told = reached }
-
--- the number of a message that was delivered is below the most
-pub number-delivered : (n : NodeState) (p number : ℕ) (m : Message) → IsNode n → message_of n.messages p number ≡ Some m → number < MESSAGES_MAX
-number-delivered n p number m node there =
-    omega (
-      arith,
-      within-there (list_of n.messages p) number (ap is_some there),
-      node.steady.lists p (omega (arith, delivered-process n.messages p number m there, node.steady.sized)),
-    )
-
--- one message more within other counts
-pub one_more-within : (n : NodeState) (counts limit : List ℕ) (p : ℕ) → IsNextWithin n counts limit p → ((q : ℕ) → get_or counts q 0 ≤ get_or limit q 0)
-    → (q : ℕ) → get_or (one_more_of counts p) q 0 ≤ get_or limit q 0
-one_more-within n counts limit p next below q =
-    elim (cases_eq q p) as (λ _. get_or (one_more_of counts p) q 0 ≤ get_or limit q 0) [
-      | inl same ↦ subst (λ i. get_or (one_more_of counts p) i 0 ≤ get_or limit i 0) (sym same) (omega (arith, one_more_of-le counts p, next.within))
-      | inr apart ↦ omega (arith, get_or-set_other counts p q (get_or counts p 0 + 1) 0 apart, below q)
-    ]

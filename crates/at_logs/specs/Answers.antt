@@ -1,23 +1,32 @@
 -- What a node answers of bytes at a place of a log, and what is left of it.
 use Rattle.std.specs.Prelude.{◌≡◌, ◌≢◌, ℕ, ◌+◌, ◌<◌, ◌≤◌, ◌↔◌, List, length, All, slice_index, slice_set, Some, IsTrue}
-use Rattle.at_logs.specs.Prelude.{Covers, account_on_logs, is_owner, with_messages, MESSAGES_MAX, sha256}
+use Rattle.at_logs.specs.Prelude.{BookTerms, Covers, LogTerms, account_on_logs, is_owner, with_messages, MESSAGES_MAX, sha256}
 use Rattle.at_logs.specs.Entry.{EntryTerms, IsEntryOn, entry_bytes, messages_in_log}
 use Rattle.at_logs.specs.Reading.{ReadingState, tail_of}
 use Rattle.at_logs.specs.declared.node.Answer.{Answer}
 use Rattle.at_logs.specs.declared.node.Answer.TheVariants.{Taken, NotAnEntry, Forked, Gap, Again}
 use Rattle.at_logs.specs.declared.tail.Tail.{Tail}
 
+-- what tells which bytes spell an entry: a book, its hash, and its logs
+pub record EntryBook : Type 0 where
+  pub book : BookTerms
+  pub hash : List ℕ
+  pub logs : LogTerms
+
+abbrev pub entry_book : ReadingState → EntryBook
+entry_book s = record { book = s.book; hash = s.hash; logs = s.node.book }
+
 -- the log debits the account, and the writer owns it
-pub record IsSource (s : ReadingState) (log writer account : ℕ) : Type 0 where
-  pub debited : (account_on_logs s.node.book account).log ≡ Some log
-  pub owner : IsTrue (is_owner s.book writer account)
+pub record IsSource (b : EntryBook) (log writer account : ℕ) : Type 0 where
+  pub debited : (account_on_logs b.logs account).log ≡ Some log
+  pub owner : IsTrue (is_owner b.book writer account)
 
 -- the bytes spell this entry of the log: it is of the book, and each of its messages has a source there
-pub record SpellsEntry (s : ReadingState) (log : ℕ) (bytes : List ℕ) (e : EntryTerms) : Type 0 where
-  pub on : IsEntryOn s.node.book.logs (length s.book.accounts) s.book.processes e
+pub record SpellsEntry (b : EntryBook) (log : ℕ) (bytes : List ℕ) (e : EntryTerms) : Type 0 where
+  pub on : IsEntryOn b.logs.logs (length b.book.accounts) b.book.processes e
   pub exact : bytes ≡ entry_bytes e
-  pub book : e.book ≡ s.hash
-  pub sources : All (λ m. IsSource s log e.writer m.from) e.messages
+  pub book : e.book ≡ b.hash
+  pub sources : All (λ m. IsSource b log e.writer m.from) e.messages
 
 -- the entry's `deps` are those of the next place: they count the log's messages, and no fewer of any log than the entry before. There are
 -- numbers for its messages
@@ -27,29 +36,29 @@ pub record ComesNext (t : Tail) (log : ℕ) (e : EntryTerms) : Type 0 where
   pub kept : Covers e.deps t.deps
 
 -- the bytes stand at the next place and spell an entry that comes next there
-pub record Fits (s : ReadingState) (log place : ℕ) (bytes : List ℕ) (e : EntryTerms) : Type 0 where
-  pub here : place ≡ (tail_of s log).entries
-  pub spelled : SpellsEntry s log bytes e
-  pub before : e.before ≡ (tail_of s log).hash
-  pub next : ComesNext (tail_of s log) log e
+pub record Fits (b : EntryBook) (t : Tail) (log place : ℕ) (bytes : List ℕ) (e : EntryTerms) : Type 0 where
+  pub here : place ≡ t.entries
+  pub spelled : SpellsEntry b log bytes e
+  pub before : e.before ≡ t.hash
+  pub next : ComesNext t log e
 
 -- they spell one there that was made after other bytes than those before it
-pub record IsForked (s : ReadingState) (log place : ℕ) (bytes : List ℕ) : Type 0 where
-  pub here : place ≡ (tail_of s log).entries
-  pub spelled : (e : EntryTerms) × SpellsEntry s log bytes e
-  pub before : (e : EntryTerms) → SpellsEntry s log bytes e → e.before ≢ (tail_of s log).hash
+pub record IsForked (b : EntryBook) (t : Tail) (log place : ℕ) (bytes : List ℕ) : Type 0 where
+  pub here : place ≡ t.entries
+  pub spelled : (e : EntryTerms) × SpellsEntry b log bytes e
+  pub before : (e : EntryTerms) → SpellsEntry b log bytes e → e.before ≢ t.hash
 
 -- they spell none there, or one whose `deps` are of another place
-pub record IsPassed (s : ReadingState) (log place : ℕ) (bytes : List ℕ) : Type 0 where
-  pub here : place ≡ (tail_of s log).entries
-  pub before : (e : EntryTerms) → SpellsEntry s log bytes e → e.before ≡ (tail_of s log).hash
-  pub unfit : (e : EntryTerms) → SpellsEntry s log bytes e → ¬ ComesNext (tail_of s log) log e
+pub record IsPassed (b : EntryBook) (t : Tail) (log place : ℕ) (bytes : List ℕ) : Type 0 where
+  pub here : place ≡ t.entries
+  pub before : (e : EntryTerms) → SpellsEntry b log bytes e → e.before ≡ t.hash
+  pub unfit : (e : EntryTerms) → SpellsEntry b log bytes e → ¬ ComesNext t log e
 
 -- when each answer comes
 abbrev pub IsAnswerAt : ReadingState → ℕ → ℕ → List ℕ → Answer → Type 0
-IsAnswerAt s log place bytes Taken = (e : EntryTerms) × Fits s log place bytes e
-IsAnswerAt s log place bytes NotAnEntry = IsPassed s log place bytes
-IsAnswerAt s log place bytes Forked = IsForked s log place bytes
+IsAnswerAt s log place bytes Taken = (e : EntryTerms) × Fits (entry_book s) (tail_of s log) log place bytes e
+IsAnswerAt s log place bytes NotAnEntry = IsPassed (entry_book s) (tail_of s log) log place bytes
+IsAnswerAt s log place bytes Forked = IsForked (entry_book s) (tail_of s log) log place bytes
 IsAnswerAt s log place bytes Gap = (tail_of s log).entries < place
 IsAnswerAt s log place bytes Again = place < (tail_of s log).entries
 
@@ -78,7 +87,7 @@ pub record HasTaken (s : ReadingState) (log : ℕ) (bytes : List ℕ) (e : Entry
 
 -- what is left after each answer
 abbrev pub LeavesAfter : ReadingState → ℕ → List ℕ → ReadingState → Answer → Type 0
-LeavesAfter s log bytes t Taken = (e : EntryTerms) → SpellsEntry s log bytes e → HasTaken s log bytes e t
+LeavesAfter s log bytes t Taken = (e : EntryTerms) → SpellsEntry (entry_book s) log bytes e → HasTaken s log bytes e t
 LeavesAfter s log bytes t NotAnEntry = t ≡ passed_over s log bytes
 LeavesAfter s log bytes t Forked = t ≡ s
 LeavesAfter s log bytes t Gap = t ≡ s

@@ -1,7 +1,7 @@
 -- A payment that was made and isn't in its log yet.
 use Rattle.std.specs.Prelude.{◌≡◌, ℕ, ◌+◌, ◌<◌, ◌≤◌, List, [], ◌∷◌, slice_index}
 use Rattle.at_logs.specs.Prelude.{TargetPair, amount_of, Follows, IsMadeAt, MESSAGES_MAX}
-use Rattle.at_logs.specs.Answers.{Fits, IsSource}
+use Rattle.at_logs.specs.Answers.{Fits, IsSource, entry_book}
 use Rattle.at_logs.specs.Entry.{EntryTerms, message_in_log}
 use Rattle.at_logs.specs.Reading.{ReadingState, tail_of}
 use Rattle.at_logs.specs.declared.node.Draft.{Draft}
@@ -10,7 +10,7 @@ use Rattle.at_logs.specs.declared.tail.TheConstants.{ENTRIES_MAX}
 -- a process can pay amounts from an account by this log: the log debits it, the process owns it, the node has validated all of the log
 -- that it has read, there is a place and a number, and the balance covers the amounts
 pub record CanPay (s : ReadingState) (log writer from : ℕ) (targets : List TargetPair) : Type 0 where
-  pub source : IsSource s log writer from
+  pub source : IsSource (entry_book s) log writer from
   pub all : slice_index s.node.validated log ≡ (tail_of s log).messages
   pub number : (tail_of s log).messages < MESSAGES_MAX
   pub place : (tail_of s log).entries < ENTRIES_MAX
@@ -31,7 +31,7 @@ payment_entry s log writer from paid name = record {
 pub record IsDraft (s : ReadingState) (writer from : ℕ) (paid : List TargetPair) (name : List ℕ) (d : Draft) : Type 0 where
   pub log : d.log < s.node.book.logs
   pub can : CanPay s d.log writer from paid
-  pub fits : Fits s d.log d.place d.bytes.items (payment_entry s d.log writer from paid name)
+  pub fits : Fits (entry_book s) (tail_of s d.log) d.log d.place d.bytes.items (payment_entry s d.log writer from paid name)
   pub made : IsMadeAt s.node d.log (message_in_log (payment_entry s d.log writer from paid name) d.log 0)
 
 -- a node of this book that was given as much as the draft's maker, and the draft at its place, has validated its payment

@@ -1,5 +1,6 @@
 pub mod Prelude
 pub mod Logs
+pub mod Compact
 pub mod Reading
 pub mod Answers
 pub mod SameLogs
@@ -7,4 +8,5 @@ pub mod Telling
 pub mod Draft
 pub mod Entry
 pub mod Readers
-pub mod Compact
+pub mod Calls
+pub mod Snapshot

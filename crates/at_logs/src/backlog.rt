@@ -2,10 +2,12 @@
 
 ghost use Rattle.std.specs.Prelude.{◌≡◌, ℕ, ◌+◌, ◌-◌, ◌<◌, ◌≤◌, ◌^◌, ◌++◌, ◌∷◌, [], All, IfOk, OnErr, OnOk, drop, length, option_copied, slice_get, slice_index, sum_by, IsTrue, ◌↔◌};
 ghost use Rattle.at_logs.specs.Prelude.{Covers, most_logs};
+ghost use Rattle.at_logs.specs.Snapshot.{backlog_bytes};
 ghost use Rattle.at_logs.specs.Compact.{backlog_settled, backlog_told, backlog_with, credit_below, credit_to, new_backlog};
 
 use crate::credits::{Credit, add_below, is_below};
-use crate::payout::copy_of;
+use crate::saving::{put_credits, put_messages};
+use crate::spelling::put_counts;
 use at_broadcast::{LogCounts, Message};
 use std::alloc::{AllocError, Global};
 use std::collections::VecDeque;
@@ -74,7 +76,7 @@ impl Backlog {
     {
         self.messages.reserve(messages.len())?;
         for message in messages {
-            self.messages.push_back_reserved(copy_of(message));
+            self.messages.push_back_reserved(message.copy());
         }
         Ok(())
     }
@@ -121,5 +123,13 @@ impl Backlog {
         add_below(settled, self.credits.as_slice(), deps);
         self.credits.retain(|credit| !is_below(deps, credit));
         self.settled_at = deps.copy();
+    }
+    /// Writes what is kept of the log.
+    pub(crate) fn put(&self, out: &mut Vec<u8>) -> Result<(), AllocError>
+        ensures { OnOk result (out.new.items ≡ out.old.items ++ backlog_bytes self.now.kept) }
+    {
+        put_messages(out, &self.messages)?;
+        put_credits(out, self.credits.as_slice())?;
+        put_counts(out, &self.settled_at)
     }
 }

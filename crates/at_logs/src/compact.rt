@@ -1,14 +1,16 @@
 //! The core of a node that lets go what it has validated and told.
 
-ghost use Rattle.std.specs.Prelude.{◌≡◌, ℕ, ◌+◌, ◌-◌, ◌<◌, ◌≤◌, All, IfNone, IfOk, IfSome, OnErr, OnOk, length, option_copied, replicate, slice_get, slice_index, slice_set, sum_by, map, if◌then◌else◌, IsTrue, ◌↔◌, Some, ◌∷◌, []};
-ghost use Rattle.at_logs.specs.Prelude.{AreTargetsOn, Covers, IsMessageOn, Payout, MESSAGES_MAX, account_on_logs, most_logs, one_more_of};
+ghost use Rattle.std.specs.Prelude.{◌≡◌, ℕ, ◌+◌, ◌-◌, ◌<◌, ◌≤◌, All, IfNone, IfOk, IfSome, OnErr, OnOk, length, option_copied, replicate, slice_get, slice_index, slice_set, sum_by, map, if◌then◌else◌, IsTrue, ◌↔◌, Some, ◌∷◌, [], ◌++◌};
+ghost use Rattle.at_logs.specs.Prelude.{AreTargetsOn, Covers, flat_map, IsMessageOn, Payout, MESSAGES_MAX, account_on_logs, most_logs, one_more_of};
 ghost use Rattle.at_logs.specs.Compact.{IsCreditOf, RoomyBacklog, backlog_credited, backlog_of, backlog_told, backlog_with, is_log, kept_of, named_among, new_backlog, new_state, next_message, room_of};
+ghost use Rattle.at_logs.specs.Snapshot.{backlog_bytes, core_bytes};
 ghost use Rattle.at_logs.specs.declared.credits.Credit.{Credit};
 
 use crate::backlog::Backlog;
 use crate::credits::Credit;
-use crate::payout::{Payout, credit, openings};
-use at_broadcast::{LogBook, LogCounts, Message};
+use crate::saving::put_amounts;
+use crate::spelling::put_counts;
+use at_broadcast::{LogBook, LogCounts, Message, Payout, credit};
 use at_ledger::Targets;
 use std::alloc::{AllocError, Global};
 use std::marker::Model;
@@ -38,14 +40,14 @@ impl Model for Compact {
 
 impl Compact {
     ghost use Rattle.at_logs.specs.Prelude.{left};
-    ghost use Rattle.at_logs.specs.Compact.{IsPayable, IsNextMade, IsStuck, IsStuckIn, SettlesFrom, ValidatesFrom};
+    ghost use Rattle.at_logs.specs.Compact.{IsCompact, IsPayable, IsNextMade, IsStuck, IsStuckIn, SettlesFrom, ValidatesFrom};
 
     /// Nothing read, and the openings.
     pub(crate) fn new(alloc: Global, book: LogBook) -> Result<Compact, AllocError>
         ensures { IfOk result (λ c. c ≡ new_state book) }
     {
-        let settled = openings(alloc, &book)?;
-        let balances = openings(alloc, &book)?;
+        let settled = book.openings(alloc)?;
+        let balances = book.openings(alloc)?;
         let logs = book.logs();
         let backlogs = new_backlogs(alloc, logs)?;
         Ok(Compact {
@@ -102,9 +104,49 @@ impl Compact {
         self.validated.copy()
     }
 
+    /// Tells a proof what holds of it. It does nothing when it runs.
+    pub(crate) fn known(&self)
+        ensures { IsCompact self.now }
+    {
+        let _kept = &self.book;
+    }
+
+    /// How many messages of the log are validated.
+    pub(crate) fn validated(&self, p: u32) -> u32
+        requires { p < self.now.book.logs }
+        ensures { result ≡ slice_index self.now.validated p }
+    {
+        self.validated.get(p)
+    }
+
+    /// How many messages of the log were told.
+    pub(crate) fn told_of(&self, p: u32) -> u32
+        requires { p < self.now.book.logs }
+        ensures { result ≡ slice_index self.now.told p }
+    {
+        self.told.get(p)
+    }
+
+    /// Whether all that these counts have was told.
+    pub(crate) fn has_told(&self, deps: &LogCounts) -> bool
+        requires { length deps.now ≡ self.now.book.logs }
+        ensures { IsTrue result ↔ Covers self.now.told deps.now }
+    {
+        self.told.covers(deps)
+    }
+
+    /// Whether all that these counts have is validated.
+    pub(crate) fn has_validated(&self, counts: &LogCounts) -> bool
+        requires { length counts.now ≡ self.now.book.logs }
+        ensures { IsTrue result ↔ Covers self.now.validated counts.now }
+    {
+        self.validated.covers(counts)
+    }
+
     /// How many messages of each log were told.
     pub(crate) fn told(&self) -> LogCounts
-        ensures { result ≡ self.now.told }
+        ensures counts { result ≡ self.now.told }
+        ensures counted { length result ≡ self.now.book.logs }
     {
         self.told.copy()
     }
@@ -123,6 +165,15 @@ impl Compact {
         ensures { option_copied result ≡ slice_get (backlog_of self.now.backlogs p).messages 0 }
     {
         self.backlogs[p as usize].message(0)
+    }
+
+    /// The message of the log and number, which wasn't told, if it was read.
+    pub(crate) fn message(&self, p: u32, number: u32) -> Option<&Message>
+        requires log_in { p < self.now.book.logs }
+        requires untold { slice_index self.now.told p ≤ number }
+        ensures { option_copied result ≡ slice_get (backlog_of self.now.backlogs p).messages (number - slice_index self.now.told p) }
+    {
+        self.backlogs[p as usize].message((number - self.told.get(p)) as usize)
     }
 
     /// Counts the first message of the log that wasn't told as told, and lets it go.
@@ -241,6 +292,17 @@ impl Compact {
             self.raise(&payout);
         }
     }
+
+    /// Writes what is kept of all logs.
+    pub(crate) fn put(&self, out: &mut Vec<u8>) -> Result<(), AllocError>
+        ensures { OnOk result (out.new.items ≡ out.old.items ++ core_bytes self.now) }
+    {
+        put_counts(out, &self.validated)?;
+        put_counts(out, &self.told)?;
+        put_amounts(out, self.settled.as_slice())?;
+        put_amounts(out, self.balances.as_slice())?;
+        put_backlogs(out, self.backlogs.as_slice())
+    }
 }
 
 /// Nothing of each of so many logs.
@@ -254,6 +316,16 @@ fn new_backlogs(alloc: Global, logs: u32) -> Result<Vec<Backlog>, AllocError>
         backlogs.push(Backlog::new(alloc, logs))?;
     }
     Ok(backlogs)
+}
+
+/// Writes what is kept of each log.
+fn put_backlogs(out: &mut Vec<u8>, backlogs: &[Backlog]) -> Result<(), AllocError>
+    ensures { OnOk result (out.new.items ≡ out.old.items ++ flat_map backlog_bytes (kept_of backlogs.now)) }
+{
+    for backlog in backlogs {
+        backlog.put(out)?;
+    }
+    Ok(())
 }
 
 /// Makes room for one more credit to the account, where a log debits it. Where memory runs out none is made.

@@ -9,8 +9,8 @@ mod credits;
 mod entry;
 mod logs;
 mod node;
-mod payout;
 mod reading;
+mod saving;
 mod spelling;
 mod tail;
 
@@ -18,5 +18,6 @@ pub use crate::entry::{ENTRY_MESSAGES_MAX, Entry, EntryMessage};
 pub use crate::logs::logs_of;
 pub use crate::node::{Answer, Draft, Node, Told};
 pub use crate::reading::read_entry;
+pub use crate::saving::SNAPSHOT_VERSION;
 pub use crate::spelling::{entry_bytes, hash_of};
 pub use crate::tail::ENTRIES_MAX;

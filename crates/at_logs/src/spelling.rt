@@ -37,7 +37,7 @@ pub fn hash_of(bytes: &[u8]) -> [u8; 32]
     Sha256::digest(bytes)
 }
 
-fn put_counts(out: &mut Vec<u8>, counts: &LogCounts) -> Result<(), AllocError>
+pub(crate) fn put_counts(out: &mut Vec<u8>, counts: &LogCounts) -> Result<(), AllocError>
     ensures spelled { OnOk result (out.new.items ≡ out.old.items ++ flat_map (to_be_bytes w32) counts.now) }
     ensures small { OnOk result (length out.new.items ≤ length out.old.items + 256) }
     ensures fits { OnOk result (All (λ n. n < 2 ^ 32) counts.now) }
@@ -48,7 +48,7 @@ fn put_counts(out: &mut Vec<u8>, counts: &LogCounts) -> Result<(), AllocError>
     Ok(())
 }
 
-fn put_targets(out: &mut Vec<u8>, targets: &Targets) -> Result<(), AllocError>
+pub(crate) fn put_targets(out: &mut Vec<u8>, targets: &Targets) -> Result<(), AllocError>
     ensures spelled { OnOk result (out.new.items ≡ out.old.items ++ listed_bytes target_bytes targets.now) }
     ensures small { OnOk result (length out.new.items ≤ length out.old.items + 49) }
     ensures some { OnOk result (1 ≤ length targets.now) }
@@ -80,7 +80,7 @@ fn put_message(out: &mut Vec<u8>, message: &EntryMessage) -> Result<(), AllocErr
     put_raw(out, &message.reference)
 }
 
-fn put_raw<const N: usize>(out: &mut Vec<u8>, raw: &[u8; N]) -> Result<(), AllocError>
+pub(crate) fn put_raw<const N: usize>(out: &mut Vec<u8>, raw: &[u8; N]) -> Result<(), AllocError>
     ensures spelled { OnOk result (out.new.items ≡ out.old.items ++ raw.now) }
     ensures fits { OnOk result (AreBytes N raw.now) }
 {

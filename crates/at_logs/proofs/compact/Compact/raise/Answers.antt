@@ -1,6 +1,5 @@
 use Rattle.std.proofs.Common.{◌≡◌, ℕ, ◌+◌, ◌-◌, ◌++◌, List, length, drop, get_or, set, take, sum, refl, sym, ap, subst, ◌∙◌, arith, length-set}
-use Rattle.at_logs.proofs.Prelude.{left, left-one_more_of, get_or_read, length-map, moved-same, sum-less, CompactState, IsPayable, Payout, RoomyBacklog, ValidatesFrom, amount_of, backlog_credited, backlog_of, kept_of, room_of, state_of}
-use Rattle.at_logs.proofs.CreditLaws.{get_or-less}
+use Rattle.at_logs.proofs.Prelude.{left, left-one_more_of, get_or-less, get_or_read, length-map, moved-same, sum-less, CompactState, IsPayable, Payout, RoomyBacklog, ValidatesFrom, amount_of, backlog_credited, backlog_of, kept_of, room_of, state_of}
 unfoldable use Rattle.at_ledger.specs.State.{credited}
 use Rattle.at_logs.proofs.StateLaws.{CanMove, HasMoved, IsKept-moved, can_move, rewritten, validated_from, written}
 use Rattle.at_logs.proofs.compact.Compact.raise.Goals.{After-index_mut-2, After-self-4-1, After-sum-amount}

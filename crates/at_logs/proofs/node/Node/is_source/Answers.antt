@@ -1,8 +1,8 @@
 use Rattle.std.proofs.Common.{length, ap, arith}
-use Rattle.at_logs.proofs.Prelude.{ReadingState}
+use Rattle.at_logs.proofs.Prelude.{NodeTerms}
 use Rattle.at_logs.proofs.ReadingLaws.{accounts-logs_of}
 use Rattle.at_logs.proofs.node.Node.is_source.Goals as goal
 
 pub log_of-requires : goal.log_of-requires
 log_of-requires c =
-    omega (arith, c.requires, accounts-logs_of c.self.inside.core.book c.self.inside.book c.self.invariant.book, ap (λ (s : ReadingState). length s.book.accounts) c.self.view_is)
+    omega (arith, c.requires, accounts-logs_of c.self.inside.core.book c.self.inside.book c.self.invariant.book, ap (λ (n : NodeTerms). length n.book.accounts) c.self.view_is)

@@ -1,60 +1,91 @@
-use Rattle.std.proofs.Common.{◌≡◌, ℕ, ◌+◌, ◌<◌, List, length, get_or, ap, sym, subst, ◌∙◌, arith}
-use Rattle.at_logs.proofs.Prelude.{All, get_or_read, ComesNext, EntryTerms, IsMessageOn, Message, ReadingState, Tail, messages_in_log, no_tail, tail_after, tail_of, with_messages}
-use Rattle.at_logs.proofs.EntryLaws.{All-in_log}
-use Rattle.at_logs.proofs.ReadingLaws.{IsReading-read, accounts-logs_of, length-messages_in_log, same_tail}
-use Rattle.at_logs.proofs.node.Node.read.Goals.{After-index}
+use Rattle.std.proofs.Common.{◌≡◌, ℕ, ◌+◌, ◌<◌, ◌≤◌, List, length, get_or, set, ap, sym, subst, ◌∙◌, arith}
+use Rattle.at_logs.specs.Calls.{HasReadEntry}
+use Rattle.at_logs.proofs.Prelude.{All, IsStuckIn, get_or_read, CompactState, ComesNext, EntryTerms, IsEntryOn, IsHistoryOf, IsMessageOn, IsRecord, MESSAGES_MAX, Message, NodeTerms, Tail, ValidatesFrom, backlog_of, backlog_with, no_tail, read_state, shown, tail_after, tail_of}
+use Rattle.at_logs.proofs.HistoryLaws.{HasTaken-read, IsHistoryOf-read, IsMessageOn-entry, IsReadBy, IsRecord-read, extended, few-entry, more_read, read_terms}
+use Rattle.at_logs.proofs.ReadingLaws.{same_tail}
+use Rattle.at_logs.proofs.node.Node.read.Goals.{After-hash_of-tail}
 use Rattle.at_logs.proofs.node.Node.read.Goals as goal
 
--- the tail that was read
-read : (c : After-index) → c.index.result.now ≡ get_or c.self.inside.tails.items c.args.log (no_tail 0)
-read c =
-    get_or_read c.self.inside.tails.items c.args.log c.index.result.now
-    (omega (arith, c.self.invariant.sized, c.requires.log_in, ap (λ (s : ReadingState). s.node.book.logs) c.self.view_is)) c.index.ensures (no_tail 0)
+-- the node by its parts
+abbrev inside : After-hash_of-tail → NodeTerms
+inside c = record { book = c.self.inside.book; hash = c.self.inside.hash; core = c.self.inside.core; tails = c.self.inside.tails.items }
 
-pub deliver_all-requires-clause-number_in : goal.deliver_all-requires-clause-number_in
-deliver_all-requires-clause-number_in c =
-    omega (
-      arith,
-      c.requires.next.room,
-      ap (λ (t : Tail). t.messages) (read ((goal.at.deliver_all-requires-clause-number_in c).After-index)),
-      ap (λ (s : ReadingState). (tail_of s c.args.log).messages) c.self.view_is,
-      ap (λ (l : List Message). length l) (c.deref.ensures.value ∙ c.in_ok-messages.ensures),
-      length-messages_in_log c.args.entry.now c.args.log,
-    )
+known : (c : After-hash_of-tail) → c.args.log < (inside c).core.book.logs
+known c = omega (arith, c.requires.log_in, ap (λ (n : NodeTerms). n.core.book.logs) c.self.view_is)
 
--- its messages are on the book
-named : (c : After-index) → All (IsMessageOn c.self.inside.core.book.logs (length c.self.inside.core.book.accounts)) (messages_in_log c.args.entry.now c.args.log)
-named c =
-    let s : ReadingState = c.args.self.now in
-    let accounts : length s.book.accounts ≡ length c.self.inside.core.book.accounts =
-    ap (λ (s : ReadingState). length s.book.accounts) (sym c.self.view_is) ∙ sym (accounts-logs_of c.self.inside.core.book c.self.inside.book c.self.invariant.book) in
-    let logs : s.node.book.logs ≡ c.self.inside.core.book.logs = ap (λ (s : ReadingState). s.node.book.logs) (sym c.self.view_is) in
-    subst (λ (n : ℕ). All (IsMessageOn c.self.inside.core.book.logs n) (messages_in_log c.args.entry.now c.args.log)) accounts
-    (subst (λ (n : ℕ). All (IsMessageOn n (length s.book.accounts)) (messages_in_log c.args.entry.now c.args.log)) logs
-    (All-in_log s.node.book.logs (length s.book.accounts) s.book.processes c.args.entry.now c.args.log c.requires.on))
+-- an entry on a node is one on the same node
+on : (n m : NodeTerms) (e : EntryTerms) → n ≡ m → IsEntryOn m.core.book.logs (length m.book.accounts) m.book.processes e → IsEntryOn n.core.book.logs (length n.book.accounts) n.book.processes e
+on n m e same is = subst (λ (n : NodeTerms). IsEntryOn n.core.book.logs (length n.book.accounts) n.book.processes e) (sym same) is
 
-pub deliver_all-requires-clause-messages_in : goal.deliver_all-requires-clause-messages_in
-deliver_all-requires-clause-messages_in c =
+next : (n m : NodeTerms) (log : ℕ) (e : EntryTerms) → n ≡ m → ComesNext (tail_of (shown m) log) log e → ComesNext (tail_of (shown n) log) log e
+next n m log e same is = subst (λ (n : NodeTerms). ComesNext (tail_of (shown n) log) log e) (sym same) is
+
+pub extend-requires-clause-known : goal.extend-requires-clause-known
+extend-requires-clause-known c =
+    let n : NodeTerms = record { book = c.self.inside.book; hash = c.self.inside.hash; core = c.self.inside.core; tails = c.self.inside.tails.items } in
     subst (All (IsMessageOn c.self.inside.core.book.logs (length c.self.inside.core.book.accounts))) (sym (c.deref.ensures.value ∙ c.in_ok-messages.ensures))
-    (named ((goal.at.deliver_all-requires-clause-messages_in c).After-index))
+    (IsMessageOn-entry n c.args.log c.args.entry.now c.self.invariant (on n c.args.self.now c.args.entry.now c.self.view_is c.requires.on))
+
+pub extend-requires-clause-few : goal.extend-requires-clause-few
+extend-requires-clause-few c =
+    let n : NodeTerms = record { book = c.self.inside.book; hash = c.self.inside.hash; core = c.self.inside.core; tails = c.self.inside.tails.items } in
+    let known : c.args.log < n.core.book.logs = omega (arith, c.requires.log_in, ap (λ (n : NodeTerms). n.core.book.logs) c.self.view_is) in
+    subst (λ (l : List Message). get_or c.self.inside.core.told c.args.log 0 + length (backlog_of c.self.inside.core.backlogs c.args.log).messages + length l ≤ MESSAGES_MAX)
+    (sym (c.deref.ensures.value ∙ c.in_ok-messages.ensures)) (few-entry n c.args.log c.args.entry.now c.self.invariant known (next n c.args.self.now c.args.log c.args.entry.now c.self.view_is c.requires.next))
+
+-- what is kept before anything more is validated
+core_is : (c : After-hash_of-tail) → c.extend.new.self ≡ extended (inside c) c.args.log c.args.entry.now
+core_is c =
+    c.in_ok-extend.ensures.ok
+    ∙ ap (λ (l : List Message). record c.self.inside.core { backlogs = set c.self.inside.core.backlogs c.args.log (backlog_with (backlog_of c.self.inside.core.backlogs c.args.log) l) })
+    (c.deref.ensures.value ∙ c.in_ok-messages.ensures)
+
+by : (c : After-hash_of-tail) → IsReadBy (inside c) c.args.log c.args.entry.now c.settle.new.self
+by c = record {
+  known = known c;
+  on = on (inside c) c.args.self.now c.args.entry.now c.self.view_is c.requires.on;
+  next = next (inside c) c.args.self.now c.args.log c.args.entry.now c.self.view_is c.requires.next;
+  validates = subst (λ (k : CompactState). ValidatesFrom k c.settle.new.self) (core_is c) c.settle.ensures.validates;
+  done = λ p p_in. subst (λ (k : CompactState). IsStuckIn k c.settle.new.self p) (core_is c) (c.settle.ensures.done p p_in);
+}
+
+-- the node that has read it
+abbrev after : After-hash_of-tail → NodeTerms
+after c = record {
+  book = c.self.inside.book;
+  hash = c.self.inside.hash;
+  core = c.settle.new.self;
+  tails = set c.self.inside.tails.items c.args.log
+      (record { entries = c.index_mut-tail.result.now.entries + 1; messages = c.index_mut-tail.result.now.messages + c.len.result; deps = c.copy-tail.result; hash = c.hash_of-tail.result });
+}
+
+after_is : (c : After-hash_of-tail) → after c ≡ read_terms (inside c) c.args.log c.args.bytes.now c.args.entry.now c.settle.new.self
+after_is c =
+    let n : NodeTerms = inside c in
+    let t : Tail = tail_of (shown n) c.args.log in
+    let old : c.index_mut-tail.result.now ≡ t =
+    get_or_read c.self.inside.tails.items c.args.log c.index_mut-tail.result.now (omega (arith, c.self.invariant.sized, known c)) c.index_mut-tail.ensures.value (no_tail 0) in
+    let new : Tail = record { entries = c.index_mut-tail.result.now.entries + 1; messages = c.index_mut-tail.result.now.messages + c.len.result; deps = c.copy-tail.result; hash = c.hash_of-tail.result } in
+    ap (λ (x : Tail). record { book = n.book; hash = n.hash; core = c.settle.new.self; tails = set n.tails c.args.log x })
+    (same_tail new (tail_after t c.args.bytes.now c.args.entry.now) (ap (λ (t : Tail). t.entries + 1) old)
+    (ap (λ (t : Tail). t.messages + c.len.result) old ∙ ap (λ n. t.messages + n) c.len.ensures.count) (c.copy-tail.ensures ∙ c.deps.ensures) c.hash_of-tail.ensures)
 
 pub invariant_of-self-2 : goal.invariant_of-self-2
 invariant_of-self-2 c =
-    let s : ReadingState = record { book = c.self.inside.book; hash = c.self.inside.hash; node = c.self.inside.core; tails = c.self.inside.tails.items; told = c.self.inside.told } in
+    let at = (goal.at.invariant_of-self-2 c).After-hash_of-tail in
+    subst IsRecord (sym (after_is at)) (IsRecord-read (inside at) c.args.log c.args.bytes.now c.args.entry.now c.settle.new.self c.self.invariant c.known.ensures (by at))
+
+pub returns-clause-ok : goal.returns-clause-ok
+returns-clause-ok c = λ messages history.
+    let at = (goal.at.returns-clause-ok c).After-hash_of-tail in
+    let n : NodeTerms = inside at in
     let log : ℕ = c.args.log in
+    let bytes : List ℕ = c.args.bytes.now in
     let e : EntryTerms = c.args.entry.now in
-    let known : log < s.node.book.logs = omega (arith, c.requires.log_in, ap (λ (s : ReadingState). s.node.book.logs) c.self.view_is) in
-    let one : c.index.result.now ≡ tail_of s log = read ((goal.at.invariant_of-self-2 c).After-index) in
-    let other : c.index_mut-tail.result.now ≡ tail_of s log =
-    get_or_read s.tails log c.index_mut-tail.result.now (omega (arith, c.self.invariant.sized, known)) c.index_mut-tail.ensures.value (no_tail 0) in
-    let new : Tail = record { entries = c.index_mut-tail.result.now.entries + 1; messages = c.index.result.now.messages + c.len.result; deps = c.copy-tail.result; hash = c.hash_of-tail.result } in
-    let same : new ≡ tail_after (tail_of s log) c.args.bytes.now e =
-    same_tail new (tail_after (tail_of s log) c.args.bytes.now e) (ap (λ (t : Tail). t.entries + 1) other)
-    (ap (λ (t : Tail). t.messages + c.len.result) one ∙ ap (λ n. (tail_of s log).messages + n) c.len.ensures.count) (c.copy-tail.ensures ∙ c.deps.ensures) c.hash_of-tail.ensures in
-    let messages = c.in_ok-deliver_all.ensures.delivered
-    ∙ (ap (λ (t : Tail). with_messages s.node.messages log t.messages c.deref.result.now) one
-    ∙ ap (λ (l : List Message). with_messages s.node.messages log (tail_of s log).messages l) (c.deref.ensures.value ∙ c.in_ok-messages.ensures)) in
-    let next : ComesNext (tail_of s log) log e = subst (λ (t : ReadingState). ComesNext (tail_of t log) log e) (sym c.self.view_is) c.requires.next in
-    let logs : length e.deps ≡ s.node.book.logs = c.requires.on.names.deps ∙ ap (λ (s : ReadingState). s.node.book.logs) (sym c.self.view_is) in
-    rw same (IsReading-read s log c.args.bytes.now e c.deliver_all.new.self c.self.invariant c.known.ensures.node c.in_ok-deliver_all.ensures.book known messages next logs c.requires.on.bytes.some
-    (named ((goal.at.invariant_of-self-2 c).After-index)))
+    let core : CompactState = c.settle.new.self in
+    subst (λ (x : NodeTerms). HasReadEntry (read_state x messages) log bytes e (after at)) c.self.view_is
+    (subst (HasReadEntry (read_state n messages) log bytes e) (sym (after_is at)) (record {
+      messages = more_read n log e messages;
+      history = IsHistoryOf-read n log bytes e core messages c.self.invariant c.known.ensures (by at) (subst (IsHistoryOf messages) (sym c.self.view_is) history);
+      taken = HasTaken-read n log bytes e core messages (by at);
+    }))

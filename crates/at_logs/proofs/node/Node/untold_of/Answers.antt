@@ -1,50 +1,45 @@
-use Rattle.std.proofs.Common.{◌<◌, get_or, refl, ap, sym, subst, ◌∙◌, arith}
-use Rattle.at_logs.proofs.Prelude.{IsUntold, IsValid, Message, ReadingState, message_of}
-use Rattle.at_logs.proofs.TellingLaws.{IsValid-told, length-told, unvalidated-told}
+use Rattle.std.proofs.Common.{◌≡◌, ℕ, ◌+◌, ◌<◌, List, Some, length, get_or, slice_get, refl, ap, sym, subst, ◌∙◌, arith}
+use Rattle.at_logs.proofs.Prelude.{same_Some, slice_get_within, slice_get-get_or, CompactState, IsCompact, IsHistoryOf, IsMessageOn, IsUntold, Message, MessageList, NodeTerms, ReadingState, backlog_of, message_of, read_state}
+use Rattle.at_logs.proofs.TellingLaws.{IsValid-told}
 use Rattle.at_logs.proofs.node.Node.untold_of.Goals.{After-validated}
 use Rattle.at_logs.proofs.node.Node.untold_of.Goals as goal
 
 -- the node by its parts
-abbrev inside : After-validated → ReadingState
-inside c = record { book = c.self.inside.book; hash = c.self.inside.hash; node = c.self.inside.core; tails = c.self.inside.tails.items; told = c.self.inside.told }
+abbrev inside : After-validated → NodeTerms
+inside c = record { book = c.self.inside.book; hash = c.self.inside.hash; core = c.self.inside.core; tails = c.self.inside.tails.items }
 
-known : (c : After-validated) → c.args.log < (inside c).node.book.logs
-known c = omega (arith, c.requires, ap (λ (s : ReadingState). s.node.book.logs) c.self.view_is)
+known : (c : After-validated) → c.args.log < (inside c).core.book.logs
+known c = omega (arith, c.requires, ap (λ (n : NodeTerms). n.core.book.logs) c.self.view_is)
 
-pub get-number-requires : goal.get-number-requires
-get-number-requires c =
-    omega (
-      arith,
-      c.requires,
-      ap (λ (s : ReadingState). s.node.book.logs) c.self.view_is,
-      length-told c.self.inside.core c.self.inside.told c.self.invariant.told,
-    )
+-- the first message that wasn't told
+first : (messages : List MessageList) (n : NodeTerms) (p : ℕ) → IsHistoryOf messages n → p < n.core.book.logs
+    → message_of messages p (get_or n.core.told p 0) ≡ slice_get (backlog_of n.core.backlogs p).messages 0
+first messages n p is inside = let at : get_or n.core.told p 0 ≡ get_or n.core.told p 0 + 0 = omega arith in ap (message_of messages p) at ∙ is.kept.waiting p 0 inside
 
-pub returns-then-number-validated-clause-none : goal.returns-then-number-validated-clause-none
-returns-then-number-validated-clause-none c =
-    let s : ReadingState = inside ((goal.at.returns-then-number-validated-clause-none c).After-validated) in
-    subst (λ (s : ReadingState). (m : Message) → ¬ IsValid s.node.book s.node.messages s.told c.args.log m) c.self.view_is
-    (λ m. unvalidated-told s.node s.told c.args.log m c.self.invariant.node c.self.invariant.told (omega (arith, c.if-number-validated.true, c.get-number.ensures, c.validated.ensures.count)))
+first_on : (k : CompactState) (p : ℕ) (m : Message) → IsCompact k → p < k.book.logs → Some m ≡ slice_get (backlog_of k.backlogs p).messages 0 → IsMessageOn k.book.logs (length k.book.accounts) m
+first_on k p m is inside there =
+    let xs : List Message = (backlog_of k.backlogs p).messages in
+    let below : 0 < length xs = slice_get_within xs 0 m (sym there) in
+    subst (IsMessageOn k.book.logs (length k.book.accounts)) (same_Some (get_or xs 0 m) m (sym (slice_get-get_or xs 0 m below) ∙ sym there)) ((is.backlogs p inside).known 0 m below)
 
-pub covers-requires : goal.covers-requires
-covers-requires c =
-    let at = goal.at.covers-requires c in
-    let s : ReadingState = inside at.After-validated in
-    length-told s.node s.told c.self.invariant.told
-    ∙ sym ((c.self.invariant.tails c.args.log (known at.After-validated)).named c.get-number.result c.in_ok-message.message.now (sym c.in_ok-message.ensures)).deps
+pub has_told-requires : goal.has_told-requires
+has_told-requires c =
+    let at = (goal.at.has_told-requires c).After-validated in
+    (first_on c.self.inside.core c.args.log c.in_ok-message.message.now c.known.ensures (known at) c.in_ok-message.ensures).deps
 
 pub returns-clause-some : goal.returns-clause-some
-returns-clause-some c =
-    let at = goal.at.returns-clause-some c in
-    let s : ReadingState = inside at.After-validated in
+returns-clause-some c = λ messages history.
+    let at = (goal.at.returns-clause-some c).After-validated in
+    let n : NodeTerms = inside at in
+    let s : ReadingState = read_state n messages in
+    let is : IsHistoryOf messages n = subst (IsHistoryOf messages) (sym c.self.view_is) history in
     let m : Message = c.in_ok-message.message.now in
-    let below : get_or s.told c.args.log 0 < get_or s.node.validated c.args.log 0 = omega (arith, c.if-number-validated.false, c.get-number.ensures, c.validated.ensures.count) in
-    subst (λ (s : ReadingState). IsUntold s (record { log = c.args.log; number = c.get-number.result; from = m.from; targets = c.copy.result; reference = m.reference })) c.self.view_is (record {
+    let below : get_or s.told c.args.log 0 < get_or s.node.validated c.args.log 0 = omega (arith, c.if-number-validated.false, c.told_of-number.ensures, c.validated.ensures) in
+    subst (λ (n : NodeTerms). IsUntold (read_state n messages) (record { log = c.args.log; number = c.told_of-number.result; from = m.from; targets = c.copy.result; reference = m.reference })) c.self.view_is (record {
       message = m;
-      next = IsValid-told s.node s.told c.args.log m c.self.invariant.node below (ap (message_of s.node.messages c.args.log) (sym c.get-number.ensures) ∙ sym c.in_ok-message.ensures)
-          (c.covers.ensures.0 c.if-not-covers.false);
+      next = IsValid-told s.node s.told c.args.log m is.reading.node below (first messages n c.args.log is (known at) ∙ sym c.in_ok-message.ensures) (c.has_told.ensures.0 c.if-not-has_told.false);
       validated = below;
-      number = c.get-number.ensures;
+      number = c.told_of-number.ensures;
       source = refl;
       targets = c.copy.ensures;
       reference = refl;
