@@ -8,6 +8,10 @@ pub mod Reaching
 pub mod Hearing
 pub mod Walking
 pub mod Seen
+pub mod Trails
+pub mod Looking
+pub mod Levels
+pub mod CountsApart
 pub mod Moved
 pub mod Crediting
 pub mod Stepping

@@ -1,43 +1,10 @@
 -- One more stage is seen.
-use Rattle.std.proofs.Common.{◌≡◌, ℕ, ◌+◌, ◌<◌, Bool, true, false, ◌≤◌, ◌||◌, ◌&&◌, ◌⊎◌, ⊎_elim, inl, inr, Some, get_or, List, [], ◌∷◌, ◌++◌, length, replicate, sum, All, Contains, true≢false, refl, sym, ap, subst, ◌∙◌, arith, if◌then◌else◌}
+use Rattle.std.proofs.Common.{◌≡◌, ℕ, ◌+◌, ◌<◌, Bool, true, ◌≤◌, ◌&&◌, ◌⊎◌, ⊎_elim, Some, get_or, List, [], length, replicate, sum, All, Contains, refl, sym, ap, subst, ◌∙◌, arith}
 use Rattle.std.specs.Prelude.{nat_eq, slice_get}
-use Rattle.at_orders.proofs.Prelude.{list_any, pointwise, same_text, and_from, and_parts, nat_list_eq_equiv, length-append, sum_by-replicate, All-contains, All-nil, Contains-append_right, Contains-get_or, Contains-push, Contains-push_cases, get_or_from_slice_get, slice_get-get_or, slice_get_within, insert_key, LedgerState, opening_state, step, IsCallOn, Call, Line, AreWithinFiles, IsNextOfProcess, with_made, AreWithinFiles-next, sum-with_made, AreWithinFiles-none, none_made, GroundTerms, IsStage, StageTerms, first_stage, stage_after, AreLevel, ArePlaces, Grows, HasAllNext, HasFirstPlace, HasStage, IsGround, IsNextCall, IsSeen, IsStanding, IsWalkedTo, StandsFor, Stage}
+use Rattle.at_orders.proofs.Prelude.{pointwise, same_text, and_from, and_parts, nat_list_eq_equiv, sum_by-replicate, All-contains, All-nil, Contains-get_or, get_or_from_slice_get, slice_get-get_or, slice_get_within, LedgerState, opening_state, step, IsCallOn, Call, Line, AreWithinFiles, IsNextOfProcess, with_made, AreWithinFiles-next, sum-with_made, AreWithinFiles-none, none_made, GroundTerms, IsStage, StageTerms, first_stage, stage_after, AreLevel, ArePlaces, HasAllNext, HasFirstPlace, HasStage, IsGround, IsNextCall, IsSeen, IsStanding, IsWalkedTo, StandsFor, Stage}
 use Rattle.at_orders.proofs.Keeping.{kept-same}
 use Rattle.at_orders.proofs.Reaching.{leads-start, reached-stage, stage-next}
 use Rattle.at_orders.proofs.Requests.{numbers-moved}
-use Rattle.at_orders.proofs.Walking.{grows-refl}
-
--- the test finds a stage that stands for the same
-pub has-any : (g : GroundTerms) (eq : Stage → Stage → Bool) (t : StageTerms) → ((x y : Stage) → eq x y ≡ true → StandsFor g x t → StandsFor g y t) → (seen : List Stage) (s : Stage)
-    → StandsFor g s t → list_any (eq s) seen ≡ true → HasStage g seen t
-has-any g eq t same [] s stands is = absurd (true≢false (sym is))
-has-any g eq t same (x ∷ seen) s stands is = by (eq s x) refl (has-any g eq t same seen s stands)
-  where
-    by : (found : Bool) → eq s x ≡ found → (list_any (eq s) seen ≡ true → HasStage g seen t) → HasStage g (x ∷ seen) t
-    by true e later = record { one = x; there = Contains-get_or (x ∷ seen) 0 x (omega arith); stands = same s x e stands }
-    by false e later =
-        let rest = later (sym (ap (λ (c : Bool). c || list_any (eq s) seen) e) ∙ is) in
-        record { one = rest.one; there = Contains-append_right (x ∷ []) seen rest.one rest.there; stands = rest.stands }
-
--- what an inserted stage leaves
-pub record Inserts (old new : List Stage) (s : Stage) : Type 0 where
-  pub grows : Grows old new
-  pub len : length new ≤ length old + 1
-  pub only : (x : Stage) → Contains new x → Contains old x ⊎ (x ≡ s)
-  pub has : (g : GroundTerms) (t : StageTerms) → StandsFor g s t → HasStage g new t
-
-pub inserts : (eq : Stage → Stage → Bool) → ((g : GroundTerms) (t : StageTerms) (x y : Stage) → eq x y ≡ true → StandsFor g x t → StandsFor g y t)
-    → (seen : List Stage) (s : Stage) → Inserts seen (insert_key eq seen s) s
-inserts eq same seen s = by (list_any (eq s) seen) refl
-  where
-    by : (t : Bool) → list_any (eq s) seen ≡ t → Inserts seen (if t then seen else seen ++ s ∷ []) s
-    by true e = record { grows = grows-refl seen; len = omega arith; only = λ x there. inl there; has = λ g t stands. has-any g eq t (same g t) seen s stands e }
-    by false e = record {
-      grows = record { more = s ∷ []; is = refl };
-      len = let size = length-append seen (s ∷ []) in omega arith;
-      only = λ x there. ⊎_elim (λ old. inl old) (λ same. inr (sym same)) (Contains-push_cases seen s x there);
-      has = λ g t stands. record { one = s; there = Contains-push seen s; stands = stands };
-    }
 
 -- what holds of each of these and of this one
 all-with : (P : Stage → Type 0) (old new : List Stage) (s : Stage) → ((x : Stage) → Contains new x → Contains old x ⊎ (x ≡ s)) → All P old → P s → All P new
@@ -106,7 +73,7 @@ next-seen g s new p call known seen next stands standing =
     }
 
 -- the first stage
-first-is : (g : GroundTerms) → length g.files ≡ g.book.processes → IsStage g.book g.files (first_stage g.book)
+pub first-is : (g : GroundTerms) → length g.files ≡ g.book.processes → IsStage g.book g.files (first_stage g.book)
 first-is g count =
     let first : IsStage g.book g.files (record { made = none_made g.files; ledger = opening_state g.book }) =
     reached-stage g.book g.files (record { made = none_made g.files; ledger = opening_state g.book }) (record { lines = []; leads = leads-start g.files (opening_state g.book) (none_made g.files) }) in

@@ -29,7 +29,7 @@ span-with H K range v up here down span = record {
     greatest (inl old) = subst K (sym old) (up range.greatest span.greatest)
     greatest (inr new) = subst K (sym new) here
 
-span-same : (H K : ℕ → Type 0) (range : Range) → ((w : ℕ) → H w → K w) → ((w : ℕ) → K w → H w) → IsSpan H range → IsSpan K range
+pub span-same : (H K : ℕ → Type 0) (range : Range) → ((w : ℕ) → H w → K w) → ((w : ℕ) → K w → H w) → IsSpan H range → IsSpan K range
 span-same H K range to from span = record { least = to range.least span.least; greatest = to range.greatest span.greatest; low = λ w k. span.low w (from w k); high = λ w k. span.high w (from w k) }
 
 -- what an account opens with, or has at one of these stages

@@ -1,23 +1,11 @@
 -- Stages that are seen, and the replies that are heard at them.
-use Rattle.std.proofs.Common.{◌≡◌, ℕ, zero, suc, ◌+◌, ◌<◌, ◌≤◌, ◌==◌, Bool, true, false, ◌-◌, ◌⊎◌, ⊎_elim, inl, inr, List, [], ◌∷◌, ◌++◌, length, get_or, set, replicate, sum, All, true≢false, Contains, Some, refl, sym, ap, subst, ◌∙◌, arith}
+use Rattle.std.proofs.Common.{◌≡◌, ℕ, zero, suc, ◌+◌, ◌<◌, ◌≤◌, ◌==◌, Bool, true, false, ◌-◌, ◌⊎◌, ⊎_elim, inl, inr, List, [], ◌∷◌, ◌++◌, length, get_or, set, replicate, sum, All, Contains, Some, refl, sym, ap, subst, ◌∙◌, arith}
 use Rattle.std.specs.Prelude.{Err, Ok, Result, slice_get}
-use Rattle.at_orders.proofs.Prelude.{IsErrAnd, cases_lt, Decides-eqb, IsDistinct, apart_from_distinct, get_or-append-add, get_or_append_left, get_or-set_other, get_or-set_same, length-append, length-set, append_assoc, append-nil, get_or-append_seam, All-append, All-contains, All-push, All-weaker, Contains-append_left, Contains-append_right, Contains-push, Contains-push_cases, LedgerState, opening_state, step, Call, Line, Reply, IsNextOfProcess, with_made, none_made, AreAnswers, Comes, AreJust, no_replies, replies_with, GroundTerms, HasMoreStages, IsStage, StageTerms, first_stage, stage_after, AreAllHeard, AreAllStages, AreApart, AreHeard, AreHeardInPart, Grows, HasAllNext, HasMoreNext, HasNext, HasNumbers, HasStage, IsHeard, IsNextLevel, IsSeen, IsWalkedTo, StandsFor, Replies, Stage}
+use Rattle.at_orders.proofs.Prelude.{IsErrAnd, cases_lt, Decides-eqb, get_or-append-add, get_or_append_left, get_or-set_other, get_or-set_same, length-append, length-set, append-nil, get_or-append_seam, All-append, All-contains, All-push, All-weaker, Contains-append_left, Contains-append_right, Contains-push, Contains-push_cases, LedgerState, opening_state, step, Call, Line, Reply, IsNextOfProcess, with_made, none_made, AreAnswers, Comes, AreJust, no_replies, replies_with, GroundTerms, HasMoreStages, IsStage, StageTerms, first_stage, stage_after, AreAllHeard, AreAllStages, AreApart, AreHeard, AreHeardInPart, Grows, HasAllNext, HasMoreNext, HasNext, HasNumbers, HasStage, IsHeard, IsNextLevel, IsSeen, IsWalkedTo, StandsFor, Replies, Stage}
 use Rattle.at_orders.proofs.Reaching.{Leads, comes-next, leads-cons, leads-nil, order-next, stage-ext, stage-reached}
 use Rattle.at_orders.proofs.Hearing.{More, just-none, just-same, just-with}
 
 -- more stages are seen
-pub grows-refl : (xs : List Stage) → Grows xs xs
-grows-refl xs = record { more = []; is = sym (append-nil xs) }
-
-pub grows-trans : (xs ys zs : List Stage) → Grows xs ys → Grows ys zs → Grows xs zs
-grows-trans xs ys zs a b = record {
-  more = a.more ++ b.more;
-  is = b.is ∙ (ap (λ (ws : List Stage). ws ++ b.more) a.is ∙ append_assoc xs a.more b.more);
-}
-
-pub grows-length : (xs ys : List Stage) → Grows xs ys → length xs ≤ length ys
-grows-length xs ys grows = let same = ap (length {A = Stage}) grows.is in let size = length-append xs grows.more in omega arith
-
 has-grows : (g : GroundTerms) (xs ys : List Stage) (t : StageTerms) → Grows xs ys → HasStage g xs t → HasStage g ys t
 has-grows g xs ys t grows has = record {
   one = has.one;
@@ -31,24 +19,6 @@ next-grows g xs ys s p grows next t call stands is = has-grows g xs ys (stage_af
 pub all-next-grows : (g : GroundTerms) (xs ys stages : List Stage) → Grows xs ys → All (HasAllNext g xs) stages → All (HasAllNext g ys) stages
 all-next-grows g xs ys stages grows looked =
     All-weaker (HasAllNext g xs) (HasAllNext g ys) (λ s next p known. next-grows g xs ys s p grows (next p known)) stages looked
-
--- one more process
-pub next-more : (g : GroundTerms) (xs ys : List Stage) (s : Stage) (process : ℕ) → Grows xs ys
-    → ((p : ℕ) → p < process → HasNext g xs s p) → HasNext g ys s process → (p : ℕ) → p < process + 1 → HasNext g ys s p
-next-more g xs ys s process grows looked next p less =
-    let cases : (p < process) ⊎ (p ≡ process) = grind arith in
-    ⊎_elim
-    (λ before. next-grows g xs ys s p grows (looked p before))
-    (λ same. subst (λ (q : ℕ). HasNext g ys s q) (sym same) next)
-    cases
-
--- stages that are told apart
-pub apart-distinct : (g : GroundTerms) (eq : Stage → Stage → Bool) (xs : List Stage)
-    → ((x y : Stage) (t : StageTerms) → IsSeen g x → IsSeen g y → StandsFor g x t → StandsFor g y t → eq x y ≡ true)
-    → All (IsSeen g) xs → IsDistinct eq xs → AreApart g xs
-apart-distinct g eq xs same seen distinct i j s t less within one other =
-    let differ = apart_from_distinct eq xs i j s distinct less within in
-    true≢false (sym (same (get_or xs i s) (get_or xs j s) t (seen i s (omega arith)) (seen j s within) one other) ∙ differ)
 
 sum-same : (g : GroundTerms) (x y : Stage) (t : StageTerms) → StandsFor g x t → StandsFor g y t → sum x.made.items ≡ sum y.made.items
 sum-same g x y t one other = ap sum (one.made ∙ sym other.made)

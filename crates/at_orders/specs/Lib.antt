@@ -2,7 +2,9 @@ pub mod Prelude
 pub mod Replies
 pub mod Orders
 pub mod Stages
+pub mod Counts
 pub mod Walk
+pub mod Trail
 pub mod Covered
 pub mod Settled
 pub mod Parts

@@ -2,9 +2,7 @@
 use Rattle.std.specs.Prelude.{◌≡◌, ℕ, ◌+◌, ◌<◌, ◌≤◌, List, [], ◌++◌, length, slice_get, slice_index, slice_index_or, sum, take, All, Contains, Option, None, Some}
 use Rattle.at_orders.specs.Prelude.{IsBook, total_of, TargetPair, first_account, payout_of, LedgerState, step, IsPlayable, Call, Reply, AreWithinFiles, with_made}
 use Rattle.at_orders.specs.Stages.{GroundTerms, IsStage, StageTerms, first_stage, ledger_at, payments_from, requests_at, stage_after}
-use Rattle.at_orders.specs.Ordered.{AreSpans}
 use Rattle.at_orders.specs.Replies.{AreJust}
-use Rattle.at_orders.specs.declared.replies.Range.{Range}
 use Rattle.at_orders.specs.declared.replies.Replies.{Replies}
 use Rattle.at_orders.specs.declared.stage.Stage.{Stage}
 
@@ -175,12 +173,3 @@ pub record AreHeardInPart (g : GroundTerms) (past stages : List Stage) (answers 
   pub processes : length answers ≡ length g.files
   pub first : (p : ℕ) → p < count → p < length g.files → AreHeard g (slice_index_or g.files p []) (past ++ stages) p (slice_index_or answers p [])
   pub others : (p : ℕ) → count ≤ p → p < length g.files → AreHeard g (slice_index_or g.files p []) past p (slice_index_or answers p [])
-
--- the levels are walked so far, and what each call has for replies, and each account for balances, at the stages that were looked at
-pub record IsWalked (g : GroundTerms) (level : List Stage) (answers : List (List Replies)) (spans : List Range) (looked : ℕ) : Type 0 where
-  pub past : List Stage
-  pub made : ℕ
-  pub walked : IsWalkedTo g past level made
-  pub heard : AreAllHeard g past answers (length g.files)
-  pub held : AreSpans g past spans
-  pub count : length past ≡ looked

@@ -50,8 +50,9 @@ fn walk_each(
 /// For each call of the files, every reply that some order of all their calls gives it. There is a file for each process.
 /// Two processes are of one part where both make a payment, as an owner of its source, from or to one account that doesn't open with
 /// all that the files ask of it. The work grows with the stages that the orders of each part go through, of which there may be
-/// `STAGES_MAX`, and with the calls times the processes; the memory with the stages of two levels of one part, those after so many calls
-/// in all and those after one more.
+/// `STAGES_MAX`, and with the calls times the processes. The memory grows with the stages of one part, by some ten words for each, and
+/// with the balances at the stages of two levels, those after so many calls in all and those after one more; where these take more than
+/// 12 million words for a level they aren't held, but made again from those of a level before.
 pub fn orders(
     alloc: Global,
     book: &Book,

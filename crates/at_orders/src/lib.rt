@@ -7,6 +7,7 @@
 #![tactic(auto)]
 
 mod answers;
+mod counts;
 mod covered;
 mod error;
 mod ground;
@@ -16,6 +17,7 @@ mod parts;
 mod places;
 mod replies;
 mod stage;
+mod trail;
 mod walk;
 mod whole;
 

@@ -1,20 +1,24 @@
 //! A stage of an order.
 
-ghost use Rattle.std.specs.Prelude.{◌≡◌, ℕ, ◌+◌, ◌-◌, ◌^◌, ◌<◌, ◌≤◌, List, length, sum, true, slice_index, slice_index_or, slice_set, IfOk};
+ghost use Rattle.std.specs.Prelude.{◌≡◌, ℕ, ◌+◌, ◌-◌, ◌^◌, ◌<◌, ◌≤◌, List, length, sum, true, false, OnOk, slice_index, slice_index_or, slice_set, IfOk};
 ghost use Rattle.at_orders.specs.Prelude.{is_owner, AreTargetsOn, IsCallOn, TargetPair, amount_of, first_account, LedgerState, balance_of, credited, is_full, moved, pay, step, with_sent, Done};
 ghost use Rattle.at_orders.specs.Replies.{range_with};
 ghost use Rattle.at_orders.specs.declared.replies.Range.{Range};
 ghost use Rattle.at_orders.specs.Stages.{StageTerms, after_success, first_stage, stage_after};
-ghost use Rattle.at_orders.specs.Walk.{AreKept, HasNumbers, HasPlace, IsMadeTo, IsNextCall, IsNextPayment, IsStanding, StandsFor};
+ghost use Rattle.at_orders.specs.Trail.{HaveSameNumbers, IsNextStage, hash_of, hashed};
+ghost use Rattle.at_orders.specs.Walk.{AreKept, HasNumbers, HasPlace, IsMadeTo, IsNextCall, IsNextPayment, IsSeen, IsStanding, StandsFor};
 
 use crate::ground::Ground;
 use crate::replies::Range;
 use at_ledger::{Call, Reply, Targets};
 use std::alloc::{AllocError, Global};
 
+/// Odd, and without a pattern: what spreads numbers over all hashes.
+const MIXER: u64 = 0x9E37_79B9_7F4A_7C15;
+
 /// How many calls each process has made, and the balances of the accounts that calls name first and the used own room then.
 /// The requests follow from the calls, and no reply depends on another balance.
-#[derive(PartialEq, Eq, Hash, Drop)]
+#[derive(PartialEq, Eq, Drop)]
 pub(crate) struct Stage {
     made: Vec<u32>,
     balances: Vec<u64>,
@@ -89,34 +93,61 @@ impl Stage {
         }
     }
 
-    /// The stage after the next call of the process.
-    pub(crate) fn after(
-        &self,
-        alloc: Global,
-        ground: &Ground,
-        process: u32,
-        call: &Call,
-    ) -> Result<Stage, AllocError>
-        requires standing { IsStanding ground.now self.now }
+    /// Makes the next call of the process, if it has one, and tells whether it has.
+    pub(crate) fn go_on(&mut self, ground: &Ground, process: u32) -> bool
+        requires process_in { process < ground.now.book.processes }
+        requires seen { IsSeen ground.now self.old }
+        ensures led { result ≡ true → IsNextStage ground.now self.old process self.new }
+        ensures last { result ≡ false → (call : Call)
+            → IsNextCall ground.now self.old process call → ⊥ }
+    {
+        let Some(call) = ground.file(process).get(self.made(process) as usize) else {
+            return false;
+        };
+        self.advance(ground, process, call);
+        true
+    }
+
+    /// Makes the next call of the process.
+    fn advance(&mut self, ground: &Ground, process: u32, call: &Call)
+        requires standing { IsStanding ground.now self.old }
         requires process_in { process < ground.now.book.processes }
         requires call_in { IsCallOn (length ground.now.book.accounts) call.now }
         requires placed { HasPlace ground.now.places (first_account call.now) }
-        requires next { IsNextCall ground.now self.now process call.now }
-        ensures stage { IfOk result (λ s. (t : StageTerms) → StandsFor ground.now self.now t
-            → StandsFor ground.now s (stage_after t process call.now)) }
-        ensures standing { IfOk result (λ s. IsStanding ground.now s) }
+        requires next { IsNextCall ground.now self.old process call.now }
+        ensures stage { (t : StageTerms) → StandsFor ground.now self.old t
+            → StandsFor ground.now self.new (stage_after t process call.now) }
+        ensures standing { IsStanding ground.now self.new }
     {
         let _known = ground.book();
-        let mut stage = self.copy(alloc)?;
-        stage.make(ground, process, call);
-        stage.made[process as usize] += 1;
-        Ok(stage)
+        self.make(ground, process, call);
+        self.made[process as usize] += 1;
     }
 
-    fn copy(&self, alloc: Global) -> Result<Stage, AllocError>
-        ensures { IfOk result (λ s. (s.made.items ≡ self.now.made.items)
-            × (s.balances.items ≡ self.now.balances.items)
-            × (s.sent.items ≡ self.now.sent.items)) }
+    /// Becomes the other stage.
+    pub(crate) fn set(&mut self, other: &Stage) -> Result<(), AllocError>
+        ensures { OnOk result (HaveSameNumbers self.new other.now) }
+    {
+        self.made.clear();
+        self.made.extend_from_slice(other.made.as_slice())?;
+        self.balances.clear();
+        self.balances.extend_from_slice(other.balances.as_slice())?;
+        self.sent.clear();
+        self.sent.extend_from_slice(other.sent.as_slice())
+    }
+
+    /// The hash of its numbers.
+    pub(crate) fn hash(&self) -> u64
+        ensures { result ≡ hash_of self.now }
+    {
+        let made = (self.made.iter()).fold(0, |hash, n| hashed(hash, u64::from(*n)));
+        let balances = (self.balances.iter()).fold(made, |hash, n| hashed(hash, *n));
+        (self.sent.iter()).fold(balances, |hash, n| hashed(hash, u64::from(*n)))
+    }
+
+    /// A stage with the same numbers.
+    pub(crate) fn copy(&self, alloc: Global) -> Result<Stage, AllocError>
+        ensures { IfOk result (λ s. HaveSameNumbers s self.now) }
     {
         Ok(Stage {
             made: self.made.as_slice().to_vec(alloc)?,
@@ -256,6 +287,13 @@ impl Stage {
         ground.book().known();
         self.sent[process as usize] += 1;
     }
+}
+
+/// The hash, and one number more in it.
+fn hashed(hash: u64, n: u64) -> u64
+    ensures { result ≡ hashed hash n }
+{
+    hash.wrapping_add(n).wrapping_mul(MIXER)
 }
 
 /// Takes the amount from the account.

@@ -1,157 +1,131 @@
 //! The walk over all stages, level by level: a level has the stages at which so many calls were made in all.
 
-ghost use Rattle.std.specs.Prelude.{◌≡◌, ◌<◌, ◌≤◌, ◌+◌, ◌⊎◌, ℕ, [], All, Contains, Err, IfOk, OnOk, length, slice_index, slice_index_or, sum};
+ghost use Rattle.std.specs.Prelude.{◌≡◌, ◌<◌, ◌+◌, ℕ, All, Err, IfOk, List, OnOk, length, slice_index, slice_index_or};
 ghost use Rattle.at_orders.specs.Prelude.{IsPlayable, contents_of};
 ghost use Rattle.at_orders.specs.declared.stage.Stage.{Stage};
 ghost use Rattle.at_orders.specs.Ordered.{HoldsAt, IsOrdered, IsSpan};
 ghost use Rattle.at_orders.specs.Orders.{AreAnswers};
 ghost use Rattle.at_orders.specs.Parts.{files_of_part};
 ghost use Rattle.at_orders.specs.declared.replies.Range.{Range};
-ghost use Rattle.at_orders.specs.Stages.{GroundTerms, HasMoreStages, StageTerms};
-ghost use Rattle.at_orders.specs.Walk.{AreLevel, Grows, HasAllNext, HasMoreNext, HasNext, HasStage, IsNextLevel, IsSeen, IsWalked, IsWalkedTo, StandsFor};
+ghost use Rattle.at_orders.specs.Stages.{HasMoreStages};
+ghost use Rattle.at_orders.specs.Trail.{IsAt, IsTrail, IsWalked, IsWalkedOn, IsWalking, Looks};
+ghost use Rattle.at_orders.specs.Walk.{IsSeen};
 
+use crate::counts::are_too_many;
 use crate::error::OrdersError;
 use crate::ground::Ground;
 use crate::heard::{hear_all, opening_spans, silent, spans_of_all, widen_all};
 use crate::part::Part;
 use crate::stage::Stage;
+use crate::trail::Trail;
 use at_ledger::{Book, Call};
-use indexmap::IndexSet;
 use std::alloc::{AllocError, Global};
-use std::mem::replace;
+use std::slice::from_ref;
 
 /// The most stages that are walked.
 pub const STAGES_MAX: usize = 1_048_576;
 
-/// Sees this stage too.
-fn add(seen: &mut IndexSet<Stage>, stage: Stage) -> Result<(), AllocError>
-    ensures grows { Grows seen.old.keys seen.new.keys }
-    ensures len { length seen.new.keys ≤ length seen.old.keys + 1 }
-    ensures only { (s : Stage) → Contains seen.new.keys s
-        → Contains seen.old.keys s ⊎ (s ≡ stage) }
-    ensures has { OnOk result ((g : GroundTerms) (t : StageTerms) → StandsFor g stage t
-        → HasStage g seen.new.keys t) }
-{
-    let Ok(_added) = seen.insert(stage) else {
-        return Err(AllocError);
-    };
-    Ok(())
-}
-
 /// Sees the stage after the next call of the process, if it has one.
 fn turn(
-    alloc: Global,
     ground: &Ground,
-    stage: &Stage,
+    trail: &mut Trail,
+    at: usize,
     process: u32,
-    next: &mut IndexSet<Stage>,
+    stage: &Stage,
+    next: &mut Stage,
+    other: &mut Stage,
 ) -> Result<(), AllocError>
     requires process_in { process < ground.now.book.processes }
-    requires stage { IsSeen ground.now stage.now }
-    requires level { AreLevel ground.now (sum stage.now.made.items + 1)
-        next.old.keys }
-    ensures level { AreLevel ground.now (sum stage.now.made.items + 1)
-        next.new.keys }
-    ensures grows { Grows next.old.keys next.new.keys }
-    ensures next { OnOk result
-        (HasNext ground.now next.new.keys stage.now process) }
+    requires seen { IsSeen ground.now stage.now }
+    requires trail { (stages : List Stage) × IsTrail ground.now trail.old stages }
+    ensures { OnOk result ((stages : List Stage) → IsTrail ground.now trail.old stages
+        → IsAt stages at stage.now
+        → Looks ground.now trail.old trail.new stages stage.now (λ p. p ≡ process)) }
 {
-    let Some(call) = ground.file(process).get(stage.made(process) as usize) else {
-        return Ok(());
-    };
-    let after = stage.after(alloc, ground, process, call)?;
-    add(next, after)
+    let _known = ground.book();
+    next.set(stage)?;
+    if next.go_on(ground, process) {
+        trail.add(ground, at, process, next, other)?;
+    }
+    Ok(())
 }
 
 /// Sees the stages after the next calls of all processes.
 fn look(
-    alloc: Global,
     ground: &Ground,
+    trail: &mut Trail,
+    at: usize,
     stage: &Stage,
-    next: &mut IndexSet<Stage>,
+    next: &mut Stage,
+    other: &mut Stage,
 ) -> Result<(), AllocError>
-    requires stage { IsSeen ground.now stage.now }
-    requires level { AreLevel ground.now (sum stage.now.made.items + 1)
-        next.old.keys }
-    ensures level { AreLevel ground.now (sum stage.now.made.items + 1)
-        next.new.keys }
-    ensures grows { Grows next.old.keys next.new.keys }
-    ensures looked { OnOk result
-        (HasAllNext ground.now next.new.keys stage.now) }
+    requires seen { IsSeen ground.now stage.now }
+    requires trail { (stages : List Stage) × IsTrail ground.now trail.old stages × IsAt stages at stage.now }
+    ensures { OnOk result ((stages : List Stage) → IsTrail ground.now trail.old stages
+        → IsAt stages at stage.now
+        → Looks ground.now trail.old trail.new stages stage.now (λ p. p < ground.now.book.processes)) }
 {
     for process in 0..ground.book().processes() {
-        turn(alloc, ground, stage, process, next)?;
+        turn(ground, trail, at, process, stage, next, other)?;
     }
     Ok(())
 }
 
-/// The stages of the level after this one, each of them once, if they are not more than so many.
-fn next_level(
+/// Hears the replies that the calls get at the stage with this number, and the balances there, and sees the stages after their next calls.
+/// Three stages are written over.
+fn visit(
+    ground: &Ground,
+    trail: &mut Trail,
+    at: usize,
+    stage: &mut Stage,
+    next: &mut Stage,
+    other: &mut Stage,
+    done: &mut Part,
+) -> Result<(), AllocError>
+    requires walking { (most : ℕ) × IsWalking ground.now trail.old
+        (contents_of done.old.replies.items) done.old.spans.items most at }
+    requires within { at < trail.old.begun }
+    ensures walking { OnOk result ((most : ℕ) → IsWalking ground.now trail.old
+        (contents_of done.old.replies.items) done.old.spans.items most at
+        → IsWalking ground.now trail.new (contents_of done.new.replies.items) done.new.spans.items
+        most (at + 1)) }
+    ensures begun { OnOk result (trail.new.begun ≡ trail.old.begun) }
+{
+    trail.recall(ground, at, stage)?;
+    hear_all(ground, from_ref(stage), &mut done.replies);
+    widen_all(ground, from_ref(stage), done.spans.as_mut_slice());
+    look(ground, trail, at, stage, next, other)
+}
+
+/// Hears the replies that the calls get at the stages of the level, and the balances there, and sees the stages of the next level, each
+/// of them once, if they are not more than so many.
+fn look_all(
     alloc: Global,
     ground: &Ground,
-    level: &[Stage],
     most: usize,
-) -> Result<IndexSet<Stage>, OrdersError>
-    requires level { (made : ℕ) × AreLevel ground.now made level.now }
-    ensures next { IfOk result (λ next. (made : ℕ)
-        → AreLevel ground.now made level.now
-        → IsNextLevel ground.now made level.now next.keys) }
-    ensures few { IfOk result (λ next. length next.keys ≤ most) }
-    ensures many { result ≡ Err OrdersError.TooManyOrders → (made : ℕ)
-        → AreLevel ground.now made level.now
-        → HasMoreNext ground.now made most }
-{
-    let _known = ground.book();
-    let mut next = IndexSet::new(alloc);
-    for stage in level {
-        look(alloc, ground, stage, &mut next)?;
-        if next.len() > most {
-            return Err(OrdersError::TooManyOrders);
-        }
-    }
-    Ok(next)
-}
-
-/// The first stage alone.
-fn begin(alloc: Global, ground: &Ground) -> Result<IndexSet<Stage>, AllocError>
-    ensures walked { IfOk result
-        (λ seen. IsWalkedTo ground.now [] seen.keys 0) }
-    ensures one { IfOk result (λ seen. length seen.keys ≤ 1) }
-{
-    let _known = ground.book();
-    let mut seen = IndexSet::new(alloc);
-    add(&mut seen, Stage::first(alloc, ground)?)?;
-    Ok(seen)
-}
-
-/// Hears the replies that the calls get at the stages of the level, and the balances there, and goes on to the next level, after so many
-/// stages before.
-fn walk_level(
-    alloc: Global,
-    ground: &Ground,
-    looked: usize,
-    level: &mut IndexSet<Stage>,
+    trail: &mut Trail,
     done: &mut Part,
 ) -> Result<(), OrdersError>
-    requires walked { IsWalked ground.now level.old.keys (contents_of done.old.replies.items)
-        done.old.spans.items looked }
-    requires few { looked + length level.old.keys ≤ STAGES_MAX }
-    ensures walked { OnOk result (IsWalked ground.now level.new.keys
-        (contents_of done.new.replies.items) done.new.spans.items (looked + length level.old.keys)) }
-    ensures few { OnOk result
-        (looked + length level.old.keys + length level.new.keys ≤ STAGES_MAX) }
+    requires walked { IsWalked ground.now trail.old (contents_of done.old.replies.items)
+        done.old.spans.items most }
+    ensures walked { OnOk result (IsWalkedOn ground.now trail.new
+        (contents_of done.new.replies.items) done.new.spans.items most) }
     ensures many { result ≡ Err OrdersError.TooManyOrders
         → HasMoreStages ground.now.book ground.now.files STAGES_MAX }
 {
-    hear_all(ground, level.as_slice(), &mut done.replies);
-    widen_all(ground, level.as_slice(), done.spans.as_mut_slice());
-    let left = STAGES_MAX - looked - level.len();
-    let next = next_level(alloc, ground, level.as_slice(), left)?;
-    drop(replace(level, next));
+    let mut stage = Stage::first(alloc, ground)?;
+    let mut next = Stage::first(alloc, ground)?;
+    let mut other = Stage::first(alloc, ground)?;
+    for at in trail.looked()..trail.begun() {
+        visit(ground, trail, at, &mut stage, &mut next, &mut other, done)?;
+        if trail.grown() > most {
+            return Err(OrdersError::TooManyOrders);
+        }
+    }
     Ok(())
 }
 
-/// The replies of each call of each file in all orders, and the balances of the accounts with a place. Two levels at most are held.
+/// The replies of each call of each file in all orders, and the balances of the accounts with a place.
 fn walk_on(alloc: Global, ground: &Ground) -> Result<Part, OrdersError>
     ensures answers { IfOk result (λ done. AreAnswers ground.now.book ground.now.files
         (contents_of done.replies.items)) }
@@ -163,15 +137,18 @@ fn walk_on(alloc: Global, ground: &Ground) -> Result<Part, OrdersError>
         → HasMoreStages ground.now.book ground.now.files STAGES_MAX }
 {
     let _known = ground.book();
+    if are_too_many(ground) {
+        return Err(OrdersError::TooManyOrders);
+    }
     let replies = silent(alloc, ground)?;
     let spans = opening_spans(alloc, ground)?;
     let mut done = Part { replies, spans };
-    let mut level = begin(alloc, ground)?;
-    let mut looked = 0;
-    while level.len() > 0 {
-        let stages = level.len();
-        walk_level(alloc, ground, looked, &mut level, &mut done)?;
-        looked += stages;
+    let mut trail = Trail::new(alloc, ground)?;
+    let mut left = STAGES_MAX - 1;
+    while trail.looked() < trail.begun() {
+        look_all(alloc, ground, left, &mut trail, &mut done)?;
+        left -= trail.grown();
+        trail.turn_over(alloc, ground)?;
     }
     Ok(done)
 }

@@ -1,10 +1,6 @@
-use Rattle.std.proofs.Common.{◌+◌, ◌<◌, ℕ, sum}
-use Rattle.at_orders.proofs.Prelude.{AreLevel, Grows, HasNext}
+use Rattle.std.proofs.Common.{◌<◌, List}
+use Rattle.at_orders.proofs.Prelude.{IsAt, IsTrail, Looks, Stage}
 use Rattle.at_orders.proofs.walk.look.Given as goal
 
 abbrev pub invariant-loop-process : goal.invariant-loop-process
-invariant-loop-process l = record {
-  level : AreLevel l.ground (sum l.stage.made.items + 1) l.next.keys;
-  grows : Grows l.fn.next.keys l.next.keys;
-  looked : (p : ℕ) → p < l.process → HasNext l.ground l.next.keys l.stage p;
-}
+invariant-loop-process l = (stages : List Stage) → IsTrail l.ground l.fn.trail stages → IsAt stages l.at l.stage → Looks l.ground l.fn.trail l.trail stages l.stage (λ p. p < l.process)

@@ -2,7 +2,7 @@ use Rattle.std.proofs.Common.{◌≡◌, ℕ, ◌+◌, List, [], get_or, length,
 use Rattle.at_orders.proofs.Prelude.{get_or_default_zero, common_steps, slice_get_within, Global, with_item, with_made}
 use Rattle.std.specs.Prelude.{Vec}
 use Rattle.at_orders.proofs.Requests.{stage_after-made}
-use Rattle.at_orders.proofs.stage.Stage.after.Goals as goal
+use Rattle.at_orders.proofs.stage.Stage.advance.Goals as goal
 
 pub overflow_add-index_mut : goal.overflow_add-index_mut
 overflow_add-index_mut c =
@@ -14,7 +14,7 @@ overflow_add-index_mut c =
     let playable = known.files p [] (omega arith) in
     let few = playable.few in
     let within = slice_get_within (get_or g.files p []) (get_or c.args.self.now.made.items p 0) c.args.call.now c.requires.next in
-    let same : c.make.new.self.made.items ≡ c.args.self.now.made.items = ap (λ (v : Vec ℕ Global). v.items) c.make.ensures.made ∙ c.in_ok-stage.ensures.0 in
+    let same : c.make.new.self.made.items ≡ c.args.self.now.made.items = ap (λ (v : Vec ℕ Global). v.items) c.make.ensures.made in
     let size = ap (length {A = ℕ}) same in
     let counts = c.requires.standing.counts in
     let value = c.index_mut.ensures.value ∙ get_or_default_zero c.make.new.self.made.items p c.index_mut.result.now (omega arith) in
@@ -23,14 +23,13 @@ overflow_add-index_mut c =
 
 pub returns-clause-stage : goal.returns-clause-stage
 returns-clause-stage c =
-    let copy = c.in_ok-stage.ensures in
     let made : List ℕ = c.make.new.self.made.items in
-    let still : made ≡ c.in_ok-stage.stage.made.items = ap (λ (v : Vec ℕ Global). v.items) c.make.ensures.made in
+    let still : made ≡ c.args.self.now.made.items = ap (λ (v : Vec ℕ Global). v.items) c.make.ensures.made in
     let counts : set made c.args.process (c.index_mut.result.now + 1) ≡ with_made made c.args.process =
     (let known = c.requires.process_in in let sized = c.make.ensures.standing.counts in ap (λ (n : ℕ). set made c.args.process (n + 1)) (c.index_mut.ensures.value ∙ get_or_default_zero made c.args.process c.index_mut.result.now (omega arith))) in
-    stage_after-made c.args.ground.now c.args.self.now c.in_ok-stage.stage c.make.new.self
+    stage_after-made c.args.ground.now c.args.self.now c.args.self.now c.make.new.self
     (record { made = with_item c.make.new.self.made c.args.process (c.index_mut.result.now + 1); balances = c.make.new.self.balances; sent = c.make.new.self.sent })
-    c.args.process c.args.call.now copy.0 copy.1 copy.2 still c.make.ensures.ledger counts refl refl
+    c.args.process c.args.call.now refl refl refl still c.make.ensures.ledger counts refl refl
 
 pub make-requires-clause-standing : goal.make-requires-clause-standing
 make-requires-clause-standing c = grind (arith, common_steps)
