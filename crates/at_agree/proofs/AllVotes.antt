@@ -119,7 +119,7 @@ AreAccountedFor-made council votes passes receipts made stand passes_are receipt
             of_ledger = one.of_council;
             process_is = one.process_is;
             stands = kept.stands;
-            counted = kept.counted;
+            made = kept.past;
           } in
           subst (λ (rs : List Receipt). IsAccountedFor council p (get_or passes p d) rs) (sym list_is)
           (subst (λ (q : PassTerms). IsAccountedFor council p q x.voice.receipts) (sym pass_is) accounted);

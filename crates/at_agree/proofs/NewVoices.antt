@@ -1,6 +1,6 @@
 -- The voices of a new council: one for each pass of its ledger.
 use Rattle.std.proofs.Common.{◌≡◌, ℕ, ◌<◌, List, [], ◌∷◌, ◌++◌, All, length, map, get_or, sym, ap, subst, ◌∙◌, arith, length-append}
-use Rattle.at_agree.proofs.Prelude.{get_or-append_seam, get_or-map, length-map, BoardTerms, BookTerms, Receipt, AreNewPasses, IsNewPass, PassTerms, Stands, size_of, AreNewVoices, HasNotProposed, IsVoice, MayProposeValue, VoiceTerms}
+use Rattle.at_agree.proofs.Prelude.{get_or-append_seam, get_or-map, length-map, BoardTerms, BookTerms, Receipt, AreNewPasses, IsNewPass, PassTerms, PastCall, Stands, size_of, AreNewVoices, HasNotProposed, IsVoice, MayProposeValue, VoiceTerms}
 
 -- the pass after so many is that of this process
 pub IsNewPass-at : (ledger : BoardTerms) (passes done left : List PassTerms) (pass : PassTerms) → AreNewPasses ledger passes
@@ -17,7 +17,7 @@ pub IsVoice-new : (ledger : BoardTerms) (p : ℕ) (pass : PassTerms) (receipts :
     → receipts ≡ [] → IsVoice (record { pass = pass; receipts = receipts })
 IsVoice-new ledger p pass receipts known new none = record {
   stands = subst (λ (rs : List Receipt). Stands pass rs) (sym none) new.stands;
-  counted = new.calls_are ∙ sym (ap (λ (rs : List Receipt). length rs) none);
+  past = ap (λ (calls : List PastCall). map (λ (c : PastCall). c.receipt) calls) new.past_none ∙ sym none;
   known = omega (arith, known, new.process_is, ap (λ (b : BookTerms). b.processes) new.of_ledger.book);
   few = omega (arith, ap (λ (rs : List Receipt). length rs) none);
 }

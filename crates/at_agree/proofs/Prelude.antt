@@ -73,8 +73,10 @@ pub use Rattle.at_log.specs.Told.{Told, key_at, key_of, own_position, round_posi
 unfoldable pub use Rattle.at_log.specs.Told.{keys_from}
 pub use Rattle.at_log.specs.declared.receipt.At.{At}
 pub use Rattle.at_log.specs.declared.receipt.Receipt.{Receipt}
+pub use Rattle.at_object.proofs.Laws.Calls.{past_receipts-more}
 pub use Rattle.at_object.proofs.Sharing.{pass_send}
 pub use Rattle.at_object.specs.Closings.{AreAccountedFor, ClosedTerms, IsAccountedFor}
 pub use Rattle.at_object.specs.Paid.{PaysAlone}
-pub use Rattle.at_object.specs.Passes.{AreNewPasses, IsNewPass, IsPassOf, PassTerms, Stands, counted_anew, one_more_call}
+pub use Rattle.at_object.specs.Passes.{AreNewPasses, IsNewPass, IsPassOf, PassTerms, Stands, counted_anew, past_call}
+pub use Rattle.at_object.specs.PastCalls.{PastCall}
 pub use Rattle.at_object.specs.Payments.{IsDecidedByBalance, payment_steps, shared_steps, single_steps}

@@ -1,6 +1,6 @@
 -- One more call with a voice: what its type keeps, and what the two payments leave in what it has seen.
 use Rattle.std.proofs.Common.{◌≡◌, ℕ, ◌+◌, ◌*◌, ◌^◌, ◌<◌, true, false, cond, List, [], ◌∷◌, ◌++◌, length, sym, ap, subst, ◌∙◌, arith, inl, inr, length-append}
-use Rattle.at_agree.proofs.Prelude.{AccountTerms, is_shared, is_single, slots_of, BookTerms, account_of, Transfer, Short, IsHistory, owns_of, BoardTerms, IsPlaced, asks_in, Receipt, PaysAlone, IsPassOf, PassTerms, Stands, one_more_call, IsDecidedByBalance, payment_steps, shared_steps, single_steps, IsCouncil, IsSize, council_book, shared_account, size_of, spent_account, value_account, HasShareDecided, HasProposed, share_of, IsVoice, IsVoiceOf, VoiceTerms, process_of}
+use Rattle.at_agree.proofs.Prelude.{AccountTerms, is_shared, is_single, slots_of, BookTerms, account_of, Transfer, Short, IsHistory, owns_of, BoardTerms, IsPlaced, asks_in, Receipt, PaysAlone, IsPassOf, PassTerms, Stands, past_call, past_receipts-more, IsDecidedByBalance, payment_steps, shared_steps, single_steps, IsCouncil, IsSize, council_book, shared_account, size_of, spent_account, value_account, HasShareDecided, HasProposed, share_of, IsVoice, IsVoiceOf, VoiceTerms, process_of}
 use Rattle.at_agree.proofs.CouncilBook.{account_of-own, is_shared-shared, length-accounts, slots_of-shared}
 use Rattle.at_agree.proofs.HistoryShown.{IsCouncilList-IsHistory}
 use Rattle.at_agree.proofs.PlacedCalls.{HasShareDecided-IsAtRound, HasProposed-IsAtOwn, share_placed, paid, refused, value_decided, value_placed}
@@ -21,15 +21,15 @@ in_book council k account is size_is below =
 -- what the type of a voice keeps, when one more call is made
 pub IsVoice-made : (council : BoardTerms) (before after : PassTerms) (earlier receipts : List Receipt) (r : Receipt)
     → IsPassOf before council → IsPassOf after council → IsVoice (record { pass = before; receipts = earlier }) → length earlier < 4
-    → ((list : List Receipt) → Stands before list → Stands after (list ++ r ∷ [])) → after.calls ≡ one_more_call before.calls
+    → ((list : List Receipt) → Stands before list → Stands after (list ++ r ∷ [])) → after.past ≡ before.past ++ past_call before after r ∷ []
     → after.knows.first ≡ before.knows.first → receipts ≡ earlier ++ r ∷ []
     → IsVoice (record { pass = after; receipts = receipts })
-IsVoice-made council before after earlier receipts r was is kept more told counted process made =
+IsVoice-made council before after earlier receipts r was is kept more told past process made =
     let count : length receipts ≡ length earlier + 1 = omega (arith, ap length made, length-append earlier (r ∷ [])) in
     let processes : ℕ → BookTerms → Type 0 = λ p b. p < b.processes in
     record {
       stands = subst (λ list. Stands after list) (sym made) (told earlier kept.stands);
-      counted = omega (arith, counted, count, kept.counted, more);
+      past = past_receipts-more before after r earlier past kept.past ∙ sym made;
       known = subst (processes after.knows.first) (was.book ∙ sym is.book) (omega (arith, kept.known, process));
       few = omega (arith, count, more);
     }

@@ -1,6 +1,6 @@
 -- What an agreement leaves, and what its threads leave on the way there.
 use Rattle.std.specs.Prelude.{◌≡◌, ℕ, ◌^◌, ◌<◌, List, length, map, slice_index, slice_index_or, All, Contains}
-use Rattle.at_agree.specs.Prelude.{BoardTerms, receipts_of, Coherent, ClosedTerms, Stands}
+use Rattle.at_agree.specs.Prelude.{BoardTerms, receipts_of, Coherent, ClosedTerms, Stands, past_receipts}
 use Rattle.at_agree.specs.Council.{council_book, size_of}
 use Rattle.at_agree.specs.Plan.{HasVoted}
 use Rattle.at_agree.specs.Voices.{HasNotProposed, IsVoiceOf, process_of}
@@ -53,4 +53,4 @@ pub record AreCast (council : BoardTerms) (votes : List Vote) : Type 0 where
 -- the receipts of a vote's voice account for its pass
 pub record StandsByItself (x : Vote) : Type 0 where
   pub stands : Stands x.voice.pass x.voice.receipts
-  pub counted : x.voice.pass.calls ≡ length x.voice.receipts
+  pub past : past_receipts x.voice.pass ≡ x.voice.receipts

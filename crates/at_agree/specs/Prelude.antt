@@ -25,6 +25,6 @@ pub use Rattle.at_log.specs.Receipts.{asks_in, calls_of, receipt_at}
 pub use Rattle.at_log.specs.Told.{round_position}
 pub use Rattle.at_log.specs.declared.receipt.Receipt.{Receipt}
 pub use Rattle.at_object.specs.Closings.{ClosedTerms}
-pub use Rattle.at_object.specs.Passes.{AreNewPasses, IsNewPass, IsPassOf, PassTerms, Stands, counted_anew, others_counted}
+pub use Rattle.at_object.specs.Passes.{AreNewPasses, IsNewPass, IsPassOf, PassTerms, Stands, counted_anew, others_counted, past_receipts}
 pub use Rattle.at_object.specs.Payments.{shared_steps, single_steps}
 pub use Rattle.at_snapshot.specs.Snapshots.{snapshot_steps}

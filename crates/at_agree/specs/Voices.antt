@@ -1,6 +1,6 @@
 -- Voices as callers see them, and what their type keeps.
 use Rattle.std.specs.Prelude.{◌≡◌, ℕ, ◌+◌, ◌*◌, ◌<◌, ◌≤◌, ◌++◌, List, [], ◌∷◌, length, slice_index_or, refl}
-use Rattle.at_agree.specs.Prelude.{BoardTerms, IsPrefix, Publication, Call, Read, Balance, Receipt, IsNewPass, IsPassOf, PassTerms, Stands, others_counted, snapshot_steps}
+use Rattle.at_agree.specs.Prelude.{BoardTerms, IsPrefix, Publication, Call, Read, Balance, Receipt, IsNewPass, IsPassOf, PassTerms, Stands, others_counted, past_receipts, snapshot_steps}
 use Rattle.at_agree.specs.Council.{size_of}
 
 -- a voice by its pass, and the receipts of the calls that were made with it
@@ -15,10 +15,10 @@ process_of voice = voice.pass.knows.first
 abbrev pub seen_by : VoiceTerms → List Publication
 seen_by voice = voice.pass.knows.seen
 
--- the receipts stand with the pass, which has counted as many calls, and are those of at most four
+-- the receipts stand with the pass, are those of its calls, and are at most four
 pub record IsVoice (voice : VoiceTerms) : Type 0 where
   pub stands : Stands voice.pass voice.receipts
-  pub counted : voice.pass.calls ≡ length voice.receipts
+  pub past : past_receipts voice.pass ≡ voice.receipts
   pub known : process_of voice < voice.pass.knows.book.processes
   pub few : length voice.receipts ≤ 4
 

@@ -4,7 +4,7 @@ ghost use Rattle.std.specs.Prelude.{◌≡◌, ◌+◌, ◌*◌, ◌^◌, ◌<�
 ghost use Rattle.at_agree.specs.Council.{IsCouncil, shared_account, size_of, spent_account, value_account};
 ghost use Rattle.at_agree.specs.Plan.{HasShareDecided, HasProposed, share_of};
 ghost use Rattle.at_agree.specs.Voices.{HasMadeOneMore, HasNotProposed, HasRead, IsVoiceOf, process_of, seen_by};
-ghost use Rattle.at_agree.specs.Prelude.{RECORD_WORDS, IsHistory, Call, asks_in, Stands, counted_anew, shared_steps, single_steps, snapshot_steps};
+ghost use Rattle.at_agree.specs.Prelude.{RECORD_WORDS, IsHistory, Call, asks_in, Stands, counted_anew, past_receipts, shared_steps, single_steps, snapshot_steps};
 
 use arrayvec::ArrayVec;
 use at_ledger::Reply;
@@ -107,7 +107,7 @@ impl Voice {
         ensures pass { IfOk result (λ r. r.0 ≡ self.pass) }
         ensures receipts { IfOk result (λ r. r.1.items ≡ self.receipts) }
         ensures stands { Stands self.pass self.receipts }
-        ensures counted { self.pass.calls ≡ length self.receipts }
+        ensures past { past_receipts self.pass ≡ self.receipts }
     {
         let Voice { pass, receipts } = self;
         let list = receipts.into_iter().collect(alloc)?;

@@ -1,6 +1,6 @@
 -- What the types of callers and of ledgers keep.
-use Rattle.std.proofs.Common.{◌≡◌, append_assoc, append-nil, ℕ, ◌+◌, ◌<◌, ◌≤◌, suc, List, [], ◌∷◌, ◌++◌, length, sym, ap, subst, ◌∙◌, arith, length-append, replicate, All, inl, inr, ◌-◌}
-use Rattle.at_c.proofs.Prelude.{get_or-append, get_or-append_right, get_or-append_seam, cases_lt, get_or-replicate, length-replicate, map-append, All-append, All-nil, All-push, All-replicate, BoardTerms, IsCallOn, Call, calls_of, Receipt, stands-CallMade, CallMade, AreAccountedFor, IsAccountedFor, AreNewPasses, IsNewPass, IsPassOf, PassTerms, Stands, one_more_call, OwnCallerTerms, IsCaller, IsOpened, IsStillOpen, OpenedTerms, LearnsNote, SharedTerms, Outcome}
+use Rattle.std.proofs.Common.{◌≡◌, append_assoc, append-nil, ℕ, ◌+◌, ◌<◌, ◌≤◌, suc, List, [], ◌∷◌, ◌++◌, length, map, sym, ap, subst, ◌∙◌, arith, length-append, replicate, All, inl, inr, ◌-◌}
+use Rattle.at_c.proofs.Prelude.{get_or-append, get_or-append_right, get_or-append_seam, cases_lt, get_or-replicate, length-replicate, map-append, All-append, All-nil, All-push, All-replicate, BoardTerms, IsCallOn, Call, calls_of, Receipt, stands-CallMade, CallMade, AreAccountedFor, IsAccountedFor, AreNewPasses, IsNewPass, IsPassOf, PassTerms, Stands, past_call, past_receipts-more, PastCall, OwnCallerTerms, IsCaller, IsOpened, IsStillOpen, OpenedTerms, LearnsNote, SharedTerms, Outcome}
 use Rattle.std.specs.Prelude.{slice_index_or}
 use Rattle.at_c.specs.Given.{AreReceipts}
 
@@ -28,7 +28,7 @@ known-push accounts earlier r known more =
 -- one more call keeps a caller
 pub IsCaller-called : (shared held : SharedTerms) (before after : PassTerms) (earlier receipts : List Receipt) (call : Call) (r : Receipt) (room capacity : ℕ)
     → IsCaller (caller_of shared before earlier room) → held ≡ shared → CallMade held.ledger.book before after call r
-    → IsPassOf after held.ledger → after.calls ≡ one_more_call before.calls → length earlier < room → receipts ≡ earlier ++ r ∷ []
+    → IsPassOf after held.ledger → after.past ≡ before.past ++ past_call before after r ∷ [] → length earlier < room → receipts ≡ earlier ++ r ∷ []
     → capacity ≡ room → IsCallOn (length shared.ledger.book.accounts) call → IsCaller (caller_of shared after receipts capacity)
 IsCaller-called shared held before after earlier receipts call r room capacity kept same made of calls free more fits on =
     let count : length receipts ≡ length earlier + 1 = ap length more ∙ length-append earlier (r ∷ []) in
@@ -38,7 +38,7 @@ IsCaller-called shared held before after earlier receipts call r room capacity k
         of_ledger = subst (λ (s : SharedTerms). IsPassOf after s.ledger) same of;
         stands = subst (λ (list : List Receipt). Stands after list) (sym more)
             (stands-CallMade held.ledger.book before after call r made earlier kept.account.stands);
-        counted = omega (arith, calls, count, kept.account.counted, kept.few, free);
+        past = past_receipts-more before after r earlier calls kept.account.past ∙ sym more;
         are = record {
           few = omega (arith, count, free, kept.few);
           known = subst (λ (list : List Receipt). All (IsCallOn accounts) (calls_of list)) (sym more)
@@ -118,7 +118,7 @@ IsCaller-learned shared held from before after receipts room Outcome.Done kept s
       account = record {
         of_ledger = subst (λ (s : SharedTerms). IsPassOf after s.ledger) same learned.of_ledger;
         stands = learned.stands receipts kept.account.stands;
-        counted = learned.calls_are ∙ kept.account.counted;
+        past = ap (λ (calls : List PastCall). map (λ (c : PastCall). c.receipt) calls) learned.past_is ∙ kept.account.past;
         are = kept.account.are;
       };
       process = subst (λ n. n < shared.ledger.book.processes) (sym learned.process_is) kept.process;
@@ -206,7 +206,7 @@ module _ (shared : SharedTerms) (given : ℕ) (waiting passes : List PassTerms) 
             (sym (get_or-append_right passes waiting p d above))
             (subst (λ (x : List Receipt). IsAccountedFor shared.ledger p (slice_index_or waiting i d) x)
             (sym (unused-none p (omega (arith, kept.even, above)) (omega (arith, kept.even, kept.count, all, below))))
-            (record { of_ledger = new.of_ledger; process_is = new.process_is; stands = new.stands; counted = new.calls_are }))
+            (record { of_ledger = new.of_ledger; process_is = new.process_is; stands = new.stands; made = ap (λ (calls : List PastCall). map (λ (c : PastCall). c.receipt) calls) new.past_none }))
       ]
 
   pub AreAccountedFor-gathered : AreAccountedFor shared.ledger (passes ++ waiting) (receipts ++ unused)

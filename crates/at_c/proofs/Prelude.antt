@@ -81,11 +81,12 @@ pub use Rattle.at_log.specs.ClosingTerms.{ClosingTerms}
 pub use Rattle.at_log.specs.Coherent.{Coherent}
 pub use Rattle.at_log.specs.Receipts.{calls_of}
 pub use Rattle.at_log.specs.declared.receipt.Receipt.{Receipt}
-pub use Rattle.at_object.proofs.Laws.Calls.{stands-CallMade}
+pub use Rattle.at_object.proofs.Laws.Calls.{past_receipts-more, stands-CallMade}
 pub use Rattle.at_object.proofs.Sharing.{pass_send}
 pub use Rattle.at_object.specs.Calls.{CallMade}
 pub use Rattle.at_object.specs.Closings.{AreAccountedFor, IsAccountedFor}
-pub use Rattle.at_object.specs.Passes.{AreNewPasses, IsNewPass, IsPassOf, PassTerms, Stands, one_more_call}
+pub use Rattle.at_object.specs.Passes.{AreNewPasses, IsNewPass, IsPassOf, PassTerms, Stands, past_call}
+pub use Rattle.at_object.specs.PastCalls.{PastCall}
 pub use Rattle.atomic_table.proofs.Rights.{right_send}
 pub use Rattle.atomic_table.proofs.Sent.{owns_keyless, shares_keyless}
 pub use Rattle.atomic_table.specs.declared.shared.TableRule.{Ghosts}

@@ -27,6 +27,7 @@ pub record HasLearnedNote (ledger : BoardTerms) (note : SeatTerms) (before after
   pub of_ledger : IsPassOf after ledger
   pub process_is : after.knows.first ≡ before.knows.first
   pub calls_are : after.calls ≡ before.calls
+  pub past_is : after.past ≡ before.past
   pub sent : sent_by after ≡ sent_by before
   pub asked : (a : ℕ) → asked_by after a ≡ asked_by before a
   pub counted : after.counted ≡ before.counted

@@ -1,6 +1,6 @@
 -- What a call leaves of its pass, whichever way it was made.
 use Rattle.std.proofs.Common.{◌≡◌, ◌≢◌, ℕ, ◌+◌, ◌*◌, ◌<◌, ◌≤◌, Bool, true, false, cond, List, [], ◌∷◌, length, None, Some, refl, sym, ap, subst, ◌∙◌, arith, inl, inr}
-use Rattle.at_calling.proofs.Prelude.{cases_Bool, get_or-le-sum_by, is_shared, is_single, slots_of, BookTerms, HasSlot, account_of, is_owner, AreTargetsOn, IsCallOn, TargetPair, first_account, payout_of, Call, Pay, Read, Transfer, Reply, Balance, Done, Full, NotOwner, Short, single_or_shared, IsPrefix-refl, place, IsHistory, owns_of, raised, IsKept, SeatTerms, MayStoreRequest, record_width, Knowledge, Asking, RECORD_WORDS, StandsBehind-cut, length-prefix_of-le, IsBetweenCalls, HasCounted, StaysCounted, TotalSums, first_account-payout, same_payout, is_at_own, is_at_round, key_of, Receipt, IsPass-alone, asking-alone, decided-alone, IsPass-round, IsPass-HasLoaded, between-IsPass, Told-HasLoaded, asking-HasLoaded, owns_of-HasLoaded, look-Cut, place-IsSnapshot, PaymentMade-alone, PaymentMade-round, others-le, IsOfOnePass-counted, HasSlot-is_owner, MayStoreRequest-room, sent-room, with_one_call, PaysAlone, PaysInRound, PaymentMade, IsOfOnePass, pass_of, IsPass, PassTerms, counted_anew, others_counted, IsDecidedByBalance, IsRefused, has_used_up, payment_steps, refusal_of, sent_after, shared_steps, single_steps, Rest, HasAllSettled, decides_made, decides_on, cut_behind, snapshot_steps, process-CallMade, AreTargetsOn-single, call_steps-payout, may_exchange-payout, read_or_refused, refusal_in, CallMade, ReadMade, StaysWithin, call_steps, may_exchange, HasSameAsking, append_steps, DecidesFew, settling_steps, IsReadOf, LeavesTotals}
+use Rattle.at_calling.proofs.Prelude.{cases_Bool, get_or-le-sum_by, is_shared, is_single, slots_of, BookTerms, HasSlot, account_of, is_owner, AreTargetsOn, IsCallOn, TargetPair, first_account, payout_of, Call, Pay, Read, Transfer, Reply, Balance, Done, Full, NotOwner, Short, single_or_shared, IsPrefix-refl, place, IsHistory, owns_of, raised, IsKept, SeatTerms, MayStoreRequest, record_width, Knowledge, Asking, RECORD_WORDS, StandsBehind-cut, length-prefix_of-le, IsBetweenCalls, HasCounted, StaysCounted, TotalSums, first_account-payout, same_payout, is_at_own, is_at_round, key_of, Receipt, IsPass-alone, asking-alone, decided-alone, IsPass-round, IsPass-HasLoaded, between-IsPass, Told-HasLoaded, asking-HasLoaded, owns_of-HasLoaded, look-Cut, place-IsSnapshot, PaymentMade-alone, PaymentMade-round, others-le, IsOfOnePass-counted, HasSlot-is_owner, MayStoreRequest-room, sent-room, with_one_call, PaysAlone, PaysInRound, PaymentMade, IsOfOnePass, pass_of, IsPass, PassTerms, counted_anew, others_counted, IsDecidedByBalance, IsRefused, has_used_up, payment_steps, refusal_of, sent_after, shared_steps, single_steps, Rest, HasAllSettled, decides_made, decides_on, cut_behind, snapshot_steps, process-CallMade, AreTargetsOn-single, call_steps-payout, may_exchange-payout, read_or_refused, refusal_in, CallMade, ReadMade, StaysWithin, call_steps, may_exchange, HasSameAsking, append_steps, DecidesFew, settling_steps, IsReadOf, LeavesTotals, refusal_in-payout}
 use Rattle.std.specs.Prelude.{slice_index, sum}
 use Rattle.at_payments.specs.Standing as single
 
@@ -58,14 +58,6 @@ module _ (b : BookTerms) (source : ℕ) (targets : List TargetPair) where
   CallMade-payout before after (Read account) r payout made = absurd (cc payout)
   CallMade-payout before after (Pay from ts) r payout made =
       subst (λ (x : ℕ × List TargetPair). PaymentMade b before after x.0 x.1 (Pay from ts) r) (sym (same_payout (from, ts) (source, targets) payout)) made
-
-  pub refusal_in-payout : (before : PassTerms) (call : Call) → payout_of call ≡ Some (source, targets)
-      → refusal_in b before call ≡ refusal_of b before source
-  refusal_in-payout before (Transfer from to amount) payout =
-      ap (λ (x : ℕ × List TargetPair). refusal_of b before x.0) (same_payout (from, (to, amount) ∷ []) (source, targets) payout)
-  refusal_in-payout before (Read account) payout = absurd (cc payout)
-  refusal_in-payout before (Pay from ts) payout =
-      ap (λ (x : ℕ × List TargetPair). refusal_of b before x.0) (same_payout (from, ts) (source, targets) payout)
 
 -- the steps of a payment from an account of one owner
 pub payment_steps-single : (b : BookTerms) (source : ℕ) → is_single (account_of b source) ≡ true → payment_steps b source ≡ single_steps b.processes
@@ -189,9 +181,10 @@ module _ (b : BookTerms) (start : SeatTerms) (was : Rest) (seat : SeatTerms) (re
         counted = others_counted-LeavesTotals;
       }
 
-      pub IsOfOnePass-IsReadOf : StaysCounted rest.totals b w.seen → rest.sent ≡ was.sent → rest.calls ≡ with_one_call seat was.calls → IsOfOnePass seat rest
+      pub IsOfOnePass-IsReadOf : StaysCounted rest.totals b w.seen → rest.sent ≡ was.sent
+          → rest.calls ≡ with_one_call start seat rest.totals r was.calls → IsOfOnePass seat rest
       IsOfOnePass-IsReadOf stays sent calls =
-          IsOfOnePass-counted seat was rest calls
+          IsOfOnePass-counted start seat r was rest calls
           (subst (IsPass w rest.totals) (sym sent)
           (IsPass-HasLoaded b v w kept keeps book same_book read.at_cut.loads was.totals rest.totals was.sent pass.pass
           (HasCounted-StaysCounted b w rest.totals stays) leaves.own_counted))
@@ -218,9 +211,9 @@ module _ (b : BookTerms) (start : SeatTerms) (was : Rest) (seat : SeatTerms) (re
           others_counted-LeavesTotals known (record { single = single; owner = why_not.0 }) paid)
 
       pub IsOfOnePass-PaysAlone : source < length b.accounts → StaysCounted rest.totals b w.seen → rest.sent ≡ sent_after was.sent r.reply
-          → rest.calls ≡ with_one_call seat was.calls → IsOfOnePass seat rest
+          → rest.calls ≡ with_one_call start seat rest.totals r was.calls → IsOfOnePass seat rest
       IsOfOnePass-PaysAlone known stays sent calls =
-          IsOfOnePass-counted seat was rest calls
+          IsOfOnePass-counted start seat r was rest calls
           (subst (IsPass w rest.totals) (sym sent)
           (IsPass-alone b v w kept keeps book same_book was.totals was.sent pass.pass source targets call r paid rest.totals
           (HasCounted-StaysCounted b w rest.totals stays) leaves.own_counted))
@@ -255,9 +248,10 @@ module _ (b : BookTerms) (start : SeatTerms) (was : Rest) (seat : SeatTerms) (re
           (PaymentMade-round b before after source targets call r kept keeps book same_book was.totals was.sent pass.pass why_allowed.1
           others_counted-LeavesTotals slot.0 slot.1 why_allowed.0 shared paid (ap payout_of paid.call_is ∙ payout))
 
-      pub IsOfOnePass-PaysInRound : HasCounted rest.totals b w.seen → rest.sent ≡ was.sent → rest.calls ≡ with_one_call seat was.calls → IsOfOnePass seat rest
+      pub IsOfOnePass-PaysInRound : HasCounted rest.totals b w.seen → rest.sent ≡ was.sent
+          → rest.calls ≡ with_one_call start seat rest.totals r was.calls → IsOfOnePass seat rest
       IsOfOnePass-PaysInRound counted sent calls =
-          IsOfOnePass-counted seat was rest calls
+          IsOfOnePass-counted start seat r was rest calls
           (subst (IsPass w rest.totals) (sym sent)
           (IsPass-round b v w kept keeps book same_book was.totals was.sent pass.pass source slot.0 slot.1 call r paid rest.totals counted leaves.own_counted))
 

@@ -1,8 +1,8 @@
 -- A call from one turn to the next, and what its answer leaves.
 use Rattle.std.proofs.Common.{◌≡◌, ℕ, ◌+◌, ◌-◌, ◌*◌, ◌<◌, ◌≤◌, ◌↔◌, List, [], ◌∷◌, ◌++◌, IfSome, IsSome, Option, length, None, Some, refl, sym, ap, subst, ◌∙◌, arith, false, true}
-use Rattle.at_calling.proofs.Prelude.{sum, is_shared, slots_of, BookTerms, account_of, IsCallOn, TargetPair, first_account, Call, Reply, IsPrefix-refl, AreRuns, IsPrefix, Publication, raised, BoardTerms, IsKept, IsOf, SeatTerms, record_width, Asking, Knowledge, RECORD_WORDS, IsBetweenCalls, HasCounted, StaysCounted, TotalSums, first_account-payout, IsPlaced, Previous, Receipt, between-IsPass, PaymentMade-refused, IsOfOnePass-counted, call-CallMade, PaysAlone, PaysInRound, IsOfOnePass, after_one_call, pass_of, PassTerms, Stands, refusal_of, one_more_call, IsRefused, sent_after, single_steps, Rest, decides_made, decides_on, published-HasLoaded, HasLoaded, snapshot_steps, placed-CallMade, stands-CallMade, call_steps-payout, may_exchange-payout, with_one_call, CallingTerms, FollowsCall, IsCallWithin, IsWay, MakesCallStep, call_turns_left, exchanges_made, exchanges_of, pass_before, refusal_in, steps_made, steps_of, CallMade, StaysWithin, call_steps, IsCallStageSo, IsCallingSo, IsMakingStill, TakesCallTurn, IsWithin, IsWithinOneMore, look_turns_left, HasSameAsking, IsPayWithin, PayingAloneTerms, append_steps, pay_turns_left, DecidesFew, PayingSharedTerms, settling_steps, share_exchanges_made, share_steps, share_turns_left, share_turns_most, IsReadOf, LeavesTotals, ReadingTerms, counted_so_far, newly_seen, CallStage, PayAlone, PayShared, Refuse}
+use Rattle.at_calling.proofs.Prelude.{sum, is_shared, slots_of, BookTerms, account_of, IsCallOn, TargetPair, first_account, Call, Reply, IsPrefix-refl, AreRuns, IsPrefix, Publication, raised, BoardTerms, IsKept, IsOf, SeatTerms, record_width, Asking, Knowledge, RECORD_WORDS, IsBetweenCalls, HasCounted, StaysCounted, TotalSums, first_account-payout, IsPlaced, Previous, Receipt, between-IsPass, PaymentMade-refused, IsOfOnePass-counted, call-CallMade, PaysAlone, PaysInRound, IsOfOnePass, after_one_call, pass_of, PassTerms, Stands, refusal_in, PastCall, IsRefused, sent_after, single_steps, Rest, decides_made, decides_on, published-HasLoaded, HasLoaded, snapshot_steps, placed-CallMade, stands-CallMade, call_steps-payout, may_exchange-payout, CallingTerms, CountsCall, FollowsCall, IsCallWithin, IsWay, MakesCallStep, call_turns_left, exchanges_made, exchanges_of, pass_before, steps_made, steps_of, CallMade, StaysWithin, call_steps, IsCallStageSo, IsCallingSo, IsMakingStill, TakesCallTurn, IsWithin, IsWithinOneMore, look_turns_left, HasSameAsking, IsPayWithin, PayingAloneTerms, append_steps, pay_turns_left, DecidesFew, PayingSharedTerms, settling_steps, share_exchanges_made, share_steps, share_turns_left, share_turns_most, IsReadOf, LeavesTotals, ReadingTerms, counted_so_far, newly_seen, CallStage, PayAlone, PayShared, Refuse, refusal_in-payout}
 use Rattle.at_calling.proofs.PayingAloneLaws.{HasSameAsking-HasLoaded}
-use Rattle.at_calling.proofs.CallingLaws.{CallMade-PaysAlone, CallMade-PaysInRound, IsOfOnePass-IsReadOf, IsOfOnePass-PaysAlone, IsOfOnePass-PaysInRound, MakesWithin, ReadMade-IsReadOf, StaysWithin-MakesWithin, MakesWithin-IsReadOf, MakesWithin-PaysAlone, MakesWithin-PaysInRound, payment_steps-shared, payment_steps-single, refusal_in-payout, small-refusal_of, payout-IsCallOn}
+use Rattle.at_calling.proofs.CallingLaws.{CallMade-PaysAlone, CallMade-PaysInRound, IsOfOnePass-IsReadOf, IsOfOnePass-PaysAlone, IsOfOnePass-PaysInRound, MakesWithin, ReadMade-IsReadOf, StaysWithin-MakesWithin, MakesWithin-IsReadOf, MakesWithin-PaysAlone, MakesWithin-PaysInRound, payment_steps-shared, payment_steps-single, small-refusal_of, payout-IsCallOn}
 use Rattle.at_calling.specs.declared.call_stage.CallStage.TheVariants.{Read}
 
 -- the call that goes on with this stage, of this seat and this rest of its pass
@@ -15,19 +15,21 @@ pub record Leaves (b : BookTerms) (t : CallingTerms) (after : SeatTerms) (rest :
   pub kept : IsOfOnePass after rest
   pub within : MakesWithin b (pass_before t) (pass_of after rest) t.call steps exchanges r
 
--- so the receipt is that of a call made
+-- so the call stays within its bounds
+pub within-Leaves : (b : BookTerms) (t : CallingTerms) (after : SeatTerms) (rest : Rest) (steps exchanges : ℕ) (r : Receipt)
+    → Leaves b t after rest steps exchanges r → after.steps ≡ raised t.start.steps steps → after.exchanges ≡ raised t.start.exchanges exchanges
+    → StaysWithin b (pass_before t) (pass_of after rest) r.call r
+within-Leaves b t after rest steps exchanges r leaves made exchanged =
+    subst (λ (k : Call). StaysWithin b (pass_before t) (pass_of after rest) k r)
+    (sym (call-CallMade b (pass_before t) (pass_of after rest) t.call r leaves.made))
+    (StaysWithin-MakesWithin b (pass_before t) (pass_of after rest) t.call steps exchanges r leaves.within made exchanged)
+
+-- and the receipt is that of a call made
 pub made-Leaves : (b : BookTerms) (t : CallingTerms) (after : SeatTerms) (rest : Rest) (steps exchanges : ℕ) (r : Receipt)
     → Leaves b t after rest steps exchanges r → CallMade b (pass_before t) (pass_of after rest) r.call r
 made-Leaves b t after rest steps exchanges r leaves =
     subst (λ (k : Call). CallMade b (pass_before t) (pass_of after rest) k r)
     (sym (call-CallMade b (pass_before t) (pass_of after rest) t.call r leaves.made)) leaves.made
-
--- a call that is refused is so for the account that it pays from
-refusal_in-source : (b : BookTerms) (before : PassTerms) (call : Call) (reply : Reply) → refusal_in b before call ≡ Some reply
-    → (source : ℕ) × (refusal_of b before source ≡ Some reply)
-refusal_in-source b before (Call.Transfer from to amount) reply is = (from, is)
-refusal_in-source b before (Call.Read account) reply is = absurd (cc is)
-refusal_in-source b before (Call.Pay from targets) reply is = (from, is)
 
 -- a call that has made no exchange is within its bounds where its steps are
 pub IsCallWithin-none : (b : BookTerms) (before : PassTerms) (call : Call) (after : Knowledge) (counted : List ℕ) (steps : ℕ)
@@ -46,12 +48,12 @@ IsCallWithin-none b before call after counted steps same few counting = record {
 -- a refused call leaves its pass as it was, but for the count of its calls
 CallMade-refused : (b : BookTerms) (before : PassTerms) (call : Call) (r : Receipt) → IsKept before.knows → before.knows.book ≡ b
     → IsBetweenCalls b before.knows → IsCallOn (length b.accounts) call → r.call ≡ call → r.at ≡ Previous → refusal_in b before call ≡ Some r.reply
-    → CallMade b before (record before { calls = one_more_call before.calls }) call r
-CallMade-refused b before (Call.Transfer from to amount) r kept book between known call_is at because =
-    PaymentMade-refused b before from kept book between known.0 ((to, amount) ∷ []) (Call.Transfer from to amount) r call_is at refl because
-CallMade-refused b before (Call.Read account) r kept book between known call_is at because = absurd (cc because)
-CallMade-refused b before (Call.Pay from targets) r kept book between known call_is at because =
-    PaymentMade-refused b before from kept book between known.0 targets (Call.Pay from targets) r call_is at refl because
+    → (calls : ℕ) (past : List PastCall) → CallMade b before (record before { calls = calls; past = past }) call r
+CallMade-refused b before (Call.Transfer from to amount) r kept book between known call_is at because calls past =
+    PaymentMade-refused b before from kept book between known.0 ((to, amount) ∷ []) (Call.Transfer from to amount) r calls past call_is at refl because
+CallMade-refused b before (Call.Read account) r kept book between known call_is at because calls past = absurd (cc because)
+CallMade-refused b before (Call.Pay from targets) r kept book between known call_is at because calls past =
+    PaymentMade-refused b before from kept book between known.0 targets (Call.Pay from targets) r calls past call_is at refl because
 
 module _ (board : BoardTerms) (t : CallingTerms) (so : IsCallingSo t) (seat : SeatTerms) (same : seat ≡ t.mark) (of_board : IsOf seat board) where
   pub book-IsCallingSo : t.start.knows.book ≡ board.book
@@ -59,6 +61,9 @@ module _ (board : BoardTerms) (t : CallingTerms) (so : IsCallingSo t) (seat : Se
 
   known : IsCallOn (length board.book.accounts) t.call
   known = subst (λ (b : BookTerms). IsCallOn (length b.accounts) t.call) book-IsCallingSo so.call_on
+
+  pub IsCallOn-IsCallingSo : IsCallOn (length board.book.accounts) t.call
+  IsCallOn-IsCallingSo = known
 
   way_on : IsWay board.book (pass_before t) t.call t.stage
   way_on = subst (λ (b : BookTerms). IsWay b (pass_before t) t.call t.stage) book-IsCallingSo so.way
@@ -77,24 +82,27 @@ module _ (board : BoardTerms) (t : CallingTerms) (so : IsCallingSo t) (seat : Se
     pub begins-refused : IsPrefix t.start.knows.seen seat.knows.seen
     begins-refused = subst (λ (s : SeatTerms). IsPrefix t.start.knows.seen s.knows.seen) (sym (same ∙ unmoved.0)) (IsPrefix-refl t.start.knows.seen)
 
+    pub start-refused : t.mark ≡ t.start
+    start-refused = unmoved.0
+
     pub was-refused : t.rest ≡ t.was
     was-refused = unmoved.1
 
     pub pass-refused : IsOfOnePass seat t.rest
     pass-refused = subst (λ (s : SeatTerms). IsOfOnePass s t.rest) (sym (same ∙ unmoved.0)) (subst (IsOfOnePass t.start) (sym unmoved.1) so.pass)
 
-    pub source-refused : (source : ℕ) × (refusal_of board.book (pass_of seat t.rest) source ≡ Some reply)
-    source-refused =
-        subst (λ (s : SeatTerms). (source : ℕ) × (refusal_of board.book (pass_of s t.rest) source ≡ Some reply)) (sym (same ∙ unmoved.0))
-        (subst (λ (q : Rest). (source : ℕ) × (refusal_of board.book (pass_of t.start q) source ≡ Some reply)) (sym unmoved.1)
-        (refusal_in-source board.book (pass_before t) t.call reply because))
+    pub because-refused : refusal_in board.book (pass_of seat t.rest) t.call ≡ Some reply
+    because-refused =
+        subst (λ (s : SeatTerms). refusal_in board.book (pass_of s t.rest) t.call ≡ Some reply) (sym (same ∙ unmoved.0))
+        (subst (λ (q : Rest). refusal_in board.book (pass_of t.start q) t.call ≡ Some reply) (sym unmoved.1) because)
 
     module _ (r : Receipt) (call_is : r.call ≡ t.call) (reply_is : r.reply ≡ reply) (at : r.at ≡ Previous) where
-      here : Leaves board.book t t.start (after_one_call t.start t.was) 0 0 r
+      here : Leaves board.book t t.start (after_one_call t.start t.start r t.was) 0 0 r
       here = record {
         made = CallMade-refused board.book (pass_before t) t.call r so.kept book-IsCallingSo
-            (between-IsPass board.book t.start.knows t.was.totals t.was.sent book-IsCallingSo so.pass.pass) known call_is at (because ∙ ap Some (sym reply_is));
-        kept = IsOfOnePass-counted t.start t.was (after_one_call t.start t.was) refl so.pass.pass;
+            (between-IsPass board.book t.start.knows t.was.totals t.was.sent book-IsCallingSo so.pass.pass) known call_is at (because ∙ ap Some (sym reply_is))
+            (after_one_call t.start t.start r t.was).calls.count (after_one_call t.start t.start r t.was).calls.past;
+        kept = IsOfOnePass-counted t.start t.start r t.was (after_one_call t.start t.start r t.was) refl so.pass.pass;
         within = record {
           few = omega arith;
           refused = λ refused. refl;
@@ -105,10 +113,10 @@ module _ (board : BoardTerms) (t : CallingTerms) (so : IsCallingSo t) (seat : Se
         };
       }
 
-      pub Leaves-refused : Leaves board.book t seat (after_one_call seat t.rest) 0 0 r
+      pub Leaves-refused : Leaves board.book t seat (after_one_call seat seat r t.rest) 0 0 r
       Leaves-refused =
-          subst (λ (s : SeatTerms). Leaves board.book t s (after_one_call s t.rest) 0 0 r) (sym (same ∙ unmoved.0))
-          (subst (λ (q : Rest). Leaves board.book t t.start (after_one_call t.start q) 0 0 r) (sym unmoved.1) here)
+          subst (λ (s : SeatTerms). Leaves board.book t s (after_one_call s s r t.rest) 0 0 r) (sym (same ∙ unmoved.0))
+          (subst (λ (q : Rest). Leaves board.book t t.start (after_one_call t.start t.start r q) 0 0 r) (sym unmoved.1) here)
 
   -- after a turn with a step
   module _ (after : SeatTerms) (of_after : IsOf after board) where
@@ -118,7 +126,7 @@ module _ (board : BoardTerms) (t : CallingTerms) (so : IsCallingSo t) (seat : Se
     book_is : after.knows.book ≡ t.start.knows.book
     book_is = of_after.book ∙ sym book-IsCallingSo
 
-    next_so : (stage : CallStage) (rest : Rest) → IsWay t.start.knows.book (pass_before t) t.call stage
+    pub next_so : (stage : CallStage) (rest : Rest) → IsWay t.start.knows.book (pass_before t) t.call stage
         → after.steps ≡ raised t.start.steps (steps_made stage) → after.exchanges ≡ raised t.start.exchanges (exchanges_made stage)
         → IsCallStageSo (calling_next t stage after rest) stage → IsCallingSo (calling_next t stage after rest)
     next_so stage rest way steps exchanges stage_so = record {
@@ -158,7 +166,7 @@ module _ (board : BoardTerms) (t : CallingTerms) (so : IsCallingSo t) (seat : Se
       pub Leaves-read : (rest : Rest) (turns : ℕ) (receipt : Receipt) → IsKept after.knows
           → IsReadOf board.book r.looking.start after.knows r.account receipt
           → LeavesTotals board.book r.looking.start after.knows r.looking.was rest.totals 0 turns
-          → StaysCounted rest.totals board.book after.knows.seen → rest.sent ≡ t.rest.sent → rest.calls ≡ with_one_call after t.was.calls
+          → StaysCounted rest.totals board.book after.knows.seen → rest.sent ≡ t.rest.sent → CountsCall t after rest receipt
           → Leaves board.book t after rest turns 0 receipt
       Leaves-read rest turns receipt keeps read leaves stays sent calls =
           let v : Knowledge = t.start.knows in
@@ -212,7 +220,7 @@ module _ (board : BoardTerms) (t : CallingTerms) (so : IsCallingSo t) (seat : Se
           → PaysAlone board.book p.start after.knows p.from p.targets t.call receipt
           → LeavesTotals board.book p.start after.knows p.was rest.totals (append_steps (record_width board.book) receipt.reply) turns
           → StaysCounted rest.totals board.book after.knows.seen → rest.sent ≡ sent_after t.rest.sent receipt.reply
-          → rest.calls ≡ with_one_call after t.was.calls → Leaves board.book t after rest turns 0 receipt
+          → CountsCall t after rest receipt → Leaves board.book t after rest turns 0 receipt
       Leaves-alone rest turns receipt keeps paid leaves stays sent calls =
           let v : Knowledge = t.start.knows in
           let more = append_steps (record_width board.book) receipt.reply in
@@ -294,7 +302,7 @@ module _ (board : BoardTerms) (t : CallingTerms) (so : IsCallingSo t) (seat : Se
           → PaysInRound board.book p.start after.knows p.account t.call receipt
           → LeavesTotals board.book p.start after.knows p.was rest.totals (settling_steps board.book p.account) turns
           → HasCounted rest.totals board.book after.knows.seen → DecidesFew board.book p.start after.knows p.account
-          → exchanges ≡ decides_made p.account p.start after.knows → rest.sent ≡ t.rest.sent → rest.calls ≡ with_one_call after t.was.calls
+          → exchanges ≡ decides_made p.account p.start after.knows → rest.sent ≡ t.rest.sent → CountsCall t after rest receipt
           → Leaves board.book t after rest turns exchanges receipt
       Leaves-shared rest turns exchanges receipt keeps paid leaves counted few decided sent calls =
           let v : Knowledge = t.start.knows in
@@ -326,7 +334,7 @@ pub TakesCallTurn-stages : (b : BookTerms) (seen : List Publication) (t : Callin
     → IsCallWithin b (pass_before t) t.call after.knows now.totals.upto (steps_made next) (exchanges_made next)
     → (IsSome answer ↔ (call_turns_left b next ≡ 0)) → IsPrefix t.start.knows.seen after.knows.seen → AreRuns b after.knows.seen
     → exchanges_made next ≡ exchanges_made old + exchanges_of old
-    → IfSome answer (Leaves b t after now (steps_made next) (exchanges_made next)) → IfSome answer (λ r. now.calls ≡ with_one_call after t.was.calls)
+    → IfSome answer (Leaves b t after now (steps_made next) (exchanges_made next)) → IfSome answer (CountsCall t after now)
     → after.steps ≡ raised t.start.steps (steps_made next) → after.exchanges ≡ raised t.start.exchanges (exchanges_made next)
     → TakesCallTurn b seen t (calling_next t next mark rest) before after now answer
 TakesCallTurn-stages b seen t before after mark mark_is now rest rest_is old next is answer turns step follows left so_far ends begins runs exchanges leaves calls made exchanged =

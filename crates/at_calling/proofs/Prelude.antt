@@ -27,7 +27,7 @@ pub use Rattle.at_board.specs.declared.knowledge.LoadedWord.{LoadedWord}
 pub use Rattle.at_board.specs.declared.knowledge.Part.{Part}
 pub use Rattle.at_board.specs.declared.knowledge.SeenRequest.{SeenRequest}
 pub use Rattle.at_board.specs.declared.words.TheConstants.{RECORD_WORDS, REQUEST_WORDS}
-pub use Rattle.at_calling.specs.Calling.{CallingTerms, FollowsCall, IsCallWithin, IsWay, MakesCallStep, call_turns_left, exchanges_made, exchanges_of, first_step, next_step, pass_before, publishes_of, refusal_in, steps_made, steps_of}
+pub use Rattle.at_calling.specs.Calling.{CallingTerms, CountsCall, FollowsCall, IsCallWithin, IsWay, MakesCallStep, call_turns_left, exchanges_made, exchanges_of, first_step, next_step, pass_before, publishes_of, steps_made, steps_of}
 pub use Rattle.at_calling.specs.KeptCalling.{IsCallStageSo, IsCallingSo, IsMakingStill, TakesCallTurn, calling_of}
 pub use Rattle.at_calling.specs.KeptPayingAlone.{IsAppendingThen, IsLookingFirst, IsPayStageSo, IsPayingAloneSo, TakesPayTurn}
 pub use Rattle.at_calling.specs.KeptPayingShared.{HasCountedSo, HasHelped, IsHelpingThen, IsPayingSharedSo, IsShareStageSo, IsStartingFirst, TakesShareTurn}
@@ -105,7 +105,7 @@ pub use Rattle.at_object.proofs.Laws.Calls.{call-CallMade, placed-CallMade, proc
 pub use Rattle.at_object.proofs.Laws.InRound.{IsPass-round}
 pub use Rattle.at_object.proofs.Laws.Looked.{IsPass-HasLoaded, Told-HasLoaded, asking-HasLoaded, between-IsPass, own_part-HasLoaded, owns_of-HasLoaded}
 pub use Rattle.at_object.proofs.Laws.Looks.{look-Cut, place-IsSnapshot}
-pub use Rattle.at_object.proofs.Laws.Made.{PaymentMade-alone, PaymentMade-refused, PaymentMade-round, others-le}
+pub use Rattle.at_object.proofs.Laws.Made.{PaymentMade-alone, PaymentMade-refused, PaymentMade-round, others-le, refusal_in-payout}
 pub use Rattle.at_object.proofs.Laws.OnePass.{IsOfOnePass-counted}
 pub use Rattle.at_object.proofs.Laws.Room.{HasSlot-is_owner, MayStoreRequest-room, sent-room}
 pub use Rattle.at_object.proofs.Laws.Within.{AreTargetsOn-single, call_steps-payout, may_exchange-payout, read_or_refused}
@@ -113,8 +113,9 @@ pub use Rattle.at_object.specs.CallCounts.{with_one_call}
 pub use Rattle.at_object.specs.Calls.{CallMade, PaymentMade, ReadMade, StaysWithin, call_steps, may_exchange}
 pub use Rattle.at_object.specs.Paid.{PaysAlone, PaysInRound}
 pub use Rattle.at_object.specs.Parted.{IsOfOnePass, after_one_call, pass_of}
-pub use Rattle.at_object.specs.Passes.{IsPass, PassTerms, Stands, counted_anew, one_more_call, others_counted}
-pub use Rattle.at_object.specs.Payments.{IsDecidedByBalance, IsRefused, has_used_up, payment_steps, refusal_of, sent_after, shared_steps, single_steps}
+pub use Rattle.at_object.specs.Passes.{IsPass, PassTerms, Stands, counted_anew, others_counted}
+pub use Rattle.at_object.specs.PastCalls.{PastCall}
+pub use Rattle.at_object.specs.Payments.{IsDecidedByBalance, IsRefused, has_used_up, payment_steps, refusal_in, refusal_of, sent_after, shared_steps, single_steps}
 pub use Rattle.at_object.specs.declared.parts.Rest.{Rest}
 pub use Rattle.at_payments.proofs.Laws.Looks.{CountsAccount-HasLooked, CountsCut-HasLooked, HasCounted-HasLooked, balance-HasLooked, first-HasLoaded, published-HasLoaded}
 pub use Rattle.at_payments.proofs.Laws.OwnRecords.{owns_of-IsPrefix-take}

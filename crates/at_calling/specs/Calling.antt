@@ -1,6 +1,6 @@
 -- Calls of the object that are made one step a turn, by a pass that was taken apart.
 use Rattle.std.specs.Prelude.{◌≡◌, ◌≢◌, ℕ, ◌+◌, ◌*◌, ◌≤◌, false, true, List, Option, Some, None}
-use Rattle.at_calling.specs.Prelude.{is_shared, is_single, slots_of, BookTerms, account_of, Call, Reply, SeatTerms, record_width, Knowledge, BoardStep, RECORD_WORDS, TotalSums, first_account, payout_of, Publication, call_steps, may_exchange, pass_of, PassTerms, refusal_of, Rest, decides_made, IsWithinOneMore, FollowsLook, MakesLookLoad, first_load, length_at, look_turns_left, step_at}
+use Rattle.at_calling.specs.Prelude.{is_shared, is_single, slots_of, BookTerms, account_of, Call, Reply, SeatTerms, record_width, Knowledge, BoardStep, RECORD_WORDS, TotalSums, first_account, payout_of, Publication, call_steps, may_exchange, pass_of, PassTerms, refusal_in, Receipt, Rest, with_one_call, decides_made, IsWithinOneMore, FollowsLook, MakesLookLoad, first_load, length_at, look_turns_left, step_at}
 use Rattle.at_calling.specs.PayingAlone.{FollowsPay, MakesPayStep, PayingAloneTerms, pay_length_at, pay_publishes_at, pay_step_at, pay_turns_left, turns_made}
 use Rattle.at_calling.specs.PayingShared.{FollowsShare, MakesShareStep, PayingSharedTerms, share_exchanges_at, share_exchanges_made, share_length_at, share_publishes_at, share_step_at, share_turns_left}
 use Rattle.at_calling.specs.Reading.{ReadingTerms, counted_so_far, newly_seen}
@@ -21,11 +21,9 @@ pub record CallingTerms : Type 0 where
 abbrev pub pass_before : CallingTerms → PassTerms
 pass_before t = pass_of t.start t.was
 
--- why a call is refused, whatever the balance
-abbrev pub refusal_in : BookTerms → PassTerms → Call → Option Reply
-refusal_in b before (Call.Transfer from to amount) = refusal_of b before from
-refusal_in b before (Call.Read account) = None
-refusal_in b before (Call.Pay from targets) = refusal_of b before from
+-- the rest of the pass counts the call as one more, with this receipt
+abbrev pub CountsCall : CallingTerms → SeatTerms → Rest → Receipt → Type 0
+CountsCall t after rest r = rest.calls ≡ with_one_call t.start after rest.totals r t.was.calls
 
 -- how the call is made: it is refused, or reads, or the one owner of its source pays, or one who shares it
 abbrev pub IsWay : BookTerms → PassTerms → Call → CallStage → Type 0

@@ -1,7 +1,7 @@
 -- What the type of a call in the making keeps of its fields, which no caller sees.
 use Rattle.std.specs.Prelude.{◌≡◌, ◌+◌, ◌++◌, ◌<◌, ◌↔◌, List, [], ◌∷◌, IfSome, IsSome, Option, length}
-use Rattle.at_calling.specs.Prelude.{BookTerms, IsCallOn, AreRuns, IsPrefix, Publication, raised, IsKept, SeatTerms, record_width, Knowledge, TotalSums, IsPlaced, Receipt, IsOfOnePass, pass_of, Stands, IsRefused, Rest, with_one_call, CallMade, StaysWithin, look_turns_left}
-use Rattle.at_calling.specs.Calling.{CallingTerms, FollowsCall, IsCallWithin, IsWay, MakesCallStep, call_turns_left, exchanges_made, exchanges_of, pass_before, steps_made, steps_of}
+use Rattle.at_calling.specs.Prelude.{BookTerms, IsCallOn, AreRuns, IsPrefix, Publication, raised, IsKept, SeatTerms, record_width, Knowledge, TotalSums, IsPlaced, Receipt, IsOfOnePass, pass_of, Stands, IsRefused, Rest, CallMade, StaysWithin, look_turns_left}
+use Rattle.at_calling.specs.Calling.{CallingTerms, CountsCall, FollowsCall, IsCallWithin, IsWay, MakesCallStep, call_turns_left, exchanges_made, exchanges_of, pass_before, steps_made, steps_of}
 use Rattle.at_calling.specs.PayingAlone.{pay_turns_left}
 use Rattle.at_calling.specs.PayingShared.{share_turns_left}
 use Rattle.at_calling.specs.declared.call_stage.CallStage.{CallStage}
@@ -65,7 +65,7 @@ pub record TakesCallTurn (b : BookTerms) (seen : List Publication) (t u : Callin
   pub placed : IfSome answer (λ r. (earlier : List Receipt) → Stands (pass_before t) earlier → IsPlaced b t.start.knows.first after.knows.seen earlier r)
   pub stands : IfSome answer (λ r. (earlier : List Receipt) → Stands (pass_before t) earlier → Stands (pass_of after now) (earlier ++ r ∷ []))
   pub kept : IfSome answer (λ r. IsOfOnePass after now)
-  pub calls : IfSome answer (λ r. now.calls ≡ with_one_call after t.was.calls)
+  pub calls : IfSome answer (CountsCall t after now)
   pub begins : IsPrefix t.start.knows.seen after.knows.seen
   pub runs : AreRuns b after.knows.seen
   pub within : IfSome answer (StaysWithin b (pass_before t) (pass_of after now) t.call)

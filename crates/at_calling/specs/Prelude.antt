@@ -45,7 +45,7 @@ pub use Rattle.at_object.specs.Calls.{CallMade, StaysWithin, call_steps, may_exc
 pub use Rattle.at_object.specs.Paid.{PaysAlone, PaysInRound}
 pub use Rattle.at_object.specs.Parted.{IsOfOnePass, pass_of}
 pub use Rattle.at_object.specs.Passes.{PassTerms, Stands}
-pub use Rattle.at_object.specs.Payments.{IsRefused, refusal_of, shared_steps, single_steps}
+pub use Rattle.at_object.specs.Payments.{IsRefused, refusal_in, refusal_of, shared_steps, single_steps}
 pub use Rattle.at_object.specs.declared.parts.Rest.{Rest}
 pub use Rattle.at_payments.specs.HelpTurns.{HelpAnswers, OnSettled, OnSettledCalls}
 pub use Rattle.at_payments.specs.HelpingTerms.{HelpingTerms}

@@ -1,8 +1,8 @@
 //! Where a call in the making stands.
 
 ghost use Rattle.std.specs.Prelude.{◌≡◌, ◌<◌, None, Some, length, true};
-ghost use Rattle.at_calling.specs.Prelude.{IsOf, is_shared, is_single, account_of, AreTargetsOn, IsCallOn, payout_of, IsOfOnePass, pass_of, refusal_of};
-ghost use Rattle.at_calling.specs.Calling.{IsWay, StartsFrom, call_turns_left, exchanges_made, first_step, next_step, refusal_in, steps_made};
+ghost use Rattle.at_calling.specs.Prelude.{IsOf, is_shared, is_single, account_of, AreTargetsOn, IsCallOn, payout_of, IsOfOnePass, pass_of, refusal_in, refusal_of};
+ghost use Rattle.at_calling.specs.Calling.{IsWay, StartsFrom, call_turns_left, exchanges_made, first_step, next_step, steps_made};
 
 use crate::paying_alone::PayingAlone;
 use crate::paying_shared::PayingShared;

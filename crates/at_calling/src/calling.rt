@@ -1,12 +1,12 @@
 //! A call of a pass that was taken apart, a step a turn.
 
 ghost use Rattle.std.specs.Prelude.{◌≡◌, ℕ, ◌+◌, ◌++◌, ◌<◌, ◌↔◌, List, [], ◌∷◌, IfSome, IsSome, Some, length};
-ghost use Rattle.at_calling.specs.Prelude.{raised, IsOverviewOf, IsOf, AreRuns, IsPrefix, Publication, IsCallOn, IsPlaced, At, Receipt, IsOfOnePass, pass_of, Stands, IsRefused, with_one_call, CallMade, StaysWithin};
+ghost use Rattle.at_calling.specs.Prelude.{raised, IsOverviewOf, IsOf, AreRuns, IsPrefix, Publication, IsCallOn, IsPlaced, At, Receipt, IsOfOnePass, pass_of, Stands, IsRefused, refusal_in, CallMade, StaysWithin};
 ghost use Rattle.at_calling.specs.KeptCalling.{TakesCallTurn};
 ghost use Rattle.at_calling.specs.PayingAlone.{PayingAloneTerms};
 ghost use Rattle.at_calling.specs.PayingShared.{PayingSharedTerms};
 ghost use Rattle.at_calling.specs.Reading.{ReadingTerms};
-ghost use Rattle.at_calling.specs.Calling.{FollowsCall, IsCallWithin, IsWay, MakesCallStep, StartsFrom, call_turns_left, exchanges_made, exchanges_of, first_step, next_step, pass_before, refusal_in, steps_made, steps_of};
+ghost use Rattle.at_calling.specs.Calling.{CountsCall, FollowsCall, IsCallWithin, IsWay, MakesCallStep, StartsFrom, call_turns_left, exchanges_made, exchanges_of, first_step, next_step, pass_before, steps_made, steps_of};
 
 use crate::call_stage::CallStage;
 use at_board::{Board, BoardSeat, BoardStep, Overview};
@@ -130,7 +130,7 @@ impl Calling {
             → Stands (pass_before self.old) earlier
             → Stands (pass_of seat.new rest.new) (earlier ++ r ∷ [])) }
         ensures kept { IfSome result (λ r. IsOfOnePass seat.new rest.new) }
-        ensures calls { IfSome result (λ r. rest.new.calls ≡ with_one_call seat.new self.old.was.calls) }
+        ensures calls { IfSome result (CountsCall self.old seat.new rest.new) }
         ensures begins { IsPrefix self.old.start.knows.seen seat.new.knows.seen }
         ensures runs { AreRuns board.now.book seat.new.knows.seen }
         ensures within { IfSome result (StaysWithin board.now.book (pass_before self.old)
@@ -169,7 +169,7 @@ impl Calling {
     {
         seat.known();
         become_next(&mut self.stage, CallStage::Refused);
-        let answer = rest.refuse(board, seat, reply);
+        let answer = rest.refuse(board, seat, &self.call, reply);
         self.rest = Snapshot::of(rest);
         receipt_of(&self.call, answer)
     }

@@ -32,7 +32,7 @@ MayBeAsked-at ledger passes files asked i a new known are within is =
     let playable : IsPlayable (length ledger.book.accounts) a.calls.items =
     subst (IsPlayable (length ledger.book.accounts)) calls_are
     (known i a.calls.items (omega (arith, within, ap (length {A = List Call}) are.files_are, length-map asked (λ (x : Asked). x.calls.items)))) in
-    record { stands = pass.stands; uncounted = pass.calls_are; accounts = rw pass.of_ledger.book playable.known; few = omega (arith, playable.few) }
+    record { stands = pass.stands; unmade = pass.past_none; accounts = rw pass.of_ledger.book playable.known; few = omega (arith, playable.few) }
 
 -- the jobs of what is asked: their passes, their calls, and that none was made
 passes_in-asked : (notes : Bool) (asked : List Asked) → passes_in (map (job_asked notes) asked) ≡ passes_asked asked

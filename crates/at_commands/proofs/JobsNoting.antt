@@ -1,6 +1,6 @@
 -- What the calls of jobs that were run have cost, and the closed ledger beside what is noted of it.
-use Rattle.std.proofs.Common.{◌≡◌, ℕ, zero, suc, ◌<◌, All, Bool, true, false, List, [], ◌∷◌, length, get_or, refl, sym, ap, subst, ◌∙◌, arith, Option, Some, None, Result, Ok, Err, Vec}
-use Rattle.at_commands.proofs.Prelude.{Global, IfOk, AllocError, is_some, get_or-map, AllZip-get_or, AllZip-long, AllZip, BoardTerms, calls_in, contents_of, Coherent, IsPlayable, Legal-journal_lines, Whole-journal_lines, BookTerms, has_single, with_usable_room, IsBegun, Call, ClosedTerms, IsNewPass, PassTerms, others_counted, AreCosts, AreJobsFor, HaveCosted, IsClosedAfter, IsClosedNoting, IsPlayed, IsPlayedNoting, TakesNewPass, costs_in, journal_of, AddUp, AddUp-TakeCalls, CostTerms, TakeCalls, cost_so_far, sum_of_costs, JobTerms, Ran}
+use Rattle.std.proofs.Common.{◌≡◌, ℕ, zero, suc, ◌<◌, All, Bool, true, false, List, [], ◌∷◌, ◌++◌, append-nil, append_assoc, length, get_or, map, refl, sym, ap, subst, ◌∙◌, arith, Option, Some, None, Result, Ok, Err, Vec}
+use Rattle.at_commands.proofs.Prelude.{Global, IfOk, AllocError, is_some, get_or-map, AllZip-get_or, AllZip-long, AllZip, BoardTerms, calls_in, contents_of, Coherent, IsPlayable, Legal-journal_lines, Whole-journal_lines, BookTerms, has_single, with_usable_room, IsBegun, Call, ClosedTerms, IsNewPass, PassTerms, PastCall, Receipt, map-append, others_counted, past_call, past_costs, AreCosts, AreJobsFor, HaveCosted, IsClosedAfter, IsClosedNoting, IsPlayed, IsPlayedNoting, TakesNewPass, costs_in, journal_of, AddUp, AddUp-TakeCalls, CostTerms, TakeCalls, cost_so_far, sum_of_costs, JobTerms, Ran}
 use Rattle.std.specs.Prelude.{IfSome, if◌then◌else◌}
 use Rattle.at_commands.proofs.JobsMade.{passes_in}
 use Rattle.at_commands.proofs.JobsRun.{IsPlayed-journal, receipts_in}
@@ -27,6 +27,21 @@ sum_of_costs-new ledger process before after costs new up =
     rw (steps, exchanges, counted) refl
 
 module _ (ledger : BoardTerms) where
+  -- the pass keeps what its calls cost, behind what those before cost
+  past_costs-TakeCalls : (before after : PassTerms) (receipts : List Receipt) (costs : List CostTerms)
+      → TakeCalls ledger before receipts costs after → past_costs after ≡ past_costs before ++ costs
+  unfolding TakeCalls
+  past_costs-TakeCalls before after [] [] same = ap past_costs (sym same) ∙ sym (append-nil (past_costs before))
+  past_costs-TakeCalls before after [] (c ∷ costs) taken = absurd taken
+  past_costs-TakeCalls before after (r ∷ receipts) [] taken = absurd taken
+  past_costs-TakeCalls before after (r ∷ receipts) (c ∷ costs) (middle, takes, rest) =
+      let cost : PastCall → CostTerms = λ x. x.cost in
+      let one_more : past_costs middle ≡ past_costs before ++ c ∷ [] =
+      ap (λ (calls : List PastCall). map cost calls) takes.called.past
+      ∙ (map-append cost before.past (past_call before middle r ∷ []) ∙ ap (λ (x : CostTerms). past_costs before ++ x ∷ []) (sym takes.cost_is)) in
+      past_costs-TakeCalls middle after receipts costs rest
+      ∙ (ap (λ (l : List CostTerms). l ++ costs) one_more ∙ append_assoc (past_costs before) (c ∷ []) costs)
+
   -- what the calls of jobs cost, where it is noted and where it isn't
   abbrev costs_ran : (before after : List JobTerms) → AllZip (Ran ledger) before after → List (List CostTerms)
   costs_ran [] after ran = []
@@ -75,6 +90,8 @@ module _ (ledger : BoardTerms) where
               is_new = new;
               is_left = λ d. get_or-map (λ (job : JobTerms). job.pass) after p none d here;
               taken = taken;
+              past_are = past_costs-TakeCalls first last (get_or after p none).receipts list taken
+                  ∙ ap (λ (calls : List PastCall). map (λ (x : PastCall). x.cost) calls ++ list) new.past_none;
               add_up = sum_of_costs-new ledger p first last list new (AddUp-TakeCalls ledger first last (get_or after p none).receipts list taken);
             });
       }

@@ -39,7 +39,7 @@ AreAccountedFor-ran ledger files notes before after jobs ran =
             of_ledger = one.of_ledger;
             process_is = one.process_is ∙ (jobs.new p none within).process_is;
             stands = one.stands;
-            counted = one.counted;
+            made = one.past;
           }));
     }
 

@@ -6,7 +6,7 @@ pub use Rattle.std.proofs.Math.Seq.{drop-cons, get_or-append_seam, take-append-a
 pub use Rattle.std.proofs.lemmas.Bool.{and_right, cases_eq, cases_order, cond_both, eq-eqb, eqb-true, le-ltb, lt-leb, ltb-false, ne_eqb, or_from}
 pub use Rattle.std.proofs.lemmas.Bool.Decides.{nat_tests}
 pub use Rattle.std.proofs.lemmas.Grind.{common_steps, flat_map-append, replicate_next}
-pub use Rattle.std.proofs.lemmas.List.{ext_get_or, get_or-map, get_or-replicate, get_or-set_other, get_or-set_same, length-append, length-map, length-replicate, length-set, length-take-le, length_push, take-append-drop, take-append-le, take_all, take_more}
+pub use Rattle.std.proofs.lemmas.List.{ext_get_or, get_or-map, get_or-replicate, get_or-set_other, get_or-set_same, length-append, length-map, map-append, length-replicate, length-set, length-take-le, length_push, take-append-drop, take-append-le, take_all, take_more}
 pub use Rattle.std.proofs.lemmas.List.Elements.{All-cons, All-head, All-map, All-nil, All-push, All-tail, All-weaker, AllZip-get_or}
 pub use Rattle.std.proofs.lemmas.List.Folds.{list_any-append}
 pub use Rattle.std.proofs.lemmas.List.FromFn.{fill_by_all, get_or-map-range_with_len, get_or-range_with_len, length-map-range_with_len, length-range_with_len, map-range_with_len_more}
@@ -103,7 +103,8 @@ pub use Rattle.at_log.specs.Receipts.{calls_of}
 pub use Rattle.at_log.specs.declared.receipt.Receipt.{Receipt}
 pub use Rattle.at_object.proofs.Sharing.{pass_send}
 pub use Rattle.at_object.specs.Closings.{AreAccountedFor, ClosedTerms, IsAccountedFor}
-pub use Rattle.at_object.specs.Passes.{AreNewPasses, IsNewPass, PassTerms, others_counted}
+pub use Rattle.at_object.specs.Passes.{AreNewPasses, IsNewPass, PassTerms, cost_so_far, others_counted, past_call, past_costs}
+pub use Rattle.at_object.specs.PastCalls.{CostTerms, PastCall}
 pub use Rattle.at_orders.proofs.Laws.Owners.{owners-cover}
 pub use Rattle.at_orders.proofs.Laws.Settled.{covered-settled}
 pub use Rattle.at_pages.specs.PageText.{page_text}
@@ -121,6 +122,7 @@ pub use Rattle.at_stepper.specs.declared.replaying.Replayed.{Replayed}
 pub use Rattle.at_tables.specs.CostsText.{HaveCosts}
 pub use Rattle.at_workers.proofs.Sharing.{job_send}
 pub use Rattle.at_workers.proofs.CostLaws.{AddUp, AddUp-TakeCalls, length-TakeCalls}
-pub use Rattle.at_workers.specs.Costs.{CostTerms, TakeCalls, cost_so_far, sum_of_costs}
+unfoldable pub use Rattle.at_workers.specs.Costs.{TakeCalls}
+pub use Rattle.at_workers.specs.Costs.{sum_of_costs}
 pub use Rattle.at_workers.specs.Jobs.{JobTerms, Ran}
 pub use Rattle.at_workers.specs.declared.job.JobRefused.{JobRefused}

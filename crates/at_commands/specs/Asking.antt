@@ -11,7 +11,7 @@ pub record AreAsked (passes : List PassTerms) (files : List (List Call)) (asked 
 -- a job may be made of the pass and the calls: the pass has made none, and these are on its book and few
 pub record MayBeAsked (a : Asked) : Type 0 where
   pub stands : Stands a.pass []
-  pub uncounted : a.pass.calls ≡ 0
+  pub unmade : a.pass.past ≡ []
   pub accounts : All (IsCallOn (length a.pass.knows.book.accounts)) a.calls.items
   pub few : length a.calls.items < 2 ^ 32
 

@@ -50,7 +50,8 @@ pub use Rattle.at_log.specs.JournalOrder.{journal_lines}
 pub use Rattle.at_log.specs.Receipts.{calls_of}
 pub use Rattle.at_log.specs.declared.receipt.Receipt.{Receipt}
 pub use Rattle.at_object.specs.Closings.{AreAccountedFor, ClosedTerms}
-pub use Rattle.at_object.specs.Passes.{AreNewPasses, IsNewPass, PassTerms, Stands}
+pub use Rattle.at_object.specs.Passes.{AreNewPasses, IsNewPass, PassTerms, Stands, cost_so_far, past_costs}
+pub use Rattle.at_object.specs.PastCalls.{CostTerms}
 pub use Rattle.at_orders.specs.Covered.{OpeningsCover}
 pub use Rattle.at_orders.specs.Orders.{AreAnswers}
 pub use Rattle.at_orders.specs.Settled.{IsSettled}
@@ -79,5 +80,5 @@ pub use Rattle.at_tables.specs.LedgerText.{ledger_text}
 pub use Rattle.at_tables.specs.OrdersText.{orders_text}
 pub use Rattle.at_tables.specs.TraceText.{trace_text}
 pub use Rattle.at_verify.specs.Right.{IsExpected, IsFirstWrong, IsReport, IsReportOf}
-pub use Rattle.at_workers.specs.Costs.{CostTerms, TakeCalls, cost_so_far, sum_of_costs}
+pub use Rattle.at_workers.specs.Costs.{TakeCalls, sum_of_costs}
 pub use Rattle.at_workers.specs.Jobs.{IsReady, JobTerms}

@@ -1,6 +1,6 @@
 -- Closed ledgers on which files were run.
 use Rattle.std.specs.Prelude.{◌≡◌, ℕ, ◌^◌, ◌<◌, Bool, true, List, [], flat_map, length, map, slice_index_or, sum, All}
-use Rattle.at_commands.specs.Prelude.{is_some, option_to_list, BoardTerms, AreCallsOf, calls_in, line_at, CallAt, BookTerms, total_of, with_usable_room, IsLineOn, Legal, Whole, last_state, Call, Line, Coherent, journal_lines, Receipt, ClosedTerms, AreNewPasses, IsNewPass, PassTerms, CostTerms, TakeCalls, cost_so_far, sum_of_costs, IsReady, JobTerms}
+use Rattle.at_commands.specs.Prelude.{is_some, option_to_list, BoardTerms, AreCallsOf, calls_in, line_at, CallAt, BookTerms, total_of, with_usable_room, IsLineOn, Legal, Whole, last_state, Call, Line, Coherent, journal_lines, Receipt, ClosedTerms, AreNewPasses, IsNewPass, PassTerms, CostTerms, TakeCalls, cost_so_far, past_costs, sum_of_costs, IsReady, JobTerms}
 
 -- this is a ledger of the book with the own room that can be used, and there is a new pass on it for each process
 pub record HasNewPasses (b : BookTerms) (ledger : BoardTerms) (passes : List PassTerms) : Type 0 where
@@ -8,13 +8,14 @@ pub record HasNewPasses (b : BookTerms) (ledger : BoardTerms) (passes : List Pas
   pub passes_are : AreNewPasses ledger passes
 
 -- calls with these receipts, one after another, took the new pass of the process on the ledger to what it is among these passes. Each of
--- these costs is what the pass gained by one of them, and they add up to all that it has made and counted
+-- these costs is what the pass gained by one of them, and is kept so by the pass; they add up to all that it has made and counted
 pub record TakesNewPass (ledger : BoardTerms) (passes : List PassTerms) (process : ℕ) (receipts : List Receipt) (costs : List CostTerms) : Type 0 where
   pub before : PassTerms
   pub after : PassTerms
   pub is_new : IsNewPass ledger process before
   pub is_left : (d : PassTerms) → slice_index_or passes process d ≡ after
   pub taken : TakeCalls ledger before receipts costs after
+  pub past_are : past_costs after ≡ costs
   pub add_up : sum_of_costs costs ≡ cost_so_far after
 
 -- calls with the receipts of each process took its new pass so, and these are their costs

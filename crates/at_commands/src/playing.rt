@@ -17,7 +17,7 @@ use std::thread::{Threads, map_vec};
 /// A job for the calls with the pass, which notes what they cost where it is to.
 fn job_for(alloc: Global, pass: Pass, calls: Vec<Call>, notes: bool) -> Result<Job, JobRefused>
     requires stands { Stands pass [] }
-    requires uncounted { pass.calls ≡ 0 }
+    requires unmade { pass.past ≡ [] }
     requires accounts { All (IsCallOn (length pass.knows.book.accounts)) calls.items }
     requires few { length calls.items < 2 ^ 32 }
     ensures { IfOk result (λ j. j ≡ record {

@@ -9,7 +9,7 @@ HasRooms passes rooms = (p : ℕ) (d : Vec Record Global) (e : PassTerms) → p 
 
 -- the pass of a seat that no list has
 pass_with : SeatTerms → PassTerms
-pass_with d = record { board = d.board; knows = d.knows; steps = d.steps; exchanges = d.exchanges; counted = []; calls = 0 }
+pass_with d = record { board = d.board; knows = d.knows; steps = d.steps; exchanges = d.exchanges; counted = []; calls = 0; past = [] }
 
 -- the seat of a pass
 seat_at : (passes : List PassTerms) (p : ℕ) (d : SeatTerms) → p < length passes

@@ -3,7 +3,7 @@ pub use Rattle.std.proofs.Crossing.{crosses}
 pub use Rattle.std.proofs.Math.Seq.{get_or-append_seam}
 pub use Rattle.std.proofs.lemmas.Bool.{and_from, and_parts, cases_Bool, cases_eq, cases_lt, eq-eqb, eqb-true, le-ltb, lt-ltb, or_parts}
 pub use Rattle.std.proofs.lemmas.Grind.{common_steps}
-pub use Rattle.std.proofs.lemmas.List.{get_or-map, get_or-replicate, get_or-set_same, get_or_append_left, get_or_at, get_or_push, length-append, length-map, length-replicate, length-set, length-take, length_push, take-append-drop, take_all}
+pub use Rattle.std.proofs.lemmas.List.{get_or-map, get_or-replicate, get_or-set_same, get_or_append_left, get_or_at, get_or_push, length-append, length-map, length-replicate, length-set, length-take, length_push, take-append-drop, take_all, map-append}
 pub use Rattle.std.proofs.lemmas.List.Elements.{All-push, filter_map-append}
 pub use Rattle.std.proofs.lemmas.List.Folds.{sum_by-replicate}
 pub use Rattle.std.proofs.lemmas.List.Quantifiers.{position-Some}
@@ -98,8 +98,9 @@ pub use Rattle.at_object.specs.Calls.{CallMade, PaymentMade, StaysWithin, call_s
 pub use Rattle.at_object.specs.Closings.{AreAccountedFor, ClosedTerms, ComesAfterNote, HasAllLogs, KeepsNotes}
 pub use Rattle.at_object.specs.Paid.{PaysAlone, PaysInRound}
 pub use Rattle.at_object.specs.Parted.{IsAtRest, IsCountOf, IsOfOnePass, pass_of}
-pub use Rattle.at_object.specs.Passes.{AreNewPasses, IsNewPass, IsPass, PassTerms, Stands, asked_by, counted_anew, one_more_call, others_counted, seat_of, sent_by}
-pub use Rattle.at_object.specs.Payments.{IsDecidedByBalance, IsRefused, has_used_up, payment_steps, place_at, prefix_before, refusal_of, reply_of, sent_after}
+pub use Rattle.at_object.specs.Passes.{AreNewPasses, IsNewPass, IsPass, PassTerms, Stands, asked_by, counted_anew, one_more_call, others_counted, past_call, past_receipts, seat_of, sent_by}
+pub use Rattle.at_object.specs.PastCalls.{PastCall}
+pub use Rattle.at_object.specs.Payments.{IsDecidedByBalance, IsRefused, has_used_up, payment_steps, place_at, prefix_before, refusal_in, refusal_of, reply_of, sent_after}
 pub use Rattle.at_object.specs.declared.parts.Rest.{Rest}
 pub use Rattle.at_payments.proofs.Laws.Placed.{payment_reply-done, payment_reply-short}
 pub use Rattle.at_payments.proofs.SharedLaws.Started.{asking_on-HasLoaded}

@@ -2,7 +2,7 @@
 use Rattle.std.specs.Prelude.{◌≡◌, ◌≢◌, ℕ, ◌+◌, ◌*◌, ◌≤◌, ◌++◌, Bool, true, false, List, [], ◌∷◌, length}
 use Rattle.at_object.specs.Prelude.{is_shared, is_single, slots_of, BookTerms, account_of, TargetPair, first_account, Call, Balance, balance_after, prefix_of, IsHistory, IsPrefix, raised, RECORD_WORDS, IsPlaced, At, Receipt, look_at, decides_made, decides_on, StandsAfter, cut_behind, IsSnapshot, snapshot_steps}
 use Rattle.at_object.specs.Paid.{HasLoadedFresh, PaysAlone, PaysInRound}
-use Rattle.at_object.specs.Passes.{PassTerms, Stands, asked_by, counted_anew, one_more_call, others_counted, sent_by}
+use Rattle.at_object.specs.Passes.{PassTerms, Stands, asked_by, counted_anew, others_counted, sent_by}
 use Rattle.at_object.specs.Payments.{IsDecidedByBalance, IsRefused, payment_steps, reply_of}
 
 -- what a payment leaves of its pass
@@ -18,7 +18,7 @@ pub record PaymentMade (book : BookTerms) (before after : PassTerms) (source : �
   pub in_round : IsDecidedByBalance receipt → is_shared (account_of book source) ≡ true → PaysInRound book before.knows after.knows source call receipt
   pub begins : IsPrefix before.knows.seen after.knows.seen
   pub process_is : after.knows.first ≡ before.knows.first
-  pub refused : IsRefused receipt → after ≡ record before { calls = one_more_call before.calls }
+  pub refused : IsRefused receipt → after ≡ record before { calls = after.calls; past = after.past }
   pub refused_at : IsRefused receipt → receipt.at ≡ At.Previous
   pub asked_elsewhere : (a : ℕ) → a ≢ source → asked_by after a ≡ asked_by before a
   pub counted : others_counted before ≤ others_counted after

@@ -2,15 +2,15 @@
 use Rattle.std.specs.Prelude.{◌≡◌, ℕ, ◌+◌, ◌<◌, List, [], length, take, slice_index_or, All, None}
 use Rattle.at_object.specs.Prelude.{BoardState, IsHistory, IsPrefix, count_of, publications_of, Sound, BookTerms, BoardTerms, Call, ClosingTerms, IsNotBehind, KeepsTime, Receipt, log_published, receipt_at, receipts_of}
 use Rattle.at_object.specs.Calls.{CallMade}
-use Rattle.at_object.specs.Passes.{IsPassOf, PassTerms, Stands}
+use Rattle.at_object.specs.Passes.{IsPassOf, PassTerms, Stands, past_receipts}
 use Rattle.at_object.specs.Payments.{IsRefused}
 
--- the pass is the ledger's for the process, these receipts stand with it, and they are as many as the calls that were made with it
+-- the pass is the ledger's for the process, these receipts stand with it, and they are those of the calls that were made with it
 pub record IsAccountedFor (ledger : BoardTerms) (process : ℕ) (pass : PassTerms) (receipts : List Receipt) : Type 0 where
   pub of_ledger : IsPassOf pass ledger
   pub process_is : pass.knows.first ≡ process
   pub stands : Stands pass receipts
-  pub counted : pass.calls ≡ length receipts
+  pub made : past_receipts pass ≡ receipts
 
 -- all passes of the ledger in order, with the receipts of all calls
 pub record AreAccountedFor (ledger : BoardTerms) (passes : List PassTerms) (receipts : List (List Receipt)) : Type 0 where

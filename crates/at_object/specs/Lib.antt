@@ -1,4 +1,6 @@
 pub mod Prelude
+pub mod PastCalls
+pub mod Past
 pub mod Passes
 pub mod CallCounts
 pub mod Payments

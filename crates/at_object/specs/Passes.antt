@@ -1,9 +1,10 @@
 -- Passes as callers see them, and what the type of a pass keeps.
-use Rattle.std.specs.Prelude.{◌≡◌, ℕ, ◌+◌, ◌-◌, ◌^◌, ◌<◌, List, [], min, slice_index, slice_index_or, sum, length}
+use Rattle.std.specs.Prelude.{◌≡◌, ℕ, ◌+◌, ◌-◌, ◌^◌, ◌<◌, List, [], map, min, slice_index, slice_index_or, sum, length}
 use Rattle.at_object.specs.Prelude.{TableId, HasSlot, owns_of, asking_on, own_part, BoardTerms, IsOf, SeatTerms, Knowledge, IsBetweenCalls, HasCounted, TotalSums, Told, Receipt}
+use Rattle.at_object.specs.PastCalls.{CostTerms, PastCall}
 
 -- a pass by the board of its ledger, what its seat knows, how many steps that has made, how many of them exchanges, how many records
--- of each process its totals have counted, and how many calls were made with it
+-- of each process its totals have counted, how many calls were made with it, and these calls
 pub record PassTerms : Type 0 where
   pub board : TableId
   pub knows : Knowledge
@@ -11,6 +12,7 @@ pub record PassTerms : Type 0 where
   pub exchanges : ℕ
   pub counted : List ℕ
   pub calls : ℕ
+  pub past : List PastCall
 
 -- the seat of a pass
 abbrev pub seat_of : PassTerms → SeatTerms
@@ -44,6 +46,36 @@ others_counted pass = sum pass.counted - slice_index pass.counted pass.knows.fir
 abbrev pub counted_anew : PassTerms → PassTerms → ℕ
 counted_anew before after = others_counted after - others_counted before
 
+-- what a seat has made, with what totals have counted of others
+abbrev pub cost_of_parts : SeatTerms → List ℕ → CostTerms
+cost_of_parts seat counted =
+    record { steps = seat.steps; exchanges = seat.exchanges; new_records = sum counted - slice_index counted seat.knows.first }
+
+-- what a pass has made and counted in all its calls
+abbrev pub cost_so_far : PassTerms → CostTerms
+cost_so_far pass = cost_of_parts (seat_of pass) pass.counted
+
+-- what came to it since
+abbrev pub cost_since : CostTerms → CostTerms → CostTerms
+cost_since before after =
+    record { steps = after.steps - before.steps; exchanges = after.exchanges - before.exchanges; new_records = after.new_records - before.new_records }
+
+-- what a call cost that took the pass from one to the other
+abbrev pub cost_of : PassTerms → PassTerms → CostTerms
+cost_of before after = cost_since (cost_so_far before) (cost_so_far after)
+
+-- that call, with its receipt
+abbrev pub past_call : PassTerms → PassTerms → Receipt → PastCall
+past_call before after r = record { receipt = r; cost = cost_of before after }
+
+-- the receipts of all its calls
+abbrev pub past_receipts : PassTerms → List Receipt
+past_receipts pass = map (λ c. c.receipt) pass.past
+
+-- what each of its calls cost
+abbrev pub past_costs : PassTerms → List CostTerms
+past_costs pass = map (λ c. c.cost) pass.past
+
 -- a pass's process is between calls. Its totals have counted only what the seat has seen, among it all of its own records, and it
 -- knows how many of these are own records. It has asked for nothing where it has no slot
 pub record IsPass (knows : Knowledge) (totals : TotalSums) (sent : ℕ) : Type 0 where
@@ -61,6 +93,7 @@ pub record IsNewPass (ledger : BoardTerms) (process : ℕ) (pass : PassTerms) : 
   pub steps_are : pass.steps ≡ 0
   pub exchanges_are : pass.exchanges ≡ 0
   pub calls_are : pass.calls ≡ 0
+  pub past_none : pass.past ≡ []
   pub counted_none : sum pass.counted ≡ 0
   pub asked_none : (a : ℕ) → asked_by pass a ≡ 0
   pub stands : Stands pass []

@@ -30,6 +30,12 @@ abbrev pub refusal_of : BookTerms → PassTerms → ℕ → Option Reply
 refusal_of b pass source =
     if is_owner b pass.knows.first source then (if has_used_up b pass source then Some Full else None) else Some NotOwner
 
+-- why a call is refused so
+abbrev pub refusal_in : BookTerms → PassTerms → Call → Option Reply
+refusal_in b pass (Call.Transfer from to amount) = refusal_of b pass from
+refusal_in b pass (Call.Read account) = None
+refusal_in b pass (Call.Pay from targets) = refusal_of b pass from
+
 -- what a payment answers: not-owner comes first, then full, then short, where the balance at the receipt's place is below the sum
 abbrev pub reply_of : BookTerms → PassTerms → PassTerms → ℕ → List TargetPair → Receipt → Reply
 reply_of b before after source targets r =

@@ -21,7 +21,7 @@ pub use Rattle.at_history.specs.Sound.{Sound}
 pub use Rattle.at_history.specs.declared.publication.Publication.{Publication}
 pub use Rattle.at_ledger.specs.Account.{is_shared, is_single, slots_of}
 pub use Rattle.at_ledger.specs.Book.{BookTerms, HasSlot, account_of, is_owner, with_usable_room}
-pub use Rattle.at_ledger.specs.Call.{AreTargetsOn, IsCallOn, TargetPair, first_account}
+pub use Rattle.at_ledger.specs.Call.{AreTargetsOn, IsCallOn, TargetPair, first_account, payout_of}
 pub use Rattle.at_ledger.specs.declared.call.Call.{Call}
 pub use Rattle.at_ledger.specs.declared.call.Call.TheVariants.{Read, Transfer}
 pub use Rattle.at_ledger.specs.declared.call.Reply.{Reply}
@@ -37,7 +37,7 @@ pub use Rattle.at_log.specs.declared.receipt.At.{At}
 pub use Rattle.at_log.specs.declared.receipt.At.TheVariants.{Cut, Own, Previous, Round}
 pub use Rattle.at_log.specs.declared.receipt.Receipt.{Receipt}
 pub use Rattle.at_payments.specs.Helpings.{decides_made, decides_on}
-pub use Rattle.at_payments.specs.Settling.{AsksOnce, OnReceipts, StandsAfter, StandsAfterSnapshot, StandsInRound, asking_steps, round_steps}
+pub use Rattle.at_payments.specs.Settling.{AsksOnce, StandsAfter, StandsAfterSnapshot, StandsInRound, asking_steps, round_steps}
 pub use Rattle.at_payments.specs.Standing.{IsOnlyOwner, StandsAfterCut, StandsAtCut, StandsAtOwn, cut_behind, payment_reply}
 pub use Rattle.at_snapshot.specs.Snapshots.{IsSnapshot, snapshot_steps}
 pub use Rattle.atomic_table.specs.Seated.{TableId}

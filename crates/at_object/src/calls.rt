@@ -1,9 +1,9 @@
 //! Any call.
 
-ghost use Rattle.std.specs.Prelude.{◌≡◌, length};
+ghost use Rattle.std.specs.Prelude.{◌≡◌, ◌++◌, [], ◌∷◌, length};
 ghost use Rattle.at_object.specs.Prelude.{AreRuns, IsCallOn};
 ghost use Rattle.at_object.specs.Calls.{CallMade, StaysWithin};
-ghost use Rattle.at_object.specs.Passes.{IsPassOf, one_more_call};
+ghost use Rattle.at_object.specs.Passes.{IsPassOf, one_more_call, past_call};
 
 use crate::ledger::Ledger;
 use crate::pass::Pass;
@@ -25,6 +25,7 @@ impl Ledger {
         ensures runs { AreRuns self.now.book pass.new.knows.seen }
         ensures pass { IsPassOf pass.new self.now }
         ensures calls { pass.new.calls ≡ one_more_call pass.old.calls }
+        ensures past { pass.new.past ≡ pass.old.past ++ past_call pass.old pass.new result ∷ [] }
     {
         match call {
             Call::Transfer { from, to, amount } => self.transfer(pass, from, to, amount),

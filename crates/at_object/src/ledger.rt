@@ -60,10 +60,11 @@ fn passes_for(alloc: Global, book: &Book, seats: Vec<BoardSeat>) -> Result<Vec<P
 {
     let mut passes = Vec::with_capacity(alloc, seats.len())?;
     for seat in seats {
+        let totals = Totals::new(alloc, book)?;
         let rest = Rest {
-            totals: Totals::new(alloc, book)?,
             sent: 0,
-            calls: CallCount::new(&seat),
+            calls: CallCount::new(&seat, &totals),
+            totals,
         };
         passes.push(Pass { seat, rest })?;
     }

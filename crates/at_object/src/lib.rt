@@ -7,7 +7,7 @@
 //!
 //! The definitions read best in this order: `Passes`, what a pass has seen and which receipts stand with it; `Payments`, what a
 //! payment answers and how many steps it takes; `Paid`, how it stands among the publications; `Calls`, the same of any call;
-//! `Closings`; `CallCounts` and `Parted`. `BoundNumbers` has the bounds of one book as numbers.
+//! `Closings`; `PastCalls`, `CallCounts` and `Parted`. `BoundNumbers` has the bounds of one book as numbers.
 #![tactic(auto)]
 
 mod calls;
@@ -18,6 +18,7 @@ mod ledger;
 mod notes;
 mod parts;
 mod pass;
+mod past;
 mod paying;
 mod payments;
 mod reads;

@@ -57,6 +57,7 @@ impl Ledger {
         ensures pass { IsPassOf pass.new self.now }
         ensures process { pass.new.knows.first ≡ pass.old.knows.first }
         ensures calls { pass.new.calls ≡ pass.old.calls }
+        ensures past { pass.new.past ≡ pass.old.past }
         ensures sent { sent_by pass.new ≡ sent_by pass.old }
         ensures asked { (a : ℕ) → asked_by pass.new a ≡ asked_by pass.old a }
         ensures counted { pass.new.counted ≡ pass.old.counted }

@@ -1,27 +1,32 @@
 //! Passes taken apart, for whoever makes their calls step by step, and what both ways to make a call do with the parts.
 
-ghost use Rattle.std.specs.Prelude.{◌≡◌, ◌<◌, ℕ, Some, length};
-ghost use Rattle.at_object.specs.Prelude.{IsOf, At};
+ghost use Rattle.std.specs.Prelude.{◌≡◌, ◌<◌, [], Some, length};
+ghost use Rattle.at_object.specs.Prelude.{IsOf, IsCallOn, At};
 ghost use Rattle.at_object.specs.CallCounts.{with_one_call};
-ghost use Rattle.at_object.specs.Calls.{CallMade};
+ghost use Rattle.at_object.specs.Calls.{CallMade, StaysWithin};
 ghost use Rattle.at_object.specs.Parted.{IsCountOf, IsOfOnePass, after_one_call, pass_of};
-ghost use Rattle.at_object.specs.Payments.{refusal_of, sent_after};
+ghost use Rattle.at_object.specs.Payments.{refusal_in, refusal_of, sent_after};
 
 use crate::pass::Pass;
+use crate::past::{Past, PastCall};
 use at_board::{Board, BoardSeat};
 use at_fold::Totals;
-use at_ledger::Reply;
+use at_ledger::{Call, Reply};
 use at_log::{At, Receipt};
 use std::marker::Model;
+use std::mem::replace;
 use std::snapshot::Snapshot;
 
-/// How many calls were made with a pass. Only the pass itself gives one, and there is one for each seat, so that no call is left out
-/// where a pass that was taken apart is put together again. Only `Rest::count_call` and `Rest::refuse` count one more.
+/// How many calls were made with a pass, and for contracts alone these calls. Only the pass itself gives one, and there is one for each
+/// seat, so that no call that was counted is left out where a pass that was taken apart is put together again. Only
+/// `Rest::count_call` and `Rest::refuse` count one more.
 #[derive(Drop)]
 pub struct CallCount {
     count: u64,
-    /// The seat when the last call was counted, or when the pass was made, for contracts alone.
+    past: Snapshot<Past>,
+    /// The seat and the totals when the last call was counted, or when the pass was made.
     last: Snapshot<BoardSeat>,
+    totals: Snapshot<Totals>,
 }
 
 impl Model for CallCount {
@@ -29,18 +34,27 @@ impl Model for CallCount {
 
     ghost Value = { CallCountTerms };
 
-    ghost view = { λ c. record { count = c.count; last = c.last.value } };
+    ghost view = { λ c. record {
+      count = c.count;
+      past = c.past.value;
+      last = c.last.value;
+      totals = c.totals.value;
+    } };
 }
 
 impl CallCount {
     /// The count of a new pass.
-    pub(crate) fn new(seat: &BoardSeat) -> CallCount
+    pub(crate) fn new(seat: &BoardSeat, totals: &Totals) -> CallCount
         ensures none { result.count ≡ 0 }
+        ensures past { result.past ≡ [] }
         ensures of { IsCountOf result seat.now }
+        ensures totals { result.totals ≡ totals.now }
     {
         CallCount {
             count: 0,
+            past: Past::none(),
             last: Snapshot::of(seat),
+            totals: Snapshot::of(totals),
         }
     }
 
@@ -51,12 +65,36 @@ impl CallCount {
         self.count
     }
 
-    /// One more call was made, which has left the seat so.
-    pub(crate) fn count_one(&mut self, seat: &BoardSeat)
-        ensures { self.new ≡ with_one_call seat.now self.old }
+    /// One more call was made and answered, which began with the one seat and has left the other and these totals.
+    pub(crate) fn count_one(
+        &mut self,
+        start: &Snapshot<BoardSeat>,
+        seat: &BoardSeat,
+        totals: &Totals,
+        call: &Call,
+        reply: &Reply,
+        at: &At,
+    )
+        ensures { self.new ≡ with_one_call start.now.value seat.now totals.now (record {
+          call = call.now;
+          reply = reply.now;
+          at = at.now;
+        }) self.old }
     {
         self.count = self.count.saturating_add(1);
+        let made = PastCall {
+            call: Snapshot::of(call),
+            reply: Snapshot::of(reply),
+            at: Snapshot::of(at),
+            start: Snapshot::of(start),
+            counted: Snapshot::of(&self.totals),
+            seat: Snapshot::of(seat),
+            totals: Snapshot::of(totals),
+        };
+        let before = replace(&mut self.past, Past::none());
+        self.past = Past::with(before, &made);
         self.last = Snapshot::of(seat);
+        self.totals = Snapshot::of(totals);
     }
 }
 
@@ -90,18 +128,32 @@ impl Rest {
         if used_up { Some(Reply::Full) } else { None }
     }
 
-    /// A call that is refused changes nothing but the count of calls. It is refused for some account that the process can't pay from.
-    pub fn refuse(&mut self, board: &Board, seat: &BoardSeat, reply: Reply) -> (Reply, At)
+    /// A call that is refused changes nothing but the calls. It is a payment from an account that the process can't pay from.
+    pub fn refuse(
+        &mut self,
+        board: &Board,
+        seat: &BoardSeat,
+        call: &Call,
+        reply: Reply,
+    ) -> (Reply, At)
         requires board { IsOf seat.now board.now }
         requires pass { IsOfOnePass seat.now self.old }
-        requires refused { (source : ℕ)
-            × (refusal_of board.now.book (pass_of seat.now self.old) source ≡ Some reply) }
+        requires call { IsCallOn (length board.now.book.accounts) call.now }
+        requires refused { refusal_in board.now.book (pass_of seat.now self.old) call.now
+            ≡ Some reply }
         ensures reply { result.0 ≡ reply }
         ensures at { result.1 ≡ At.Previous }
-        ensures rest { self.new ≡ after_one_call seat.now self.old }
+        ensures rest { self.new ≡ after_one_call seat.now seat.now (record {
+          call = call.now;
+          reply = reply;
+          at = At.Previous;
+        }) self.old }
     {
-        self.calls.count_one(seat);
-        (reply, At::Previous)
+        let at = At::Previous;
+        let start = Snapshot::of(seat);
+        self.calls
+            .count_one(&start, seat, &self.totals, call, &reply, &at);
+        (reply, at)
     }
 
     /// Counts a call that was made step by step, from the seat and the rest of one pass as they were when it began. No call is counted
@@ -118,11 +170,18 @@ impl Rest {
         requires board { IsOf seat.now board.now }
         requires start { IsOfOnePass start.now.value was.now.value }
         requires calls { self.old.calls ≡ was.now.value.calls }
+        requires call { IsCallOn (length board.now.book.accounts) receipt.now.call }
         requires made { CallMade board.now.book (pass_of start.now.value was.now.value)
-            (pass_of seat.now (after_one_call seat.now self.old)) receipt.now.call receipt.now }
-        ensures { self.new ≡ after_one_call seat.now self.old }
+            (pass_of seat.now (after_one_call start.now.value seat.now receipt.now self.old))
+            receipt.now.call receipt.now }
+        requires within { StaysWithin board.now.book (pass_of start.now.value was.now.value)
+            (pass_of seat.now (after_one_call start.now.value seat.now receipt.now self.old))
+            receipt.now.call receipt.now }
+        ensures { self.new ≡ after_one_call start.now.value seat.now receipt.now self.old }
     {
-        self.calls.count_one(seat);
+        let Receipt { call, reply, at } = receipt;
+        self.calls
+            .count_one(start, seat, &self.totals, call, reply, at);
     }
 }
 

@@ -82,7 +82,7 @@ impl Pass {
         totals.upto().total() - u64::from(totals.counted(self.seat.process()))
     }
 
-    /// How many calls of `transfer`, `pay` and `read` were made with the pass. At the largest count it stays.
+    /// How many calls of `transfer`, `pay` and `read` were made with the pass. At the largest number it stays.
     pub fn calls(&self) -> u64
         ensures { result ≡ self.now.calls }
     {

@@ -1,9 +1,9 @@
 //! Payments.
 
-ghost use Rattle.std.specs.Prelude.{◌≡◌, ◌<◌, [], ◌∷◌, length};
+ghost use Rattle.std.specs.Prelude.{◌≡◌, ◌<◌, ◌++◌, [], ◌∷◌, length};
 ghost use Rattle.at_object.specs.Prelude.{AreRuns, AreTargetsOn, Call};
 ghost use Rattle.at_object.specs.Calls.{PaymentMade, StaysWithin};
-ghost use Rattle.at_object.specs.Passes.{IsPassOf, one_more_call};
+ghost use Rattle.at_object.specs.Passes.{IsPassOf, one_more_call, past_call};
 
 use crate::ledger::Ledger;
 use crate::pass::Pass;
@@ -23,10 +23,11 @@ impl Ledger {
         ensures runs { AreRuns self.now.book pass.new.knows.seen }
         ensures pass { IsPassOf pass.new self.now }
         ensures calls { pass.new.calls ≡ one_more_call pass.old.calls }
+        ensures past { pass.new.past ≡ pass.old.past ++ past_call pass.old pass.new result ∷ [] }
     {
         self.book().known();
-        let (reply, at) = self.pay_out(pass, from, &Targets::one(to, amount));
         let call = Call::Transfer { from, to, amount };
+        let (reply, at) = self.pay_out(pass, from, &Targets::one(to, amount), &call);
         Receipt { call, reply, at }
     }
 
@@ -44,9 +45,13 @@ impl Ledger {
         ensures runs { AreRuns self.now.book pass.new.knows.seen }
         ensures pass { IsPassOf pass.new self.now }
         ensures calls { pass.new.calls ≡ one_more_call pass.old.calls }
+        ensures past { pass.new.past ≡ pass.old.past ++ past_call pass.old pass.new result ∷ [] }
     {
-        let (reply, at) = self.pay_out(pass, from, &targets);
         let call = Call::Pay { from, targets };
+        let Call::Pay { targets, .. } = &call else {
+            unreachable!()
+        };
+        let (reply, at) = self.pay_out(pass, from, targets, &call);
         Receipt { call, reply, at }
     }
 }

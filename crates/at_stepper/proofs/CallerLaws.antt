@@ -1,7 +1,7 @@
 -- A caller whose call goes on, or is answered.
 use Rattle.std.specs.Prelude.{IfSome, IsSome, is_some, ◌↔◌}
-use Rattle.std.proofs.Common.{◌≡◌, ℕ, zero, suc, ◌+◌, ◌<◌, ◌⊎◌, Bool, true, false, cond, List, [], ◌∷◌, ◌++◌, drop, length, get_or, take, None, Option, Some, refl, sym, ap, subst, ◌∙◌, arith, inl, inr, length-append}
-use Rattle.at_stepper.proofs.Prelude.{cases_Bool, map-append, take_more, sum_by-drop_more, BookTerms, is_owner, Call, Pay, Read, Transfer, Reply, Balance, Done, Full, NotOwner, Short, own_part, LearnsOverview, IsKept, SeatTerms, Knowledge, calls_of, Receipt, IsOfOnePass, pass_of, CallCountTerms, call-CallMade, look-CallMade, refused_at-CallMade, with_one_call, PassTerms, Stands, sent_by, IsRefused, has_used_up, Rest, process-CallMade, CallerTerms, HasLearned, IsAnswered, IsFile, IsStillCalling, caller_turns_left, calls_left_of, is_refused, most_turns, next_call, own_seen, steps_in, CallingTerms, IsCallWithin, IsWay, MakesCallStep, StartsFrom, call_turns_left, exchanges_made, exchanges_of, first_step, next_step, pass_before, publishes_of, refusal_in, steps_made, steps_of, CallMade, StaysWithin, IsPrefix, Publication, IsPrefix-refl, IsCallerOf, IsNextInMaking, StartsNext, TakesTurn, caller_of, stage_in, EndsCall, FollowsCall, raised, CallStage, PayAlone, PayShared, Refuse, Refused, Turned, Answer, Step}
+use Rattle.std.proofs.Common.{◌≡◌, ℕ, zero, suc, ◌+◌, ◌<◌, ◌⊎◌, Bool, true, false, cond, List, [], ◌∷◌, ◌++◌, drop, length, get_or, map, take, None, Option, Some, refl, sym, ap, subst, ◌∙◌, arith, inl, inr, length-append}
+use Rattle.at_stepper.proofs.Prelude.{cases_Bool, map-append, take_more, sum_by-drop_more, BookTerms, is_owner, Call, Pay, Read, Transfer, Reply, Balance, Done, Full, NotOwner, Short, own_part, LearnsOverview, IsKept, SeatTerms, Knowledge, calls_of, Receipt, IsOfOnePass, pass_of, CallCountTerms, PastCall, call-CallMade, look-CallMade, refused_at-CallMade, PassTerms, Stands, past_receipts, sent_by, IsRefused, has_used_up, Rest, process-CallMade, CallerTerms, HasLearned, IsAnswered, IsFile, IsStillCalling, caller_turns_left, calls_left_of, is_refused, most_turns, next_call, own_seen, steps_in, CallingTerms, CountsCall, IsCallWithin, IsWay, MakesCallStep, StartsFrom, call_turns_left, exchanges_made, exchanges_of, first_step, next_step, pass_before, publishes_of, refusal_in, steps_made, steps_of, CallMade, StaysWithin, IsPrefix, Publication, IsPrefix-refl, IsCallerOf, IsNextInMaking, StartsNext, TakesTurn, caller_of, stage_in, EndsCall, FollowsCall, raised, CallStage, PayAlone, PayShared, Refuse, Refused, Turned, Answer, Step}
 use Rattle.std.specs.Prelude.{sum_by}
 use Rattle.at_stepper.proofs.PublishedLaws.{longer-IsPrefix}
 use Rattle.at_calling.specs.declared.call_stage.CallStage.TheVariants.{Read as ReadOn}
@@ -113,7 +113,7 @@ module _ (b : BookTerms) (seat after : SeatTerms) (rest : Rest) (calls : List Ca
   HasLearned-seat = record {
     same = refl;
     pass_same =
-        λ t. record { board = board t; knows = same_knows t; steps = steps t; exchanges = exchanges t; counted = rest.totals.upto; calls = rest.calls.count };
+        λ t. record { board = board t; knows = same_knows t; steps = steps t; exchanges = exchanges t; counted = rest.totals.upto; calls = rest.calls.count; past = rest.calls.past };
     begins = learned.more;
     sent = sent;
     stands = stands was.caller.stands;
@@ -127,7 +127,7 @@ module _ (b : BookTerms) (seat after : SeatTerms) (rest : Rest) (calls : List Ca
     caller = record {
       file = subst (λ (x : BookTerms). IsFile (length x.accounts) calls) (sym book) was.caller.file;
       stands = stands was.caller.stands;
-      counted = was.caller.counted;
+      past = was.caller.past;
       made = was.caller.made;
       within = was.caller.within;
       fits = was.caller.fits;
@@ -171,7 +171,7 @@ module _ (b : BookTerms) (seat : SeatTerms) (rest : Rest) (calls : List Call) (r
     caller = record {
       file = was.caller.file;
       stands = subst (λ (p : PassTerms). Stands p receipts) (sym begun_pass) was.caller.stands;
-      counted = ap (λ (p : PassTerms). p.calls) begun_pass ∙ was.caller.counted;
+      past = ap (λ (p : PassTerms). past_receipts p) begun_pass ∙ was.caller.past;
       made = was.caller.made;
       within = was.caller.within;
       fits = was.caller.fits;
@@ -279,7 +279,7 @@ module _ (b : BookTerms) (seat : SeatTerms) (rest : Rest) (calls : List Call) (r
         caller = record {
           file = subst (λ (x : BookTerms). IsFile (length x.accounts) calls) (book ∙ sym same_book) was.caller.file;
           stands = subst (λ (p : PassTerms). Stands p receipts) (sym same_pass) was.caller.stands;
-          counted = ap (λ (p : PassTerms). p.calls) same_pass ∙ was.caller.counted;
+          past = ap (λ (p : PassTerms). past_receipts p) same_pass ∙ was.caller.past;
           made = was.caller.made;
           within = was.caller.within;
           fits = was.caller.fits;
@@ -299,7 +299,7 @@ module _ (b : BookTerms) (seat : SeatTerms) (rest : Rest) (calls : List Call) (r
     -- the call is answered
     module _ (r : Receipt) (made : CallMade b (pass_before c) (pass_of after_seat after_rest) c.call r)
         (stands : (earlier : List Receipt) → Stands (pass_before c) earlier → Stands (pass_of after_seat after_rest) (earlier ++ r ∷ []))
-        (one_pass : IsOfOnePass after_seat after_rest) (one_more : after_rest.calls ≡ with_one_call after_seat c.was.calls)
+        (one_pass : IsOfOnePass after_seat after_rest) (one_more : CountsCall c after_seat after_rest r)
         (within : StaysWithin b (pass_before c) (pass_of after_seat after_rest) c.call r) (none : IsRefused r → steps_made d.stage ≡ 0) (all : List Receipt)
         (pushed : all ≡ receipts ++ r ∷ []) where
       abbrev answered : CallerTerms
@@ -359,7 +359,9 @@ module _ (b : BookTerms) (seat : SeatTerms) (rest : Rest) (calls : List Call) (r
         caller = record {
           file = subst (λ (x : BookTerms). IsFile (length x.accounts) calls) (book ∙ sym same_book) was.caller.file;
           stands = stands_all;
-          counted = omega (arith, ap (λ (n : CallCountTerms). n.count) one_more, count, was.caller.counted, was.caller.file.few, next.more);
+          past = ap (λ (n : CallCountTerms). map (λ (x : PastCall). x.receipt) n.past) one_more
+              ∙ (map-append (λ (x : PastCall). x.receipt) c.was.calls.past _
+              ∙ (ap (λ (rs : List Receipt). rs ++ r ∷ []) was.caller.past ∙ sym pushed));
           made =
               ap calls_of pushed
               ∙ (map-append (λ (x : Receipt). x.call) receipts (r ∷ [])

@@ -32,7 +32,7 @@ pub use Rattle.at_board.specs.declared.step.BoardStep.{BoardStep}
 pub use Rattle.at_board.specs.declared.words.TheConstants.{REQUEST_WORDS}
 pub use Rattle.at_calling.proofs.Laws.Published.{published-MakesCallStep}
 pub use Rattle.at_calling.proofs.Laws.Steps.{MakesOnly-MakesCallStep}
-pub use Rattle.at_calling.specs.Calling.{CallingTerms, EndsCall, FollowsCall, IsCallWithin, IsWay, MakesCallStep, StartsFrom, call_turns_left, exchanges_made, exchanges_of, first_step, length_loaded, next_step, pass_before, publishes_of, refusal_in, steps_made, steps_of}
+pub use Rattle.at_calling.specs.Calling.{CallingTerms, CountsCall, EndsCall, FollowsCall, IsCallWithin, IsWay, MakesCallStep, StartsFrom, call_turns_left, exchanges_made, exchanges_of, first_step, length_loaded, next_step, pass_before, publishes_of, steps_made, steps_of}
 pub use Rattle.at_calling.specs.PayingAlone.{MakesPayStep, pay_length_at, pay_publishes_at}
 pub use Rattle.at_calling.specs.PayingShared.{MakesShareStep, share_length_at, share_publishes_at}
 pub use Rattle.at_calling.specs.Starting.{MakesStartStep, start_length_at}
@@ -89,12 +89,13 @@ pub use Rattle.at_machines.specs.declared.look_stage.LookStage.{LookStage}
 pub use Rattle.at_object.proofs.Laws.Calls.{begins-CallMade, call-CallMade, process-CallMade}
 pub use Rattle.at_object.proofs.Laws.Keys.{key-in, key-le, key-same, look-in, look-le, look-same}
 pub use Rattle.at_object.proofs.Laws.Looks.{decided_or_refused, look-CallMade, refused_at-CallMade}
-pub use Rattle.at_object.specs.CallCounts.{CallCountTerms, with_one_call}
+pub use Rattle.at_object.specs.CallCounts.{CallCountTerms}
 pub use Rattle.at_object.specs.Calls.{CallMade, PaymentMade, StaysWithin}
 pub use Rattle.at_object.specs.Closings.{AreAccountedFor, ClosedTerms, HasAllLogs, IsAccountedFor}
 pub use Rattle.at_object.specs.Parted.{HasMemoryFor, IsOfOnePass, pass_of}
-pub use Rattle.at_object.specs.Passes.{AreNewPasses, IsNewPass, IsPassOf, PassTerms, Stands, asked_by, seat_of, sent_by}
-pub use Rattle.at_object.specs.Payments.{IsDecidedByBalance, IsRefused, has_used_up, refusal_of}
+pub use Rattle.at_object.specs.Passes.{AreNewPasses, IsNewPass, IsPassOf, PassTerms, Stands, asked_by, past_receipts, seat_of, sent_by}
+pub use Rattle.at_object.specs.PastCalls.{PastCall}
+pub use Rattle.at_object.specs.Payments.{IsDecidedByBalance, IsRefused, has_used_up, refusal_in, refusal_of}
 pub use Rattle.at_object.specs.declared.parts.Rest.{Rest}
 pub use Rattle.at_payments.specs.Standing.{cut_behind}
 pub use Rattle.at_snapshot.specs.Snapshots.{IsSnapshot}

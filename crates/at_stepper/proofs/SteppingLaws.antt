@@ -262,5 +262,5 @@ AreAccountedFor-split ledger callers passes receipts on split = record {
       ap (λ (rs : List (List Receipt)). get_or rs p []) split.receipts_are ∙ get_or-map (λ (c : CallerTerms). c.receipts) callers p some [] within in
       subst (λ (pass : PassTerms). IsAccountedFor ledger p pass (get_or receipts p [])) (sym pass_is)
       (subst (λ (rs : List Receipt). IsAccountedFor ledger p caller.pass rs) (sym receipts_are)
-      (record { of_ledger = is.pass; process_is = is.process_is; stands = one.stands; counted = one.counted }));
+      (record { of_ledger = is.pass; process_is = is.process_is; stands = one.stands; made = one.past }));
 }

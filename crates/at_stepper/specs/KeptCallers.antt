@@ -1,6 +1,6 @@
 -- What the type of a caller keeps of its fields, which no other sees.
 use Rattle.std.specs.Prelude.{◌≡◌, ℕ, ◌+◌, ◌<◌, ◌≤◌, List, Option, Some, None, length, take}
-use Rattle.at_stepper.specs.Prelude.{BookTerms, Call, SeatTerms, IsHistory, IsPrefix, Publication, calls_of, Receipt, IsOfOnePass, pass_of, PassTerms, Stands, seat_of, raised, Rest, CallingTerms, EndsCall, IsWay, MakesCallStep, StartsFrom, call_turns_left, exchanges_made, exchanges_of, first_step, next_step, pass_before, publishes_of, refusal_in, steps_made, steps_of, CallStage}
+use Rattle.at_stepper.specs.Prelude.{BookTerms, Call, SeatTerms, IsHistory, IsPrefix, Publication, calls_of, Receipt, IsOfOnePass, pass_of, PassTerms, Stands, past_receipts, seat_of, raised, Rest, CallingTerms, EndsCall, IsWay, MakesCallStep, StartsFrom, call_turns_left, exchanges_made, exchanges_of, first_step, next_step, pass_before, publishes_of, refusal_in, steps_made, steps_of, CallStage}
 use Rattle.at_stepper.specs.Callers.{CallerTerms, IsFile, LeavesCaller, answers_in, caller_turns_left, calls_left_of, next_call, own_seen, steps_in}
 use Rattle.at_stepper.specs.declared.turned.Turned.{Turned}
 
@@ -40,12 +40,12 @@ abbrev pub IsMakingSo : List Call → ℕ → Call → SeatTerms → Rest → Op
 IsMakingSo calls made call seat rest None = IsOfOnePass seat rest
 IsMakingSo calls made call seat rest (Some c) = IsNextInMaking calls made call seat rest c
 
--- the receipts are of the first calls, in order. They stand with the pass, which has counted as many, and there is room for one receipt of
--- each call
+-- the receipts are of the first calls, in order. They stand with the pass and are those of its calls, and there is room for one receipt
+-- of each call
 pub record IsCallerSo (caller : CallerTerms) (room : ℕ) : Type 0 where
   pub file : IsFile (length caller.seat.knows.book.accounts) caller.calls
   pub stands : Stands caller.pass caller.receipts
-  pub counted : caller.pass.calls ≡ length caller.receipts
+  pub past : past_receipts caller.pass ≡ caller.receipts
   pub made : calls_of caller.receipts ≡ take (length caller.receipts) caller.calls
   pub within : length caller.receipts ≤ length caller.calls
   pub fits : length caller.calls ≤ room

@@ -1,6 +1,6 @@
 -- What the type of a run keeps of its fields, which no caller sees.
 use Rattle.std.specs.Prelude.{◌≡◌, ℕ, ◌^◌, ◌<◌, List, All, None, length, map, slice_index_or}
-use Rattle.at_stepper.specs.Prelude.{BookTerms, Call, ArePublishedBy, IsPrefix, count_of, Publication, IsOverviewOf, BoardTerms, IsOf, calls_of, contents_of, Receipt, AreAccountedFor, HasAllLogs, HasMemoryFor, IsPassOf, PassTerms, Stands, seat_of}
+use Rattle.at_stepper.specs.Prelude.{BookTerms, Call, ArePublishedBy, IsPrefix, count_of, Publication, IsOverviewOf, BoardTerms, IsOf, calls_of, contents_of, Receipt, AreAccountedFor, HasAllLogs, HasMemoryFor, IsPassOf, PassTerms, Stands, past_receipts, seat_of}
 use Rattle.at_stepper.specs.Callers.{CallerTerms}
 use Rattle.at_stepper.specs.Stepping.{IsOver, StepperTerms, files_of}
 use Rattle.at_stepper.specs.declared.caller.Start.{Start}
@@ -96,7 +96,7 @@ IsProgressSo (Closed over) = IsClosedSo over
 pub record HasAnsweredAll (caller : CallerTerms) : Type 0 where
   pub between : seat_of caller.pass ≡ caller.seat
   pub stands : Stands caller.pass caller.receipts
-  pub counted : caller.pass.calls ≡ length caller.receipts
+  pub past : past_receipts caller.pass ≡ caller.receipts
   pub made : calls_of caller.receipts ≡ caller.calls
   pub few : length caller.receipts < 2 ^ 32
 

@@ -7,7 +7,7 @@ pub use Rattle.at_board.specs.Knowledge.Seats.{BoardTerms, IsOf, SeatTerms}
 pub use Rattle.at_board.specs.Steps.Made.{MakesOnly}
 pub use Rattle.at_board.specs.declared.step.BoardStep.{BoardStep}
 pub use Rattle.at_board.specs.declared.words.TheConstants.{RECORD_WORDS}
-pub use Rattle.at_calling.specs.Calling.{CallingTerms, EndsCall, FollowsCall, IsCallWithin, IsWay, MakesCallStep, StartsFrom, call_turns_left, exchanges_made, exchanges_of, first_step, length_loaded, next_step, pass_before, publishes_of, refusal_in, steps_made, steps_of}
+pub use Rattle.at_calling.specs.Calling.{CallingTerms, EndsCall, FollowsCall, IsCallWithin, IsWay, MakesCallStep, StartsFrom, call_turns_left, exchanges_made, exchanges_of, first_step, length_loaded, next_step, pass_before, publishes_of, steps_made, steps_of}
 pub use Rattle.at_calling.specs.declared.call_stage.CallStage.{CallStage}
 pub use Rattle.at_fold.specs.Sums.{TotalSums}
 pub use Rattle.at_history.specs.BoardState.{publication_at}
@@ -36,5 +36,6 @@ pub use Rattle.at_object.specs.BoundNumbers.{three_processes}
 pub use Rattle.at_object.specs.Calls.{CallMade, StaysWithin, call_steps}
 pub use Rattle.at_object.specs.Closings.{AreAccountedFor, HasAllLogs}
 pub use Rattle.at_object.specs.Parted.{HasMemoryFor, IsOfOnePass, pass_of}
-pub use Rattle.at_object.specs.Passes.{AreNewPasses, IsNewPass, IsPassOf, PassTerms, Stands, seat_of, sent_by}
+pub use Rattle.at_object.specs.Payments.{refusal_in}
+pub use Rattle.at_object.specs.Passes.{AreNewPasses, IsNewPass, IsPassOf, PassTerms, Stands, past_receipts, seat_of, sent_by}
 pub use Rattle.at_object.specs.declared.parts.Rest.{Rest}

@@ -1,7 +1,7 @@
 //! A process that makes its calls one after another, a step a turn.
 
 ghost use Rattle.std.specs.Prelude.{◌≡◌, ◌^◌, ◌<◌, ◌==◌, [], IfSome, IsSome, None, length};
-ghost use Rattle.at_stepper.specs.Prelude.{IsPrefix, IsOverviewOf, TakesIn, IsOf, first_step, refusal_in, IsCallOn, calls_of, HasMemoryFor, IsOfOnePass, pass_of, IsPassOf, Stands, seat_of};
+ghost use Rattle.at_stepper.specs.Prelude.{IsPrefix, IsOverviewOf, TakesIn, IsOf, first_step, refusal_in, IsCallOn, calls_of, HasMemoryFor, IsOfOnePass, pass_of, IsPassOf, Stands, past_receipts, seat_of};
 ghost use Rattle.at_stepper.specs.Callers.{HasLearned, IsFile, IsNewCaller, IsNextOf, IsTurned, calls_left_of, own_seen};
 ghost use Rattle.at_stepper.specs.KeptCallers.{StartsNext, TakesTurn};
 
@@ -60,7 +60,7 @@ impl Caller {
     /// The caller of a process that has made no call yet.
     pub(crate) fn new(start: Start, calls: Vec<Call>) -> Caller
         requires stands { Stands start.pass [] }
-        requires uncounted { start.pass.calls ≡ 0 }
+        requires unmade { start.pass.past ≡ [] }
         requires file { IsFile (length start.pass.knows.book.accounts) calls.items }
         requires room { HasMemoryFor start.receipts (length calls.items) }
         ensures { IsNewCaller start.pass calls.items result }
@@ -215,7 +215,7 @@ impl Caller {
         ensures receipts { result.1.items ≡ self.receipts }
         ensures between { seat_of self.pass ≡ self.seat }
         ensures stands { Stands self.pass self.receipts }
-        ensures counted { self.pass.calls ≡ length self.receipts }
+        ensures past { past_receipts self.pass ≡ self.receipts }
         ensures made { calls_of self.receipts ≡ self.calls }
         ensures few { length self.receipts < 2 ^ 32 }
     {

@@ -43,7 +43,8 @@ pub use Rattle.at_ledger.specs.declared.call.Reply.TheVariants.{Balance, Done, F
 pub use Rattle.at_log.specs.Receipts.{receipt_at}
 pub use Rattle.at_log.specs.declared.receipt.Receipt.{Receipt}
 pub use Rattle.at_object.specs.Calls.{CallMade, may_exchange}
-pub use Rattle.at_object.specs.Passes.{PassTerms}
+pub use Rattle.at_object.specs.Passes.{PassTerms, cost_of}
+pub use Rattle.at_object.specs.PastCalls.{CostTerms}
 pub use Rattle.at_object.specs.Payments.{IsRefused}
 pub use Rattle.at_orders.specs.Covered.{asked_in_file}
 pub use Rattle.at_orders.specs.declared.replies.Replies.{Replies}
@@ -80,5 +81,5 @@ pub use Rattle.at_tables.specs.declared.groups.Group.{Group}
 pub use Rattle.at_tables.specs.declared.kind.Kind.{Kind}
 pub use Rattle.at_tables.specs.declared.posting.Amount.{Amount}
 pub use Rattle.at_tables.specs.declared.posting.Amount.TheVariants.{Minus, Plus}
-pub use Rattle.at_workers.specs.Costs.{CostTerms, TakesCall, cost_of}
+pub use Rattle.at_workers.specs.Costs.{TakesCall}
 unfoldable pub use Rattle.at_workers.specs.Costs.{TakeCalls}

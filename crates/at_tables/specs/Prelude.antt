@@ -30,6 +30,7 @@ pub use Rattle.at_log.specs.Receipts.{receipt_at}
 pub use Rattle.at_log.specs.declared.receipt.Receipt.{Receipt}
 pub use Rattle.at_object.specs.Calls.{call_steps, may_exchange}
 pub use Rattle.at_object.specs.Passes.{PassTerms}
+pub use Rattle.at_object.specs.PastCalls.{CostTerms}
 pub use Rattle.at_object.specs.Payments.{payment_steps, shared_steps, single_steps}
 pub use Rattle.at_orders.specs.Covered.{asked_in_file}
 pub use Rattle.at_orders.specs.Orders.{AreAnswers}
@@ -42,4 +43,4 @@ pub use Rattle.at_snapshot.specs.Snapshots.{snapshot_steps}
 pub use Rattle.at_stepper.specs.InTurns.{turn_at}
 pub use Rattle.at_stepper.specs.Schedules.{answered_by}
 pub use Rattle.at_stepper.specs.declared.replaying.TurnMade.{TurnMade}
-pub use Rattle.at_workers.specs.Costs.{CostTerms, TakeCalls}
+pub use Rattle.at_workers.specs.Costs.{TakeCalls}

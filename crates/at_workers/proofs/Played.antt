@@ -1,6 +1,6 @@
 -- A job whose first calls were made: how one call more keeps it, and what stands when all were made.
 use Rattle.std.proofs.Common.{◌≡◌, ℕ, ◌+◌, ◌<◌, List, ◌∷◌, [], ◌++◌, length, get_or, set, take, refl, sym, ap, subst, ◌∙◌, arith, length-append, Option, Vec}
-use Rattle.at_workers.proofs.Prelude.{get_or-map, length-map, length-take, map-append, take_all, take_more, take_more_set, Global, is_some, map-set_same, vec_capacity, BookTerms, IsCallOn, Call, Read, IsPrefix-refl, IsPrefix-trans, IsPrefix, BoardTerms, calls_of, Receipt, begins-CallMade, call-CallMade, process-CallMade, stands-CallMade, IsPassOf, PassTerms, Stands, CostTerms, IsCalled, TakeCalls, TakesCall, cost_of, costs_with, HasCosts, IsJob, IsReady, JobTerms, MakesNext, Ran}
+use Rattle.at_workers.proofs.Prelude.{get_or-map, length-map, length-take, map-append, take_all, take_more, take_more_set, Global, is_some, map-set_same, vec_capacity, BookTerms, IsCallOn, Call, Read, IsPrefix-refl, IsPrefix-trans, IsPrefix, BoardTerms, calls_of, Receipt, begins-CallMade, call-CallMade, process-CallMade, stands-CallMade, IsPassOf, PassTerms, Stands, past_receipts, past_receipts-more, CostTerms, IsCalled, TakeCalls, TakesCall, cost_of, costs_with, HasCosts, IsJob, IsReady, JobTerms, MakesNext, Ran}
 use Rattle.std.specs.Prelude.{◌^◌, slice_index_or, All, IfSome}
 use Rattle.at_workers.proofs.CostLaws.{AreNoted, AreNoted-more, AreNoted-none, TakeCalls-more, TakeCalls-none, is_some-costs_with}
 
@@ -83,16 +83,15 @@ module _ (ledger : BoardTerms) (before after : PassTerms) (list : List Receipt) 
         calls_on = rw unmoved (subst on (was.book ∙ sym called.pass.book) kept.calls_on);
         few = omega (arith, more, kept.few);
         stands = rw one_more (stands-CallMade ledger.book before after waits.call r called.made (take n list) kept.stands);
-        counted = omega (arith, called.calls, count, kept.counted, kept.made_are, kept.few, long, within);
+        past = past_receipts-more before after r (take n list) called.past kept.past ∙ sym one_more;
         made_are = count;
         within = omega (arith, count, more, long, within);
         costs_fit = rw (unmoved, one_more) noted;
       }
 
   -- what is left of the job
-  pub MakesNext-called : before.calls ≡ length (take n list) → length (calls_of list) < 2 ^ 32
-      → costs_now ≡ costs_with (cost_of before after) costs → MakesNext ledger job_before job_after
-  MakesNext-called counted few noted = record {
+  pub MakesNext-called : past_receipts before ≡ take n list → costs_now ≡ costs_with (cost_of before after) costs → MakesNext ledger job_before job_after
+  MakesNext-called past noted = record {
     receipt = r;
     call_is = λ d. same ∙ ap (λ (x : Receipt). x.call) is
         ∙ sym (get_or-map (λ (x : Receipt). x.call) list n waits d within)
@@ -101,7 +100,7 @@ module _ (ledger : BoardTerms) (before after : PassTerms) (list : List Receipt) 
     receipts_are = one_more;
     costs_are = noted;
     calls_are = unmoved;
-    counted = omega (arith, called.calls, counted, count, few, long, length-take n list, within);
+    past = past_receipts-more before after r (take n list) called.past past ∙ sym one_more;
   }
 
 -- so many calls of the job were made, the first ones
@@ -111,7 +110,7 @@ pub record HasPlayed (ledger : BoardTerms) (before after : JobTerms) (number : �
   pub count_is : length after.receipts ≡ number
   pub made : calls_of after.receipts ≡ take number before.calls
   pub stands : Stands after.pass after.receipts
-  pub counted : after.pass.calls ≡ length after.receipts
+  pub past : past_receipts after.pass ≡ after.receipts
   pub of_ledger : IsPassOf after.pass ledger
   pub begins : IsPrefix before.pass.knows.seen after.pass.knows.seen
   pub notes : is_some after.costs ≡ is_some before.costs
@@ -120,14 +119,14 @@ pub record HasPlayed (ledger : BoardTerms) (before after : JobTerms) (number : �
   pub noted : AreNoted after.costs costs
 
 pub HasPlayed-none : (ledger : BoardTerms) (job : JobTerms) → IsReady ledger job → Stands job.pass job.receipts
-    → job.pass.calls ≡ length job.receipts → IfSome job.costs (λ list. length list ≡ length job.receipts) → HasPlayed ledger job job 0
-HasPlayed-none ledger job ready stands counted costed = record {
+    → past_receipts job.pass ≡ job.receipts → IfSome job.costs (λ list. length list ≡ length job.receipts) → HasPlayed ledger job job 0
+HasPlayed-none ledger job ready stands past costed = record {
   process_is = refl;
   calls_are = refl;
   count_is = ap length ready.unmade;
   made = ap calls_of ready.unmade;
   stands = stands;
-  counted = counted;
+  past = past;
   of_ledger = ready.of_ledger;
   begins = IsPrefix-refl job.pass.knows.seen;
   notes = refl;
@@ -156,7 +155,7 @@ HasPlayed-more ledger before middle after number played more next =
           ∙ (ap (λ c. take number before.calls ++ c ∷ []) (next.call_is d ∙ last) ∙ sym (take_more before.calls number d more))));
       stands = Stands-made middle.pass after.pass middle.receipts after.receipts r played.stands
           (stands-CallMade ledger.book middle.pass after.pass r.call r made) next.receipts_are;
-      counted = next.counted;
+      past = next.past;
       of_ledger = next.called.pass;
       begins = IsPrefix-trans before.pass.knows.seen middle.pass.knows.seen after.pass.knows.seen played.begins
           (begins-CallMade ledger.book middle.pass after.pass r.call r made);
@@ -174,7 +173,7 @@ HasPlayed-all ledger before after number played all = record {
   calls_are = played.calls_are;
   made = played.made ∙ take_all number before.calls (omega (arith, all));
   stands = played.stands;
-  counted = played.counted;
+  past = played.past;
   of_ledger = played.of_ledger;
   begins = played.begins;
   notes = played.notes;

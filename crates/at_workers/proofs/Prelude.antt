@@ -19,9 +19,10 @@ pub use Rattle.at_ledger.specs.declared.call.Call.TheVariants.{Read}
 pub use Rattle.at_log.proofs.Sharing.{receipt_send}
 pub use Rattle.at_log.specs.Receipts.{calls_of}
 pub use Rattle.at_log.specs.declared.receipt.Receipt.{Receipt}
-pub use Rattle.at_object.proofs.Laws.Calls.{begins-CallMade, call-CallMade, counted-CallMade, process-CallMade, stands-CallMade}
+pub use Rattle.at_object.proofs.Laws.Calls.{begins-CallMade, call-CallMade, counted-CallMade, past_receipts-more, process-CallMade, stands-CallMade}
 pub use Rattle.at_object.proofs.Sharing.{pass_send}
-pub use Rattle.at_object.specs.Passes.{IsPassOf, PassTerms, Stands, others_counted}
-pub use Rattle.at_workers.specs.Costs.{CostTerms, IsCalled, TakesCall, cost_of, costs_with}
+pub use Rattle.at_object.specs.Passes.{IsPassOf, PassTerms, Stands, cost_of, others_counted, past_receipts}
+pub use Rattle.at_object.specs.PastCalls.{CostTerms}
+pub use Rattle.at_workers.specs.Costs.{IsCalled, TakesCall, costs_with}
 unfoldable pub use Rattle.at_workers.specs.Costs.{TakeCalls}
 pub use Rattle.at_workers.specs.Jobs.{HasCosts, IsJob, IsReady, JobTerms, MakesNext, Ran}

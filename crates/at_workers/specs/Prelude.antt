@@ -10,4 +10,5 @@ pub use Rattle.at_ledger.specs.declared.call.Call.{Call}
 pub use Rattle.at_log.specs.Receipts.{calls_of}
 pub use Rattle.at_log.specs.declared.receipt.Receipt.{Receipt}
 pub use Rattle.at_object.specs.Calls.{CallMade, StaysWithin}
-pub use Rattle.at_object.specs.Passes.{IsPassOf, PassTerms, Stands, one_more_call, others_counted}
+pub use Rattle.at_object.specs.Passes.{IsPassOf, PassTerms, Stands, cost_of, cost_since, cost_so_far, past_call, past_receipts}
+pub use Rattle.at_object.specs.PastCalls.{CostTerms}

@@ -1,7 +1,7 @@
 //! What a call cost.
 
 ghost use Rattle.std.specs.Prelude.{◌≡◌, ◌<◌, ◌^◌};
-ghost use Rattle.at_workers.specs.Costs.{cost_since, cost_so_far};
+ghost use Rattle.at_workers.specs.Prelude.{cost_since, cost_so_far};
 
 use at_object::Pass;
 use std::marker::Model;
@@ -16,7 +16,7 @@ pub struct CallCost {
 
 impl Model for CallCost {
     ghost use Rattle.std.specs.Prelude.{◌<◌, ◌^◌};
-    ghost use Rattle.at_workers.specs.Costs.{CostTerms};
+    ghost use Rattle.at_workers.specs.Prelude.{CostTerms};
 
     ghost Value = { CostTerms };
 

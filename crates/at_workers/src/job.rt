@@ -1,8 +1,8 @@
 //! Jobs: a pass with the calls to make and their receipts.
 
 ghost use Rattle.std.specs.Prelude.{◌≡◌, ◌^◌, ◌<◌, ◌≤◌, ◌++◌, [], ◌∷◌, IfErr, IfOk, IfSome, length, All, None, Some};
-ghost use Rattle.at_workers.specs.Prelude.{option_map, vec_capacity, IsCallOn, calls_of, IsPassOf, Stands};
-ghost use Rattle.at_workers.specs.Costs.{IsCalled, cost_of};
+ghost use Rattle.at_workers.specs.Prelude.{option_map, vec_capacity, IsCallOn, calls_of, IsPassOf, Stands, cost_of, past_receipts};
+ghost use Rattle.at_workers.specs.Costs.{IsCalled};
 ghost use Rattle.at_workers.specs.Jobs.{MakesNext};
 
 use crate::cost::CallCost;
@@ -83,7 +83,7 @@ impl Job {
     /// A job of which no call is made yet. Takes the memory of all its receipts first.
     pub fn new(alloc: Global, pass: Pass, calls: Vec<Call>) -> Result<Job, JobRefused>
         requires stands { Stands pass [] }
-        requires uncounted { pass.calls ≡ 0 }
+        requires unmade { pass.past ≡ [] }
         requires accounts { All (IsCallOn (length pass.knows.book.accounts)) calls.items }
         requires few { length calls.items < 2 ^ 32 }
         ensures ok { IfOk result (λ j. j ≡ record {
@@ -110,7 +110,7 @@ impl Job {
     /// first.
     pub fn noting(alloc: Global, pass: Pass, calls: Vec<Call>) -> Result<Job, JobRefused>
         requires stands { Stands pass [] }
-        requires uncounted { pass.calls ≡ 0 }
+        requires unmade { pass.past ≡ [] }
         requires accounts { All (IsCallOn (length pass.knows.book.accounts)) calls.items }
         requires few { length calls.items < 2 ^ 32 }
         ensures ok { IfOk result (λ j. j ≡ record {
@@ -135,7 +135,7 @@ impl Job {
         ensures receipts { result.1.items ≡ self.receipts }
         ensures costs { option_map (λ v. v.items) result.2 ≡ self.costs }
         ensures stands { Stands self.pass self.receipts }
-        ensures counted { self.pass.calls ≡ length self.receipts }
+        ensures past { past_receipts self.pass ≡ self.receipts }
     {
         let Job {
             pass,
@@ -151,7 +151,7 @@ impl Job {
     pub(crate) fn len(&self) -> usize
         ensures count { result ≡ length self.now.calls }
         ensures stands { Stands self.now.pass self.now.receipts }
-        ensures counted { self.now.pass.calls ≡ length self.now.receipts }
+        ensures past { past_receipts self.now.pass ≡ self.now.receipts }
         ensures costed { IfSome self.now.costs (λ list. length list ≡ length self.now.receipts) }
     {
         self.receipts.len()

@@ -1,5 +1,5 @@
-use Rattle.std.proofs.Common.{◌<◌, [], ◌∷◌, ◌++◌, length, subst, sym, ap, ◌∙◌, arith}
-use Rattle.at_example.proofs.Prelude.{All-cons, All-nil, AreTargetsOn, TargetPair, Receipt, PassTerms, Stands}
+use Rattle.std.proofs.Common.{◌≡◌, ◌<◌, List, [], ◌∷◌, ◌++◌, length, map, subst, sym, ap, ◌∙◌, arith}
+use Rattle.at_example.proofs.Prelude.{All-cons, All-nil, AreTargetsOn, TargetPair, Receipt, past_receipts-more, PassTerms, PastCall, Stands, past_receipts}
 use Rattle.at_example.proofs.deal.Goals as goal
 
 pub pay-paid_out-requires-clause-targets : goal.pay-paid_out-requires-clause-targets
@@ -7,6 +7,13 @@ pay-paid_out-requires-clause-targets c =
     let P : TargetPair → Type 0 = λ t. t.0 < length c.args.ledger.now.book.accounts in
     subst (AreTargetsOn (length c.args.ledger.now.book.accounts)) (sym (c.push.ensures ∙ ap (λ ts. ts ++ (3, 5) ∷ []) c.one-targets.ensures))
     (All-cons P (0, 10) ((3, 5) ∷ []) (omega (arith, c.requires.four)) (All-cons P (3, 5) [] (omega (arith, c.requires.four)) (All-nil P)))
+
+-- the receipts of calls
+abbrev receipts_in : List PastCall → List Receipt
+receipts_in calls = map (λ c. c.receipt) calls
+
+none_made : {calls : List PastCall} → calls ≡ [] → receipts_in calls ≡ []
+none_made none = ap receipts_in none
 
 pub returns-clause-zero : goal.returns-clause-zero
 returns-clause-zero c =
@@ -20,14 +27,9 @@ returns-clause-zero c =
       stands = c.read-paid_in.ensures.made.stands (paid ∷ short ∷ [])
           (subst (λ p. Stands p (paid ∷ short ∷ [])) (sym same)
           (c.transfer-short.ensures.made.stands (paid ∷ []) (c.transfer-paid.ensures.made.stands [] c.requires.zero.stands)));
-      counted = omega (
-        arith,
-        c.read-paid_in.ensures.calls,
-        ap (λ (p : PassTerms). p.calls) same,
-        c.transfer-short.ensures.calls,
-        c.transfer-paid.ensures.calls,
-        c.requires.zero.calls_are,
-      );
+      made = past_receipts-more c.note-note.new.pass c.read-paid_in.new.pass c.read-paid_in.result (paid ∷ short ∷ []) c.read-paid_in.ensures.past
+          (ap past_receipts same ∙ past_receipts-more c.transfer-paid.new.pass c.transfer-short.new.pass short (paid ∷ []) c.transfer-short.ensures.past
+          (past_receipts-more c.args.zero.now c.transfer-paid.new.pass paid [] c.transfer-paid.ensures.past (none_made c.requires.zero.past_none)));
     }
 
 pub returns-clause-one : goal.returns-clause-one
@@ -41,12 +43,7 @@ returns-clause-one c =
       stands = c.pay-paid_out.ensures.made.stands (agreed ∷ rest ∷ [])
           (c.read-rest.ensures.made.stands (agreed ∷ [])
           (c.learn.ensures.stands (agreed ∷ []) (c.transfer-agreed.ensures.made.stands [] c.requires.one.stands)));
-      counted = omega (
-        arith,
-        c.pay-paid_out.ensures.calls,
-        c.read-rest.ensures.calls,
-        c.learn.ensures.calls,
-        c.transfer-agreed.ensures.calls,
-        c.requires.one.calls_are,
-      );
+      made = past_receipts-more c.read-rest.new.pass c.pay-paid_out.new.pass c.pay-paid_out.result (agreed ∷ rest ∷ []) c.pay-paid_out.ensures.past
+          (past_receipts-more c.learn.new.pass c.read-rest.new.pass rest (agreed ∷ []) c.read-rest.ensures.past
+          (ap receipts_in c.learn.ensures.past ∙ past_receipts-more c.args.one.now c.transfer-agreed.new.pass agreed [] c.transfer-agreed.ensures.past (none_made c.requires.one.past_none)));
     }

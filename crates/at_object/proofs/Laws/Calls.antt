@@ -1,6 +1,6 @@
 -- What a call leaves of its pass, whichever call it is: the fields that payments and reads have alike.
-use Rattle.std.proofs.Common.{◌≡◌, ◌≤◌, ◌++◌, List, [], ◌∷◌}
-use Rattle.at_object.proofs.Prelude.{BookTerms, Call, Pay, Read, Transfer, IsPrefix, IsPlaced, Receipt, CallMade, PassTerms, Stands, others_counted}
+use Rattle.std.proofs.Common.{◌≡◌, ◌≤◌, ◌++◌, List, [], ◌∷◌, map, ap, ◌∙◌}
+use Rattle.at_object.proofs.Prelude.{BookTerms, Call, Pay, Read, Transfer, IsPrefix, IsPlaced, map-append, Receipt, CallMade, PassTerms, PastCall, Stands, others_counted, past_call, past_receipts}
 
 module _ (b : BookTerms) (before after : PassTerms) where
   -- the receipt has the call
@@ -38,3 +38,10 @@ module _ (b : BookTerms) (before after : PassTerms) where
   counted-CallMade (Transfer from to amount) r made = made.counted
   counted-CallMade (Read account) r made = made.counted
   counted-CallMade (Pay from targets) r made = made.counted
+
+-- one more call of a pass, one more receipt
+pub past_receipts-more : (before after : PassTerms) (r : Receipt) (receipts : List Receipt) → after.past ≡ before.past ++ past_call before after r ∷ []
+    → past_receipts before ≡ receipts → past_receipts after ≡ receipts ++ r ∷ []
+past_receipts-more before after r receipts past were =
+    ap (λ (calls : List PastCall). map (λ (c : PastCall). c.receipt) calls) past
+    ∙ (map-append (λ (c : PastCall). c.receipt) before.past (past_call before after r ∷ []) ∙ ap (λ (list : List Receipt). list ++ r ∷ []) were)

@@ -1,5 +1,5 @@
 -- What is left of a pass whose seat takes in what a note or an overview has.
-use Rattle.std.proofs.Common.{◌≡◌, ℕ, List, length, refl, sym, ap, subst, ◌∙◌, arith, get_or}
+use Rattle.std.proofs.Common.{◌≡◌, ◌≤◌, ℕ, List, length, refl, sym, ap, subst, ◌∙◌, arith, get_or}
 use Rattle.at_object.proofs.Prelude.{HasSlot, IsPrefix, named, owns_of, Publication, asking_on, loads_of, own_part, IsKept, SeatTerms, Knowledge, SeenDecision, SeenRequest, named-IsBetweenCalls, AsksNothing, HasMoved, IsBetweenCalls-still, owns_of-still, Told-IsPrefix, IsBetweenCalls, StaysCounted-HasCounted, Told, Receipt, IsOfOnePass, pass_of, Stands, sent_by, Rest}
 use Rattle.at_object.proofs.Laws.Alone.{IsPass-HasMoved}
 use Rattle.at_object.proofs.Laws.OnePass.{IsOfOnePass-same}
@@ -40,12 +40,12 @@ module _ (before after : SeatTerms) (rest : Rest) (list : List Publication) (req
   owns = owns_of-still v.book v w moved pass.pass.between nothing published
 
   -- its type keeps the same of it
-  pub IsOfOnePass-learned : after.board ≡ before.board → IsOfOnePass after rest
-  IsOfOnePass-learned board =
+  pub IsOfOnePass-learned : after.board ≡ before.board → before.steps ≤ after.steps → before.exchanges ≤ after.exchanges → IsOfOnePass after rest
+  IsOfOnePass-learned board steps exchanges =
       let was = rest.totals in
       let sent = rest.sent in
       IsOfOnePass-same before after rest rest pass board moved.process
-      (λ p. omega (arith, ap (λ (t : Knowledge). (loads_of (own_part t) p).times) same)) refl
+      (λ p. omega (arith, ap (λ (t : Knowledge). (loads_of (own_part t) p).times) same)) steps exchanges refl refl
       (IsPass-HasMoved v.book v w was was sent sent moved between
       (StaysCounted-HasCounted was v.book v.seen pass.pass.counted w.seen more)
       (ap (λ p. get_or was.upto p 0) moved.process ∙ (pass.pass.own_counted ∙ sym published)) (pass.pass.sent_is ∙ sym owns)

@@ -1,6 +1,6 @@
 -- What a payment leaves of its pass, whichever way it went.
 use Rattle.std.proofs.Common.{◌≡◌, ℕ, ◌+◌, ◌<◌, ◌≤◌, ◌⊎◌, ◌&&◌, ◌||◌, ◌==◌, Bool, true, false, cond, List, ◌∷◌, [], ◌++◌, None, Some, length, refl, sym, ap, subst, ◌∙◌, arith, inl, inr}
-use Rattle.at_object.proofs.Prelude.{cases_Bool, is_shared, is_single, BookTerms, HasSlot, account_of, is_owner, TargetPair, first_account, first_account-payout, payout_of, Call, Reply, Done, Short, Full, NotOwner, single_or_shared, prefix_of, IsHistory, own_part, IsKept, Knowledge, length-prefix_of-le, Told-call, asks_in-push_still, owns_in-push, named-IsBetweenCalls, HasMoved, IsBetweenCalls, TotalSums, IsPrefix-refl, one_if, IsPlaced, has_no_room, full, not_owner, asks_in, is_at_own, is_at_round, owns_in, Told, Previous, Receipt, PaysAlone, PaysInRound, PaymentMade, IsPass, PassTerms, Stands, asked_by, one_more_call, others_counted, sent_by, IsDecidedByBalance, IsRefused, has_used_up, prefix_before, refusal_of, reply_of, StandsAfter, IsOnlyOwner, cut_behind, payment_reply}
+use Rattle.at_object.proofs.Prelude.{cases_Bool, is_shared, is_single, BookTerms, HasSlot, account_of, is_owner, TargetPair, first_account, first_account-payout, payout_of, Call, Pay, Read, Transfer, Reply, Done, Short, Full, NotOwner, single_or_shared, prefix_of, IsHistory, own_part, IsKept, Knowledge, length-prefix_of-le, Told-call, asks_in-push_still, owns_in-push, named-IsBetweenCalls, HasMoved, IsBetweenCalls, TotalSums, IsPrefix-refl, one_if, IsPlaced, has_no_room, full, not_owner, asks_in, is_at_own, is_at_round, owns_in, Told, Previous, Receipt, PaysAlone, PaysInRound, PaymentMade, IsPass, PassTerms, Stands, asked_by, PastCall, others_counted, sent_by, IsDecidedByBalance, IsRefused, has_used_up, prefix_before, refusal_in, refusal_of, reply_of, StandsAfter, IsOnlyOwner, cut_behind, payment_reply}
 use Rattle.std.specs.Prelude.{slice_index, sum}
 use Rattle.at_object.proofs.Laws.Alone.{moved-done, moved-short, nothing-done, nothing-short, reply-done, reply-short, short_or_done, told-done, told-short}
 use Rattle.at_object.proofs.Laws.InRound.{asks-round, loads-round, moved-round, placed-round, reply-round, told-round}
@@ -126,6 +126,13 @@ module _ (b : BookTerms) (before after : PassTerms) (source : ℕ) (targets : Li
           counted = counted;
         }
 
+-- a payment is refused for its source
+pub refusal_in-payout : (b : BookTerms) (source : ℕ) (targets : List TargetPair) (before : PassTerms) (call : Call) → payout_of call ≡ Some (source, targets)
+    → refusal_in b before call ≡ refusal_of b before source
+refusal_in-payout b source targets before (Transfer from to amount) payout = ap (λ a. refusal_of b before a) (first_account-payout source targets (Transfer from to amount) payout)
+refusal_in-payout b source targets before (Read account) payout = absurd (cc payout)
+refusal_in-payout b source targets before (Pay from amounts) payout = ap (λ a. refusal_of b before a) (first_account-payout source targets (Pay from amounts) payout)
+
 -- why a call is refused, and what it then answers
 refused_cases : (owner used : Bool) (decided reply : Reply) → cond owner (cond used (Some Full) None) (Some NotOwner) ≡ Some reply
     → (reply ≡ cond owner (cond used Full decided) NotOwner) × (((owner ≡ false) × (reply ≡ NotOwner)) ⊎ ((owner ≡ true) × (used ≡ true) × (reply ≡ Full)))
@@ -154,11 +161,11 @@ module _ (b : BookTerms) (before : PassTerms) (source : ℕ) (kept : IsKept befo
       ] in
       sym (ap (λ t. t || (shared && (asked_by before source == b.request_room))) owns ∙ ap (λ t. (single && (owns_in earlier == b.own_room)) || t) asks) ∙ used
 
-  -- a refused call
-  module _ (targets : List TargetPair) (call : Call) (r : Receipt) (call_is : r.call ≡ call) (at : r.at ≡ Previous)
+  -- a refused call, after which so many calls were made, these
+  module _ (targets : List TargetPair) (call : Call) (r : Receipt) (calls : ℕ) (past : List PastCall) (call_is : r.call ≡ call) (at : r.at ≡ Previous)
       (payout : payout_of call ≡ Some (source, targets)) (because : refusal_of b before source ≡ Some r.reply) where
     abbrev after : PassTerms
-    after = record before { calls = one_more_call before.calls }
+    after = record before { calls = calls; past = past }
 
     cases : (r.reply ≡ reply_of b before after source targets r)
         × (((is_owner b before.knows.first source ≡ false) × (r.reply ≡ NotOwner))

@@ -29,8 +29,8 @@ new_seat-at b id seats before after seat new parts =
 
 -- a pass that is made of it is new
 pub IsNewPass-starting : (b : BookTerms) (id : TableId) (p : ℕ) (seat : SeatTerms) (pass : PassTerms) → seat ≡ new_seat b id p
-    → seat_of pass ≡ seat → pass.calls ≡ 0 → pass.counted ≡ replicate b.processes 0 → IsNewPass (record { id = id; book = b }) p pass
-IsNewPass-starting b id p seat pass is of calls counted =
+    → seat_of pass ≡ seat → pass.calls ≡ 0 → pass.past ≡ [] → pass.counted ≡ replicate b.processes 0 → IsNewPass (record { id = id; book = b }) p pass
+IsNewPass-starting b id p seat pass is of calls past counted =
     let new : seat_of pass ≡ new_seat b id p = of ∙ is in
     let same : pass.knows ≡ starting_seat b p = ap (λ (s : SeatTerms). s.knows) new in record {
       of_ledger = record { id = ap (λ (s : SeatTerms). s.board) new; book = ap (λ (v : Knowledge). v.book) same };
@@ -39,6 +39,7 @@ IsNewPass-starting b id p seat pass is of calls counted =
       steps_are = ap (λ (s : SeatTerms). s.steps) new;
       exchanges_are = ap (λ (s : SeatTerms). s.exchanges) new;
       calls_are = calls;
+      past_none = past;
       counted_none = ap sum counted ∙ place-zeros b.processes;
       asked_none = λ a. ap (λ (v : Knowledge). length (asking_on (own_part v) a).announced) same
           ∙ ap (λ (row : List Request). length row) (announced-starting b p a 0);
@@ -52,13 +53,13 @@ AreNewSoFar b seats passes = (id : TableId) → AreNew b id seats → (p : ℕ) 
 
 pub AreNewSoFar-more : (b : BookTerms) (seats before after : List SeatTerms) (seat : SeatTerms) (passes : List PassTerms) (pass : PassTerms)
     → AreNewSoFar b seats passes → seats ≡ before ++ seat ∷ after → length passes ≡ length before
-    → seat_of pass ≡ seat → pass.calls ≡ 0 → pass.counted ≡ replicate b.processes 0 → AreNewSoFar b seats (passes ++ pass ∷ [])
-AreNewSoFar-more b seats before after seat passes pass made parts count of calls counted =
+    → seat_of pass ≡ seat → pass.calls ≡ 0 → pass.past ≡ [] → pass.counted ≡ replicate b.processes 0 → AreNewSoFar b seats (passes ++ pass ∷ [])
+AreNewSoFar-more b seats before after seat passes pass made parts count of calls past counted =
     λ id new p d within.
     let ledger : BoardTerms = record { id = id; book = b } in
     let last : IsNewPass ledger (length passes) pass =
     IsNewPass-starting b id (length passes) seat pass
-    (new_seat-at b id seats before after seat new parts ∙ ap (new_seat b id) (sym count)) of calls counted in
+    (new_seat-at b id seats before after seat new parts ∙ ap (new_seat b id) (sym count)) of calls past counted in
     below_more (λ k. IsNewPass ledger k (get_or (passes ++ pass ∷ []) k d)) (length passes)
     (λ k below. subst (IsNewPass ledger k) (sym (get_or_append_left passes (pass ∷ []) d k below)) (made id new k d below))
     (subst (IsNewPass ledger (length passes)) (sym (get_or_at passes pass [] d (length passes) refl)) last)

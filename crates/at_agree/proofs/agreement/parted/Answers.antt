@@ -16,5 +16,5 @@ loop-vote-preserved c =
           ∙ (map-append items c.loop-vote.receipts.items (c.in_ok-pass.told ∷ [])
           ∙ ((λ t. c.loop-vote.invariant.receipts t ++ c.in_ok-pass.ensures.receipts t ∷ []) ∙ sym (map-append told done (x ∷ []))));
       stands = All-push StandsByItself done x c.loop-vote.invariant.stands
-          (record { stands = c.split.ensures.stands; counted = c.split.ensures.counted });
+          (record { stands = c.split.ensures.stands; past = c.split.ensures.past });
     }

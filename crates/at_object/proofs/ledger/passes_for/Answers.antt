@@ -13,9 +13,10 @@ invariant_of-push c =
     c.loop-seat.invariant.seats ∙ ap (λ ss. done ++ ss) c.in-Some.ensures.steps.0 in
     let is = new_seat-at b id c.args.seats.items done c.next.new.self.rest.items seat c.requires.1 parts in
     record {
-      pass = subst (λ (s : SeatTerms). IsPass s.knows c.in_ok-new.field-0 0) (sym is)
-          (IsPass-starting b (length done) c.in_ok-new.field-0 c.in_ok-new.ensures.upto c.in_ok-new.ensures.counted);
+      pass = subst (λ (s : SeatTerms). IsPass s.knows c.in_ok-totals.totals 0) (sym is)
+          (IsPass-starting b (length done) c.in_ok-totals.totals c.in_ok-totals.ensures.upto c.in_ok-totals.ensures.counted);
       calls = c.new-in-loop-seat.ensures.of;
+      counted = c.new-in-loop-seat.ensures.totals;
     }
 
 pub loop-seat-preserved : goal.loop-seat-preserved
@@ -25,7 +26,7 @@ loop-seat-preserved c =
     let seat : SeatTerms = c.in-Some.seat in
     let left = c.next.new.self.rest.items in
     let passes = c.loop-seat.passes.items in
-    let pass : PassTerms = pass_of seat (record { totals = c.in_ok-new.field-0; sent = 0; calls = c.new-in-loop-seat.result }) in
+    let pass : PassTerms = pass_of seat (record { totals = c.in_ok-totals.totals; sent = 0; calls = c.new-in-loop-seat.result }) in
     let parts : c.args.seats.items ≡ done ++ seat ∷ left = c.loop-seat.invariant.seats ∙ ap (λ ss. done ++ ss) c.in-Some.ensures.steps.0 in
     let more : c.push.new.self.items ≡ passes ++ pass ∷ [] = c.in_ok-push.ensures.items in
     record {
@@ -36,7 +37,7 @@ loop-seat-preserved c =
           ∙ omega (arith, length-append passes (pass ∷ []), length-append done (seat ∷ []), c.loop-seat.invariant.count);
       made = subst (AreNewSoFar b c.args.seats.items) (sym more)
           (AreNewSoFar-more b c.args.seats.items done left seat passes pass c.loop-seat.invariant.made parts c.loop-seat.invariant.count
-          refl c.new-in-loop-seat.ensures.none c.in_ok-new.ensures.upto);
+          refl c.new-in-loop-seat.ensures.none c.new-in-loop-seat.ensures.past c.in_ok-totals.ensures.upto);
     }
 
 pub returns : goal.returns

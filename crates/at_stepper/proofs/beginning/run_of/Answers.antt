@@ -11,12 +11,12 @@ new-requires-clause-stands c =
     (sym c.loop-calls.invariant.starts ∙ c.in-Some-next.ensures.items) (sym c.loop-calls.invariant.files ∙ c.in-Some.ensures.steps.0)
     c.requires.passes).stands
 
-pub new-requires-clause-uncounted : goal.new-requires-clause-uncounted
-new-requires-clause-uncounted c =
+pub new-requires-clause-unmade : goal.new-requires-clause-unmade
+new-requires-clause-unmade c =
     (IsNewPass-next c.args.memory.ledger c.args.memory.starts.items c.args.files.items (length c.loop-calls.callers.items) c.in-Some-next.start
     c.next-in-loop-calls.new.self.rest.items c.in-Some.calls c.next.new.self.rest.items
     (sym c.loop-calls.invariant.starts ∙ c.in-Some-next.ensures.items) (sym c.loop-calls.invariant.files ∙ c.in-Some.ensures.steps.0)
-    c.requires.passes).calls_are
+    c.requires.passes).past_none
 
 pub new-requires-clause-file : goal.new-requires-clause-file
 new-requires-clause-file c =

@@ -28,7 +28,7 @@ loop-caller-preserved c =
           (subst (λ (rs : List (List Receipt)). AreSplit (done ++ caller ∷ []) (passes ++ caller.pass ∷ []) rs)
           (sym (more_lists ∙ ap (λ (x : List Receipt). lists ++ x ∷ []) told.receipts))
           (AreSplit-push done passes lists caller kept.split
-          (record { between = told.between; stands = told.stands; counted = told.counted; made = told.made; few = told.few })));
+          (record { between = told.between; stands = told.stands; past = told.past; made = told.made; few = told.few })));
       room = omega (arith, kept.room, c.push_reserved.ensures.len, c.push_reserved.ensures.capacity, c.in-Some.ensures.steps.1);
       list_room = omega (
         arith,

@@ -4,7 +4,7 @@ use Rattle.at_workers.proofs.play.play_one.Goals as goal
 
 pub loop-index-init : goal.loop-index-init
 loop-index-init g c = (
-  HasPlayed-none c.args.ledger.now c.args.job.now c.requires c.len-index-end.ensures.stands c.len-index-end.ensures.counted
+  HasPlayed-none c.args.ledger.now c.args.job.now c.requires c.len-index-end.ensures.stands c.len-index-end.ensures.past
       c.len-index-end.ensures.costed,
   c.len-index-end.ensures.count,
 )

@@ -18,7 +18,7 @@ invariant_of-self c =
     IsVoice-made c.args.ledger.now c.self.inside.pass c.transfer-asked.new.pass c.self.inside.receipts.items
     c.push.new.self.items c.transfer-asked.result
     was c.transfer-asked.ensures.pass c.self.invariant more c.transfer-asked.ensures.made.stands
-    c.transfer-asked.ensures.calls c.transfer-asked.ensures.made.process_is c.push.ensures.items
+    c.transfer-asked.ensures.past c.transfer-asked.ensures.made.process_is c.push.ensures.items
 
 pub returns-clause-asked : goal.returns-clause-asked
 returns-clause-asked c =

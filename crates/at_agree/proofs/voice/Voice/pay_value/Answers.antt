@@ -19,7 +19,7 @@ invariant_of-self c =
     IsVoice-made c.args.ledger.now c.self.inside.pass c.transfer-paid.new.pass c.self.inside.receipts.items
     c.push.new.self.items c.transfer-paid.result
     was c.transfer-paid.ensures.pass c.self.invariant more c.transfer-paid.ensures.made.stands
-    c.transfer-paid.ensures.calls c.transfer-paid.ensures.made.process_is c.push.ensures.items
+    c.transfer-paid.ensures.past c.transfer-paid.ensures.made.process_is c.push.ensures.items
 
 pub returns-clause-proposed : goal.returns-clause-proposed
 returns-clause-proposed c =

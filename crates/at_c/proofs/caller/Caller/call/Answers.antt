@@ -11,5 +11,5 @@ invariant_of-self c =
     let held : SharedTerms = record { ledger = c.behind-self.inside.ledger; names = c.behind-self.inside.names } in
     IsCaller-called (arc_value inside.shared) held inside.pass c.call-receipt.new.pass inside.receipts.items
     c.push_reserved.new.self.items c.args.call c.call-receipt.result (vec_capacity inside.receipts) (vec_capacity c.push_reserved.new.self)
-    c.self.invariant (c.behind-self.view_is ∙ c.deref.ensures) c.call-receipt.ensures.made c.call-receipt.ensures.pass c.call-receipt.ensures.calls free
+    c.self.invariant (c.behind-self.view_is ∙ c.deref.ensures) c.call-receipt.ensures.made c.call-receipt.ensures.pass c.call-receipt.ensures.past free
     c.push_reserved.ensures.items c.push_reserved.ensures.capacity on

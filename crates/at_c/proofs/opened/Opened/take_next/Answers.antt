@@ -9,7 +9,7 @@ invariant_of-self c =
     let inside = c.self.inside in
     let more = subst (λ (t : OpenedTerms). length t.passes < t.handed) (sym c.self.view_is) c.requires in
     let given = subst (λ (s : SharedTerms). IsGivenBack s.ledger c.in-Some.field-0.pass c.in-Some.field-0.receipts.items) c.deref.ensures c.in-Some.ensures.given in
-    let back : IsAccountedFor (arc_value inside.shared).ledger (length inside.passes.items) c.in-Some.field-0.pass c.in-Some.field-0.receipts.items = record { of_ledger = given.of_ledger; process_is = c.in-Some.ensures.process ∙ c.len-process.ensures ∙ c.self.inside.passes.ok.0; stands = given.stands; counted = given.counted } in
+    let back : IsAccountedFor (arc_value inside.shared).ledger (length inside.passes.items) c.in-Some.field-0.pass c.in-Some.field-0.receipts.items = record { of_ledger = given.of_ledger; process_is = c.in-Some.ensures.process ∙ c.len-process.ensures ∙ c.self.inside.passes.ok.0; stands = given.stands; made = given.past } in
     IsOpened-back (arc_value inside.shared) inside.handed inside.waiting.items inside.passes.items c.push_reserved.new.self.items
     (contents_of inside.receipts.items) (contents_of c.push_reserved-2.new.self.items) (vec_capacity inside.passes) (vec_capacity inside.receipts)
     (vec_capacity c.push_reserved.new.self) (vec_capacity c.push_reserved-2.new.self) c.in-Some.field-0.pass c.in-Some.field-0.receipts.items

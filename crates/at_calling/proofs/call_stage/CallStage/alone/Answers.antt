@@ -1,6 +1,6 @@
 use Rattle.std.proofs.Common.{ℕ, List, Some, sym, ap, ◌∙◌}
-use Rattle.at_calling.proofs.Prelude.{is_single, BookTerms, account_of, TargetPair, pass_of, PayingAloneTerms, first_step}
-use Rattle.at_calling.proofs.CallingLaws.{owner-refusal_of, refusal_in-payout, room-refusal_of}
+use Rattle.at_calling.proofs.Prelude.{is_single, BookTerms, account_of, TargetPair, pass_of, PayingAloneTerms, first_step, refusal_in-payout}
+use Rattle.at_calling.proofs.CallingLaws.{owner-refusal_of, room-refusal_of}
 use Rattle.at_calling.proofs.call_stage.CallStage.alone.Goals as goal
 
 pub start-paying-requires-clause-owner : goal.start-paying-requires-clause-owner

@@ -1,6 +1,6 @@
 use Rattle.std.proofs.Common.{ℕ, List, Some, sym, ap, ◌∙◌}
-use Rattle.at_calling.proofs.Prelude.{is_shared, BookTerms, account_of, TargetPair, pass_of, PayingSharedTerms, first_step}
-use Rattle.at_calling.proofs.CallingLaws.{asks-refusal_of, refusal_in-payout, settled-refusal_of}
+use Rattle.at_calling.proofs.Prelude.{is_shared, BookTerms, account_of, TargetPair, pass_of, PayingSharedTerms, first_step, refusal_in-payout}
+use Rattle.at_calling.proofs.CallingLaws.{asks-refusal_of, settled-refusal_of}
 use Rattle.at_calling.proofs.call_stage.CallStage.shared.Goals as goal
 
 pub start-paying-requires-clause-asks : goal.start-paying-requires-clause-asks

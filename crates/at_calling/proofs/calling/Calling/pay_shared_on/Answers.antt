@@ -1,6 +1,6 @@
-use Rattle.std.proofs.Common.{◌≡◌, ℕ, ◌<◌, ◌≤◌, ◌↔◌, IfSome, IsSome, Option, None, Some, false, true, refl, sym, ap, subst, ◌∙◌, arith}
-use Rattle.at_calling.proofs.Prelude.{sum, BookTerms, AreRuns, IsPrefix, raised, SeatTerms, Knowledge, TotalSums, payout_of, Receipt, Rest, after_one_call, pass_of, CallMade, with_one_call, CallingTerms, MakesCallStep, call_turns_left, exchanges_made, pass_before, steps_made, IsCallingSo, TakesCallTurn, calling_of, PayingSharedTerms, share_exchanges_made, share_turns_left, share_turns_most, newly_seen, CallStage, PayShared}
-use Rattle.at_calling.proofs.CallingTurns.{Leaves, TakesCallTurn-stages, calling_next, made-Leaves, IsCallingSo-shared, Leaves-shared, few-shared, still-shared, way-shared}
+use Rattle.std.proofs.Common.{◌≡◌, ℕ, ◌<◌, ◌≤◌, ◌↔◌, length, IfSome, IsSome, Option, None, Some, false, true, refl, sym, ap, subst, ◌∙◌, arith}
+use Rattle.at_calling.proofs.Prelude.{sum, BookTerms, AreRuns, IsCallOn, IsPrefix, raised, SeatTerms, Knowledge, TotalSums, payout_of, Receipt, Rest, after_one_call, pass_of, PassTerms, CallMade, StaysWithin, with_one_call, CallingTerms, CountsCall, MakesCallStep, call_turns_left, exchanges_made, pass_before, steps_made, IsCallingSo, TakesCallTurn, calling_of, PayingSharedTerms, share_exchanges_made, share_turns_left, share_turns_most, newly_seen, CallStage, PayShared}
+use Rattle.at_calling.proofs.CallingTurns.{IsCallOn-IsCallingSo, Leaves, TakesCallTurn-stages, calling_next, made-Leaves, within-Leaves, IsCallingSo-shared, Leaves-shared, few-shared, still-shared, way-shared}
 use Rattle.at_calling.proofs.calling.Calling.pay_shared_on.Goals.{After-known, After-receipt_of-receipt, After-self}
 use Rattle.at_calling.proofs.calling.Calling.pay_shared_on.Goals as goal
 
@@ -49,7 +49,7 @@ turned : (c : After-known) (mark : SeatTerms) → mark ≡ c.turn-paid.new.seat 
     → rest ≡ now → (answer : Option Receipt)
     → (IsSome answer ↔ (call_turns_left c.args.board.now.book (PayShared c.turn-paid.new.self) ≡ 0))
     → IfSome answer (Leaves c.args.board.now.book c.args.self.now c.turn-paid.new.seat now c.turn-paid.new.self.turns (share_exchanges_made c.turn-paid.new.self))
-    → IfSome answer (λ r. now.calls ≡ with_one_call c.turn-paid.new.seat c.args.self.now.was.calls)
+    → IfSome answer (CountsCall c.args.self.now c.turn-paid.new.seat now)
     → TakesCallTurn c.args.board.now.book c.args.overview.now.seen c.args.self.now (calling_next (calling_of c.self.inside)
     (PayShared c.turn-paid.new.self) mark rest) c.args.seat.now c.turn-paid.new.seat now answer
 turned c mark mark_is now totals_are rest rest_is answer ends leaves calls =
@@ -88,7 +88,7 @@ abbrev rest_before : After-receipt_of-receipt → Rest
 rest_before c = record { totals = c.turn-paid.new.totals; sent = c.args.rest.now.sent; calls = c.args.rest.now.calls }
 
 abbrev rest_after : After-receipt_of-receipt → Rest
-rest_after c = after_one_call c.turn-paid.new.seat (rest_before c)
+rest_after c = after_one_call c.args.self.now.start c.turn-paid.new.seat (receipt c) (rest_before c)
 
 calls_before : (c : After-receipt_of-receipt) → c.args.rest.now.calls ≡ c.args.self.now.was.calls
 calls_before c =
@@ -98,8 +98,8 @@ calls_before c =
     ∙ (still-shared c.args.board.now c.args.self.now (so first) c.args.seat.now c.requires.mark c.requires.board c.turn-paid.new.seat c.turn-paid.ensures.board
     c.in-PayShared.paying (stage_is known) (left known)).calls_are
 
-calls_after : (c : After-receipt_of-receipt) → (rest_after c).calls ≡ with_one_call c.turn-paid.new.seat c.args.self.now.was.calls
-calls_after c = ap (with_one_call c.turn-paid.new.seat) (calls_before c)
+calls_after : (c : After-receipt_of-receipt) → CountsCall c.args.self.now c.turn-paid.new.seat (rest_after c) (receipt c)
+calls_after c = ap (with_one_call c.args.self.now.start c.turn-paid.new.seat c.turn-paid.new.totals (receipt c)) (calls_before c)
 
 -- it is one of the payment
 way : (c : After-receipt_of-receipt) → let p = c.in-PayShared.paying in payout_of c.args.self.now.call ≡ Some (p.account, p.targets)
@@ -136,10 +136,32 @@ pub count_call-requires-clause-made : goal.count_call-requires-clause-made
 count_call-requires-clause-made c =
     let ended = (goal.at.count_call-requires-clause-made c).After-receipt_of-receipt in
     let b : BookTerms = c.args.board.now.book in
-    let after = pass_of c.turn-paid.new.seat (rest_after ended) in
-    subst (λ (t : CallingTerms). CallMade b (pass_before t) after c.receipt_of-receipt.result.call c.receipt_of-receipt.result) (sym c.self.view_is)
-    (subst (λ (r : Receipt). CallMade b (pass_before c.args.self.now) after r.call r) (sym (same_receipt ended))
+    let after : SeatTerms → Receipt → PassTerms =
+    λ start r. pass_of c.turn-paid.new.seat (after_one_call start c.turn-paid.new.seat r (rest_before ended)) in
+    let r : Receipt = c.receipt_of-receipt.result in
+    subst (λ (t : CallingTerms). CallMade b (pass_before t) (after t.start r) r.call r) (sym c.self.view_is)
+    (subst (λ (q : Receipt). CallMade b (pass_before c.args.self.now) (after c.args.self.now.start q) q.call q) (sym (same_receipt ended))
     (made-Leaves b c.args.self.now c.turn-paid.new.seat (rest_after ended) c.turn-paid.new.self.turns (share_exchanges_made c.turn-paid.new.self) (receipt ended) (leaves ended)))
+
+pub count_call-requires-clause-within : goal.count_call-requires-clause-within
+count_call-requires-clause-within c =
+    let ended = (goal.at.count_call-requires-clause-within c).After-receipt_of-receipt in
+    let b : BookTerms = c.args.board.now.book in
+    let after : SeatTerms → Receipt → PassTerms =
+    λ start r. pass_of c.turn-paid.new.seat (after_one_call start c.turn-paid.new.seat r (rest_before ended)) in
+    let r : Receipt = c.receipt_of-receipt.result in
+    subst (λ (t : CallingTerms). StaysWithin b (pass_before t) (after t.start r) r.call r) (sym c.self.view_is)
+    (subst (λ (q : Receipt). StaysWithin b (pass_before c.args.self.now) (after c.args.self.now.start q) q.call q) (sym (same_receipt ended))
+    (within-Leaves b c.args.self.now c.turn-paid.new.seat (rest_after ended) c.turn-paid.new.self.turns (share_exchanges_made c.turn-paid.new.self) (receipt ended) (leaves ended)
+    (steps (goal.at.After-receipt_of-receipt ended).After-known) (exchanges (goal.at.After-receipt_of-receipt ended).After-known)))
+
+pub count_call-requires-clause-call : goal.count_call-requires-clause-call
+count_call-requires-clause-call c =
+    let ended = (goal.at.count_call-requires-clause-call c).After-receipt_of-receipt in
+    let known = (goal.at.After-receipt_of-receipt ended).After-known in
+    let t : CallingTerms = c.args.self.now in
+    subst (λ (r : Receipt). IsCallOn (length c.args.board.now.book.accounts) r.call) (sym (same_receipt ended))
+    (IsCallOn-IsCallingSo c.args.board.now t (so (goal.at.After-known known).After-self) c.args.seat.now c.requires.mark c.requires.board)
 
 -- the call goes on
 pub invariant_of-self : goal.invariant_of-self
@@ -187,9 +209,12 @@ returns-clause-turned c =
     let b : BookTerms = c.args.board.now.book in
     let next : CallingTerms = calling_next (calling_of c.self.inside) (PayShared c.turn-paid.new.self) c.of.result.value c.of-3.result.value in
     let now : Rest = c.count_call.new.self in
-    let is : now ≡ rest_after ended = c.count_call.ensures in
+    let is : now ≡ rest_after ended =
+    c.count_call.ensures
+    ∙ (ap (λ (t : CallingTerms). after_one_call t.start c.turn-paid.new.seat c.receipt_of-receipt.result (rest_before ended)) c.self.view_is
+    ∙ ap (λ (r : Receipt). after_one_call c.args.self.now.start c.turn-paid.new.seat r (rest_before ended)) (same_receipt ended)) in
     subst (λ (r : Receipt). TakesCallTurn b c.args.overview.now.seen c.args.self.now next c.args.seat.now c.turn-paid.new.seat now (Some r)) (sym (same_receipt ended))
     (turned known c.of.result.value c.of.ensures now (ap (λ (q : Rest). q.totals) is) c.of-3.result.value c.of-3.ensures (Some (receipt ended))
     (λ some. c.in_ok-answer.ensures.ends.0 refl, λ none. refl)
     (subst (λ (q : Rest). Leaves b c.args.self.now c.turn-paid.new.seat q c.turn-paid.new.self.turns (share_exchanges_made c.turn-paid.new.self) (receipt ended)) (sym is) (leaves ended))
-    (ap (λ (q : Rest). q.calls) is ∙ calls_after ended))
+    (subst (λ (q : Rest). CountsCall c.args.self.now c.turn-paid.new.seat q (receipt ended)) (sym is) (calls_after ended)))

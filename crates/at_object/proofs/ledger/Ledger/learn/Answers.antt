@@ -1,4 +1,4 @@
-use Rattle.std.proofs.Common.{◌++◌, subst, sym, ap, ◌∙◌}
+use Rattle.std.proofs.Common.{◌++◌, arith, subst, sym, ap, ◌∙◌}
 use Rattle.at_object.proofs.Prelude.{longer, Knowledge, PassTerms, Stands, sent_by}
 use Rattle.at_object.proofs.Laws.Learning.{IsOfOnePass-learned, Stands-learned, sent_by-learned}
 use Rattle.at_object.proofs.ledger.Ledger.learn.Goals as goal
@@ -9,7 +9,7 @@ invariant_of-pass c =
     let v : Knowledge = c.pass.inside.seat.knows in
     let w : Knowledge = c.note.inside.note.knows in
     IsOfOnePass-learned c.pass.inside.seat c.learn.new.seat c.pass.inside.rest (longer v.seen w.seen) (v.requests ++ w.requests) (v.decisions ++ w.decisions)
-    c.pass.invariant c.known.ensures.seat learned.learned.same learned.learned.more learned.seat learned.board
+    c.pass.invariant c.known.ensures.seat learned.learned.same learned.learned.more learned.seat learned.board (omega (arith, learned.steps)) (omega (arith, learned.exchanges))
 
 pub returns-clause-stands : goal.returns-clause-stands
 returns-clause-stands c = λ receipts stands.

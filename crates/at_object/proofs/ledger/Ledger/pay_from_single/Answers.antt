@@ -1,23 +1,23 @@
-use Rattle.std.proofs.Common.{◌≡◌, false, Some, length, refl, sym, ap, subst, ◌∙◌, arith}
-use Rattle.at_object.proofs.Prelude.{BookTerms, Call, Pay, owns_of, BoardTerms, asking_on, own_part, Asking, Knowledge, payout_of, Receipt, PaysAlone, PaymentMade, pass_of, IsPass, PassTerms, has_used_up, Rest, IsOnlyOwner}
+use Rattle.std.proofs.Common.{◌≡◌, List, [], ◌∷◌, ◌++◌, false, Some, length, refl, sym, ap, subst, ◌∙◌, arith}
+use Rattle.at_object.proofs.Prelude.{BookTerms, Call, owns_of, BoardTerms, asking_on, own_part, Asking, Knowledge, payout_of, Receipt, PaysAlone, PaymentMade, pass_of, IsPass, PassTerms, SeatTerms, past_call, with_one_call, has_used_up, Rest, IsOnlyOwner}
 use Rattle.at_object.proofs.Laws.Alone.{IsPass-alone, asking-alone}
 use Rattle.at_object.proofs.Laws.Made.{PaymentMade-alone, others-le}
-use Rattle.at_object.proofs.Laws.OnePass.{IsOfOnePass-counted}
+use Rattle.at_object.proofs.Laws.OnePass.{IsOfOnePass-counted, past-counted}
 use Rattle.at_object.proofs.Laws.Room.{sent-room}
-use Rattle.at_object.proofs.ledger.Ledger.pay_from_single.Goals.{After-count_one}
+use Rattle.at_object.proofs.ledger.Ledger.pay_from_single.Goals.{After-drop-start}
 use Rattle.at_object.proofs.ledger.Ledger.pay_from_single.Goals as goal
 
 -- the book that the pass's seat knows is the ledger's
-book : (c : After-count_one) → c.pass.inside.seat.knows.book ≡ c.self.inside.board.book
+book : (c : After-drop-start) → c.pass.inside.seat.knows.book ≡ c.self.inside.board.book
 book c =
     ap (λ (t : PassTerms). t.knows.book) c.pass.view_is ∙ (c.requires.pass.book ∙ sym (ap (λ (t : BoardTerms). t.book) c.self.view_is))
 
 -- the receipt of a call
-abbrev receipt_of : After-count_one → Call → Receipt
+abbrev receipt_of : After-drop-start → Call → Receipt
 receipt_of c call = record { call = call; reply = c.pay_single-paid.result.0; at = c.pay_single-paid.result.1 }
 
 -- it was paid, whichever call it was
-paid : (c : After-count_one) (call : Call) → payout_of call ≡ Some (c.args.source, c.args.targets.now)
+paid : (c : After-drop-start) (call : Call) → payout_of call ≡ Some (c.args.source, c.args.targets.now)
     → PaysAlone c.self.inside.board.book c.pass.inside.seat.knows c.pay_single-paid.new.seat.knows c.args.source c.args.targets.now call (receipt_of c call)
 paid c call payout =
     let told = c.pay_single-paid.ensures in
@@ -30,10 +30,6 @@ paid c call payout =
       short = told.short;
       done = told.done;
     }
-
--- as a pay-out
-abbrev paying : After-count_one → Call
-paying c = Pay c.args.source c.args.targets.now
 
 pub pay_single-paid-requires-clause-room : goal.pay_single-paid-requires-clause-room
 pay_single-paid-requires-clause-room c =
@@ -75,23 +71,24 @@ sent_after-pass-inside-requires c =
     )
 
 -- the rest of the pass
-abbrev rest_after : After-count_one → Rest
+abbrev rest_after : After-drop-start → Rest
 rest_after c = record { totals = c.pay_single-paid.new.totals; sent = c.sent_after-pass-inside.result; calls = c.count_one.new.self }
 
 pub invariant_of-pass : goal.invariant_of-pass
 invariant_of-pass c =
     let told = c.pay_single-paid.ensures in
-    let p = paid c (paying c) refl in
+    let call : Call = c.args.call.now in
+    let p = paid c call c.requires.call in
     let was = c.pass.inside.rest in
-    IsOfOnePass-counted c.pay_single-paid.new.seat was (rest_after c)
-    c.count_one.ensures
+    IsOfOnePass-counted c.of-start.result.value c.pay_single-paid.new.seat (receipt_of c call) was (rest_after c) c.count_one.ensures
     (subst (IsPass c.pay_single-paid.new.seat.knows c.pay_single-paid.new.totals) (sym c.sent_after-pass-inside.ensures)
     (IsPass-alone c.self.inside.board.book c.pass.inside.seat.knows c.pay_single-paid.new.seat.knows c.known.ensures.seat c.known-2.ensures.seat (book c)
-    told.board.book was.totals was.sent c.pass.invariant.pass c.args.source c.args.targets.now (paying c) (receipt_of c (paying c))
+    told.board.book was.totals was.sent c.pass.invariant.pass c.args.source c.args.targets.now call (receipt_of c call)
     p c.pay_single-paid.new.totals told.counted told.own_counted))
 
 pub returns-clause-made : goal.returns-clause-made
-returns-clause-made c = λ call payout.
+returns-clause-made c =
+    let call : Call = c.args.call.now in
     let told = c.pay_single-paid.ensures in
     let b : BookTerms = c.self.inside.board.book in
     let v : Knowledge = c.pass.inside.seat.knows in
@@ -111,12 +108,22 @@ returns-clause-made c = λ call payout.
     (subst (λ (t : PassTerms). PaymentMade b t after c.args.source targets call r) c.pass.view_is
     (PaymentMade-alone b before after c.args.source targets call r c.known.ensures.seat c.known-2.ensures.seat
     (book c) told.board.book was c.pass.inside.rest.sent c.pass.invariant.pass room (others-le before after was now c.pass.invariant.pass.own_counted told.own_counted told.more)
-    (omega (arith, c.requires.source, ap (λ (t : BoardTerms). length t.book.accounts) c.self.view_is)) only (paid c call payout)))
+    (omega (arith, c.requires.source, ap (λ (t : BoardTerms). length t.book.accounts) c.self.view_is)) only (paid c call c.requires.call)))
 
 pub returns-clause-decides : goal.returns-clause-decides
 returns-clause-decides c = λ a.
     ap (λ (t : Asking). t.decides)
     (asking-alone c.self.inside.board.book c.pass.inside.seat.knows c.pay_single-paid.new.seat.knows c.known.ensures.seat c.known-2.ensures.seat (book c)
-    c.pay_single-paid.ensures.board.book c.pass.inside.rest.totals c.pass.inside.rest.sent c.pass.invariant.pass c.args.source c.args.targets.now (paying c)
-    (receipt_of c (paying c)) (paid c (paying c) refl) a
+    c.pay_single-paid.ensures.board.book c.pass.inside.rest.totals c.pass.inside.rest.sent c.pass.invariant.pass c.args.source c.args.targets.now c.args.call.now
+    (receipt_of c c.args.call.now) (paid c c.args.call.now c.requires.call) a
     ∙ ap (λ (t : PassTerms). asking_on (own_part t.knows) a) c.pass.view_is)
+
+-- it is among the calls of the pass
+pub returns-clause-past : goal.returns-clause-past
+returns-clause-past c =
+    let call : Call = c.args.call.now in
+    let before : PassTerms = pass_of c.pass.inside.seat c.pass.inside.rest in
+    let after : PassTerms = pass_of c.pay_single-paid.new.seat (rest_after c) in
+    subst (λ (t : PassTerms). after.past ≡ t.past ++ past_call t after (receipt_of c call) ∷ []) c.pass.view_is
+    (past-counted c.pass.inside.seat c.pay_single-paid.new.seat (receipt_of c call) c.pass.inside.rest (rest_after c) c.pass.invariant.counted
+    (c.count_one.ensures ∙ ap (λ (s : SeatTerms). with_one_call s c.pay_single-paid.new.seat c.pay_single-paid.new.totals (receipt_of c call) c.pass.inside.rest.calls) c.of-start.ensures))

@@ -1,9 +1,9 @@
 use Rattle.std.proofs.Common.{rules, ◌≡◌, ℕ, ◌+◌, ◌-◌, ◌≤◌, ◌*◌, ◌++◌, List, [], ◌∷◌, sym, ap, subst, ◌∙◌, arith, length}
-use Rattle.at_object.proofs.Prelude.{get_or-le-sum_by, Balance, balance_after, place, prefix_of, owns_of, BoardTerms, SeatTerms, Asking, Knowledge, RECORD_WORDS, StandsBehind-cut, length-prefix_of-le, IsPlaced, is_at_own, is_at_round, look_at, Told, key_of, Receipt, PassTerms, Stands, others_counted, sent_by, Rest, asking_on-HasLoaded, decides_on, StandsAfter, IsSnapshot, snapshot_steps, cut_behind}
+use Rattle.at_object.proofs.Prelude.{get_or-le-sum_by, Balance, balance_after, place, prefix_of, owns_of, BoardTerms, SeatTerms, Asking, Knowledge, RECORD_WORDS, StandsBehind-cut, length-prefix_of-le, IsPlaced, is_at_own, is_at_round, look_at, Told, key_of, Receipt, PassTerms, pass_of, past_call, with_one_call, Stands, others_counted, sent_by, Rest, asking_on-HasLoaded, decides_on, StandsAfter, IsSnapshot, snapshot_steps, cut_behind}
 use Rattle.std.specs.Prelude.{slice_index, sum}
 use Rattle.at_object.proofs.Laws.Looked.{IsPass-HasLoaded, Told-HasLoaded, owns_of-HasLoaded}
 use Rattle.at_object.proofs.Laws.Looks.{look-Cut, place-IsSnapshot}
-use Rattle.at_object.proofs.Laws.OnePass.{IsOfOnePass-counted}
+use Rattle.at_object.proofs.Laws.OnePass.{IsOfOnePass-counted, past-counted}
 use Rattle.at_object.proofs.Laws.Within.{read_or_refused}
 use Rattle.at_object.proofs.ledger.Ledger.read.Goals.{After-known-2}
 use Rattle.at_object.proofs.ledger.Ledger.read.Goals as goal
@@ -18,7 +18,7 @@ invariant_of-pass c =
     ap (λ (t : Knowledge). t.book) same ∙ (c.requires.pass.book ∙ sym (ap (λ (t : BoardTerms). t.book) c.self.view_is)) in
     let was = c.pass.inside.rest in
     let now : Rest = record was { totals = c.read_account-receipt.new.totals; calls = c.count_one.new.self } in
-    IsOfOnePass-counted c.read_account-receipt.new.seat was now c.count_one.ensures
+    IsOfOnePass-counted c.of-start.result.value c.read_account-receipt.new.seat c.read_account-receipt.result was now c.count_one.ensures
     (IsPass-HasLoaded c.self.inside.board.book v c.read_account-receipt.new.seat.knows c.known.ensures.seat c.known-2.ensures.seat book told.board.book
     told.at_cut.loads was.totals c.read_account-receipt.new.totals was.sent c.pass.invariant.pass told.counted told.own_counted)
 
@@ -162,3 +162,14 @@ returns-clause-within c =
       few_decided = omega (arith, decides d c.args.account);
       decides_elsewhere = λ a apart. decides d a;
     }
+
+-- it is among the calls of the pass
+pub returns-clause-past : goal.returns-clause-past
+returns-clause-past c =
+    let r : Receipt = c.read_account-receipt.result in
+    let was : Rest = c.pass.inside.rest in
+    let now : Rest = record was { totals = c.read_account-receipt.new.totals; calls = c.count_one.new.self } in
+    let after : PassTerms = pass_of c.read_account-receipt.new.seat now in
+    subst (λ (t : PassTerms). after.past ≡ t.past ++ past_call t after r ∷ []) c.pass.view_is
+    (past-counted c.pass.inside.seat c.read_account-receipt.new.seat r was now c.pass.invariant.counted
+    (c.count_one.ensures ∙ ap (λ (s : SeatTerms). with_one_call s c.read_account-receipt.new.seat now.totals r was.calls) c.of-start.ensures))

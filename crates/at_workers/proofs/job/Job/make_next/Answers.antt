@@ -78,7 +78,7 @@ returns g c =
           subst (λ (call : Call). IsCalled ledger inside.pass told.new.pass call told.result) c.copy-call.ensures told.ensures.called in
           rw (w.self-inside-is, w.receipt-is)
           (MakesNext-called ledger inside.pass told.new.pass list inside.made waits told.result costs costs within c.index.ensures called
-          c.self.invariant.counted c.self.invariant.few none)
+          c.self.invariant.past none)
       | in-Some w ↦
           let noted = w.call_noted-receipt in
           let some = subst (λ n. Some noted.new.costs.items ≡ costs_with (cost_of inside.pass noted.new.pass) (option_map (λ v. v.items) n))
@@ -87,6 +87,6 @@ returns g c =
           subst (λ (call : Call). IsCalled ledger inside.pass noted.new.pass call noted.result) c.copy-call.ensures noted.ensures.called in
           rw (w.self-inside-is, w.receipt-is)
           (MakesNext-called ledger inside.pass noted.new.pass list inside.made waits noted.result costs (Some noted.new.costs.items) within c.index.ensures called
-          c.self.invariant.counted c.self.invariant.few some)
+          c.self.invariant.past some)
     ] in
     subst (λ (t : JobTerms). MakesNext ledger t left) c.self.view_is made
