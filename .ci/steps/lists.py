@@ -42,6 +42,7 @@ PATHS = [
     # Files of words.
     (["at_ledger", "at_files", "at_io", "at_orders"], paths("thiserror::Error")),
     (["at_files", "at_orders"], paths("indexmap::IndexSet indexmap::IndexSet::new")),
+    (["at_orders"], paths("indexmap::IndexMap indexmap::IndexMap::new std::slice::from_ref")),
     (["at_logs"], paths("sha2::Digest sha2::Sha256 sha2::Sha256::digest")),
     (["at_files"], paths("""
         csv::ByteRecord csv::ByteRecord::new csv::Reader csv::ReaderBuilder csv::ReaderBuilder::new memchr::memchr2
@@ -73,7 +74,7 @@ PRELUDE = set("""
 METHODS = set("""
     File ErrorKind OutOfMemory Result Write MAX from_array from_be_bytes from_raw from_slice into_raw_with_allocator with_capacity
     all alloc any as_bytes as_mut_slice as_ref as_str capacity checked_add checked_mul checked_sub clear contains copied copy_from_slice
-    enumerate extend_from_slice filter flexible flush format free from_reader get get_index_of get_mut has_headers insert into_iter
+    enumerate extend_from_slice filter flexible flush fold format free from_reader get get_index_of get_mut has_headers insert into_iter
     is_ascii_digit is_ascii_lowercase is_empty is_err is_none is_null is_ok is_some iter iter_mut len map map_err max min new next
     partition_point pop pop_first pop_front push push_back_reserved push_reserved read_byte_record reserve resize retain saturating_add saturating_mul saturating_sub
     skip split_at split_first stderr stdout strip_prefix take to_be_bytes to_vec truncate try_extend_from_slice unwrap unwrap_or wrapping_add wrapping_mul zip
@@ -83,7 +84,7 @@ MACROS = {"matches", "unreachable", "vec"}
 # Who prints: a write may wait.
 PRINTS = ["at_example"]
 EXPORT = "unsafe ( no_mangle )"
-ATTRIBUTES = ("cfg ( test )", "derive ( ", "error ( ", "error_bound", "inline ( always )", "repr ( C )", "tactic ( ", EXPORT)
+ATTRIBUTES = ("cfg ( test )", "cycle ( ", "derive ( ", "error ( ", "error_bound", "inline ( always )", "repr ( C )", "tactic ( ", EXPORT)
 
 # The traits of others that crates implement. What calls a method of a trait may be any crate below.
 TRAITS = [
@@ -91,7 +92,7 @@ TRAITS = [
     (["at_board"], paths("Drop atomic_table::Join atomic_table::Play atomic_table::Split atomic_table::TableRule")),
     (["at_c"], paths("Send counted_slot::Fits")),
     (["at_files", "at_orders", "at_stepper"], paths("Drop")),
-    (["at_log", "at_requests"], paths("Default")),
+    (["at_board", "at_log", "at_requests"], paths("Default")),
     (["at_orders", "at_report"], paths("From")),
     (["at_commands"], paths("at_report::Journal")),
 ]
@@ -170,10 +171,12 @@ PLACES = """
     at_ledger/book.rt copy: Global push
     at_ledger/book.rt new: Global
     at_ledger/book.rt openings: Global
+    at_ledger/book.rt with_openings: Global push
     at_ledger/book.rt with_usable_room: Global
     at_ledger/builder.rt add: push
     at_ledger/builder.rt new: Global
     at_ledger/draft.rt checked_owners: push
+    at_ledger/state.rt carried: Global
     at_ledger/state.rt new: Global vec vec
     at_io/reading.rt read_whole: while
     at_io/writing.rt put_all: while
@@ -239,6 +242,7 @@ PLACES = """
     at_object/notes.rt learn_overview: learn_overview
     at_journal/by_threads.rt held_by_threads: map_indices
     at_journal/by_threads.rt keyed_by_threads: map_indices
+    at_orders/trail.rt has: while
     at_orders/walk.rt walk_on: while
     at_tables/kinds_table.rt push_groups: while
     at_tables/sentence.rt push_agreements: while
@@ -249,6 +253,8 @@ PLACES = """
     at_broadcast/progress.rt store: store
     at_broadcast/progress.rt store_all: store
     at_logs/compact.rt settle: while
+    at_logs/node.rt reaches: while
+    at_logs/node.rt tell_to: while
     at_commands/commanding.rt answer_by: FnOnce
     at_commands/commanding.rt command_text: FnOnce load
     at_commands/given.rt words_given: AllocGlobal
