@@ -15,6 +15,8 @@ pub mod Learning
 -- what a payment needs, and why it is done where the balance covers it
 pub mod Room
 pub mod Covered
+-- what all balances after a prefix sum to
+pub mod Totals
 -- the passes of a new ledger
 pub mod NewPasses
 -- each prefix of a history is one; the keys and the looks of receipts stay in a longer list, with more receipts; calls after notes

@@ -8,4 +8,5 @@ pub mod Paid
 pub mod Closings
 pub mod Parted
 pub mod Calls
+pub mod Looks
 pub mod BoundNumbers

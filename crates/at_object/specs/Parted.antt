@@ -22,7 +22,7 @@ pub record IsCountOf (calls : CallCountTerms) (seat : SeatTerms) : Type 0 where
 abbrev pub after_one_call : SeatTerms → SeatTerms → Receipt → Rest → Rest
 after_one_call start seat r rest = record rest { calls = with_one_call start seat rest.totals r rest.calls }
 
--- they are of one pass, and its totals are as its last call left them
+-- they are of one pass, and its totals are as its last call or look left them
 pub record IsOfOnePass (seat : SeatTerms) (rest : Rest) : Type 0 where
   pub pass : IsPass seat.knows rest.totals rest.sent
   pub calls : IsCountOf rest.calls seat

@@ -51,7 +51,7 @@ abbrev pub cost_of_parts : SeatTerms → List ℕ → CostTerms
 cost_of_parts seat counted =
     record { steps = seat.steps; exchanges = seat.exchanges; new_records = sum counted - slice_index counted seat.knows.first }
 
--- what a pass has made and counted in all its calls
+-- what a pass has made and counted so far, in calls, looks and notes
 abbrev pub cost_so_far : PassTerms → CostTerms
 cost_so_far pass = cost_of_parts (seat_of pass) pass.counted
 

@@ -24,7 +24,7 @@ use std::snapshot::Snapshot;
 pub struct CallCount {
     count: u64,
     past: Snapshot<Past>,
-    /// The seat and the totals when the last call was counted, or when the pass was made.
+    /// The seat and the totals when the last call was counted, when the pass last looked at all balances, or when it was made.
     last: Snapshot<BoardSeat>,
     totals: Snapshot<Totals>,
 }
@@ -93,6 +93,14 @@ impl CallCount {
         };
         let before = replace(&mut self.past, Past::none());
         self.past = Past::with(before, &made);
+        self.last = Snapshot::of(seat);
+        self.totals = Snapshot::of(totals);
+    }
+
+    /// The seat has loaded more and the totals have counted more, and no call was made.
+    pub(crate) fn count_look(&mut self, seat: &BoardSeat, totals: &Totals)
+        ensures { self.new ≡ record self.old { last = seat.now; totals = totals.now } }
+    {
         self.last = Snapshot::of(seat);
         self.totals = Snapshot::of(totals);
     }

@@ -72,7 +72,7 @@ impl Pass {
         self.seat.exchanges()
     }
 
-    /// How many records of other processes its calls have loaded and counted. The work is in proportion to the processes.
+    /// How many records of other processes its calls and looks have loaded and counted. The work is in proportion to the processes.
     pub fn others_counted(&self) -> u64
         ensures count { result ≡ others_counted self.now }
         ensures small { result < 2 ^ 37 }

@@ -1,6 +1,6 @@
 -- What a list moves is covered where it stands, as the run of its prefixes shows.
 use Rattle.std.proofs.Common.{◌≡◌, ℕ, ◌+◌, ◌<◌, ◌≤◌, ◌==◌, Bool, true, false, cond, not, List, [], ◌∷◌, ◌++◌, length, get_or, take, replicate, refl, sym, ap, subst, ◌∙◌, arith, inl, inr}
-use Rattle.at_object.proofs.Prelude.{and_from, cases_lt, eq-eqb, le-ltb, lt-ltb, get_or-replicate, get_or_at, length-replicate, length_push, filter_map-append, filter_map, list_any, Decision, replies-push, BookTerms, is_owner, TargetPair, amount_of, run, LedgerState, Step, after_done, after_short, balance_of, is_full, opening_state, pay, step, Call, Pay, Done, Short, NotOwner, Full, take-publication_at, IsInitial, firsts-new, repeats-own, repeats-round, first-below, get_or-publications_of, IsNextAtMost-IsHistory, IsInitial-IsNextAtMost, balance_after, publication_at, is_round, is_same_round, AgreeOnRound, IsHistory, AreRuns, decided_owner, move_of, moves, count_of, no_publication, publications_of, firsts, repeats, rounds, Own, Round, Publication, is_round-true, own_position-at, round_position-at, own_position, round_position}
+use Rattle.at_object.proofs.Prelude.{and_from, cases_lt, eq-eqb, le-ltb, lt-ltb, get_or-replicate, get_or_at, length-replicate, length_push, append-nil, filter_map-append, filter_map, list_any, Decision, replies-push, BookTerms, is_owner, TargetPair, amount_of, run, LedgerState, Step, after_done, after_short, balance_of, is_full, opening_state, pay, step, Call, Pay, Done, Short, NotOwner, Full, take-publication_at, IsInitial, firsts-new, repeats-own, repeats-round, first-below, get_or-publications_of, IsNextAtMost-IsHistory, IsInitial-IsNextAtMost, balance_after, publication_at, is_round, is_same_round, AgreeOnRound, IsHistory, AreRuns, decided_owner, move_of, moves, count_of, no_publication, publications_of, firsts, repeats, rounds, Own, Round, Publication, is_round-true, own_position-at, round_position-at, own_position, round_position}
 use Rattle.std.specs.Prelude.{None, Some, Option}
 
 -- a payment that isn't covered isn't done
@@ -30,13 +30,24 @@ amount-done s process source targets is =
 filter_map-some : {X Y : Type 0} (f : X → Option Y) (x : X) (y : Y) → f x ≡ Some y → filter_map f (x ∷ []) ≡ y ∷ []
 filter_map-some {X} {Y} f x y is = ap (λ (o : Option Y). filter_map (λ (_ : X). o) (x ∷ [])) is
 
+filter_map-none : {X Y : Type 0} (f : X → Option Y) (x : X) → f x ≡ None → filter_map f (x ∷ []) ≡ []
+filter_map-none {X} {Y} f x is = ap (λ (o : Option Y). filter_map (λ (_ : X). o) (x ∷ [])) is
+
 -- the moves of a list with one more publication, which repeats none and moves this
-moves-push : (b : BookTerms) (xs : List Publication) (x : Publication) (call : ℕ × Call) → repeats x (firsts xs) ≡ false
+pub moves-push : (b : BookTerms) (xs : List Publication) (x : Publication) (call : ℕ × Call) → repeats x (firsts xs) ≡ false
     → move_of b x.process x.entry ≡ Some call → moves b (xs ++ x ∷ []) ≡ moves b xs ++ call ∷ []
 moves-push b xs x call new moved =
     let f : Publication → Option (ℕ × Call) = λ y. move_of b y.process y.entry in
     ap (filter_map f) (firsts-new xs x new)
     ∙ (filter_map-append f (firsts xs) (x ∷ []) ∙ ap (λ ys. moves b xs ++ ys) (filter_map-some f x call moved))
+
+-- or moves nothing
+pub moves-still : (b : BookTerms) (xs : List Publication) (x : Publication) → repeats x (firsts xs) ≡ false
+    → move_of b x.process x.entry ≡ None → moves b (xs ++ x ∷ []) ≡ moves b xs
+moves-still b xs x new none =
+    let f : Publication → Option (ℕ × Call) = λ y. move_of b y.process y.entry in
+    ap (filter_map f) (firsts-new xs x new)
+    ∙ (filter_map-append f (firsts xs) (x ∷ []) ∙ (ap (λ ys. moves b xs ++ ys) (filter_map-none f x none) ∙ append-nil (moves b xs)))
 
 -- a move that repeats none is covered by the prefix before it
 pub covered-AreRuns : (b : BookTerms) (list : List Publication) (m p source : ℕ) (targets : List TargetPair) → AreRuns b list → m < length list

@@ -1,6 +1,6 @@
 -- What loads of lengths leave of a pass.
 use Rattle.std.proofs.Common.{◌≡◌, ℕ, ◌<◌, false, List, ◌∷◌, [], ◌++◌, length, sym, ap, subst, ◌∙◌, arith}
-use Rattle.at_object.proofs.Prelude.{get_or-set_same, BookTerms, HasSlot, owns_of, asking_on, no_part, own_part, IsKept, Knowledge, Part, StandsBehind, AsksNothing, HasMoved, IsBetweenCalls-still, Told-call_still, owns_of-still, IsBetweenCalls, HasCounted, TotalSums, IsPlaced, is_at_own, is_at_round, Told, Receipt, IsPass, HasLoaded}
+use Rattle.at_object.proofs.Prelude.{get_or-set_same, BookTerms, HasSlot, IsHistory, named, named-IsBetweenCalls, Told-IsPrefix, owns_of, asking_on, no_part, own_part, IsKept, Knowledge, Part, StandsBehind, AsksNothing, HasMoved, IsBetweenCalls-still, Told-call_still, owns_of-still, IsBetweenCalls, HasCounted, TotalSums, IsPlaced, is_at_own, is_at_round, Told, Receipt, IsPass, HasLoaded}
 use Rattle.std.specs.Prelude.{slice_index}
 
 -- the own part has other loads, and nothing else is other
@@ -64,6 +64,22 @@ module _ (b : BookTerms) (v w : Knowledge) (kept : IsKept v) (keeps : IsKept w) 
 
     pub owns_of-HasLoaded : owns_of v.first w.seen ≡ owns_of v.first v.seen
     owns_of-HasLoaded = owns_of-still b v w HasMoved-HasLoaded between AsksNothing-HasLoaded published-HasLoaded
+
+    -- receipts that stood with it stand with it still
+    pub Told-HasLoaded_still : (receipts : List Receipt) → Told v.book v.first v.seen receipts → Told w.book w.first w.seen receipts
+    Told-HasLoaded_still receipts told =
+        let after : IsBetweenCalls b w = IsBetweenCalls-still b v w HasMoved-HasLoaded between AsksNothing-HasLoaded published-HasLoaded in
+        let still : (a slot : ℕ) → HasSlot b v.first a slot → named a slot w.seen ≡ named a slot v.seen = λ a slot has.
+        omega (
+          arith,
+          named-IsBetweenCalls b v a slot kept book between has,
+          named-IsBetweenCalls b w a slot keeps same_book after (subst (λ p. HasSlot b p a slot) (sym HasMoved-HasLoaded.process) has),
+          ap length (AsksNothing-HasLoaded.same a),
+        ) in
+        subst (λ t. Told t w.first w.seen receipts) (sym same_book)
+        (subst (λ p. Told b p w.seen receipts) (sym HasMoved-HasLoaded.process)
+        (Told-IsPrefix b v.first v.seen w.seen receipts (subst (λ t. IsHistory t v.seen) book kept.history) loads.more owns_of-HasLoaded still
+        (subst (λ t. Told t v.first v.seen receipts) book told)))
 
     -- one more receipt stands with it, which stands at a cut that begins with all that was seen
     pub Told-HasLoaded : (receipts : List Receipt) (r : Receipt) → Told v.book v.first v.seen receipts → IsPlaced b v.first w.seen receipts r

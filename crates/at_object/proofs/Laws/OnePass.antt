@@ -4,15 +4,18 @@ use Rattle.at_object.proofs.Prelude.{loads_of, own_part, SeatTerms, TotalSums, R
 use Rattle.at_object.specs.Passes.{cost_of_parts, cost_since}
 
 -- what has just been counted was counted for the seat
+IsCountOf-last : (seat : SeatTerms) (now : CallCountTerms) → now.last ≡ seat → IsCountOf now seat
+IsCountOf-last seat now last = record {
+  board = ap (λ (s : SeatTerms). s.board) last;
+  process = ap (λ (s : SeatTerms). s.knows.first) last;
+  loads = λ p. omega (arith, ap (λ (s : SeatTerms). (loads_of (own_part s.knows) p).times) last);
+  steps = omega (arith, ap (λ (s : SeatTerms). s.steps) last);
+  exchanges = omega (arith, ap (λ (s : SeatTerms). s.exchanges) last);
+}
+
 pub IsCountOf-counted : (start seat : SeatTerms) (totals : TotalSums) (r : Receipt) (was now : CallCountTerms)
     → now ≡ with_one_call start seat totals r was → IsCountOf now seat
-IsCountOf-counted start seat totals r was now calls = record {
-  board = ap (λ (n : CallCountTerms). n.last.board) calls;
-  process = ap (λ (n : CallCountTerms). n.last.knows.first) calls;
-  loads = λ p. omega (arith, ap (λ (n : CallCountTerms). (loads_of (own_part n.last.knows) p).times) calls);
-  steps = omega (arith, ap (λ (n : CallCountTerms). n.last.steps) calls);
-  exchanges = omega (arith, ap (λ (n : CallCountTerms). n.last.exchanges) calls);
-}
+IsCountOf-counted start seat totals r was now calls = IsCountOf-last seat now (ap (λ (n : CallCountTerms). n.last) calls)
 
 -- no call was made, and what was loaded is loaded still
 pub IsOfOnePass-same : (before after : SeatTerms) (was rest : Rest) → IsOfOnePass before was → after.board ≡ before.board
@@ -37,6 +40,15 @@ pub IsOfOnePass-counted : (start after : SeatTerms) (r : Receipt) (was rest : Re
 IsOfOnePass-counted start after r was rest calls is = record {
   pass = is;
   calls = IsCountOf-counted start after rest.totals r was.calls rest.calls calls;
+  counted = ap (λ (n : CallCountTerms). n.totals) calls;
+}
+
+-- none was, and the pass has looked at all balances
+pub IsOfOnePass-looked : (after : SeatTerms) (was : CallCountTerms) (rest : Rest) → rest.calls ≡ record was { last = after; totals = rest.totals }
+    → IsPass after.knows rest.totals rest.sent → IsOfOnePass after rest
+IsOfOnePass-looked after was rest calls is = record {
+  pass = is;
+  calls = IsCountOf-last after rest.calls (ap (λ (n : CallCountTerms). n.last) calls);
   counted = ap (λ (n : CallCountTerms). n.totals) calls;
 }
 
