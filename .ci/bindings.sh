@@ -27,6 +27,8 @@ else
     .ci/left_out.sh 'the header in C++' 'no C++ compiler'
 fi
 .ci/bindings_verify.sh short.c examples/short/book.csv "$work/report" examples/short/ann.csv examples/short/bob.csv
+"$cc" $flags bindings/c/bank.c "$library" -o "$work/bank"
+"$work/bank"
 "$cc" $flags bindings/c/example.c "$library" -o "$work/example"
 for name in realistic owners; do
     "$work/example" "examples/$name/book.csv" "examples/$name"/pay*.csv 2>"$work/said" >"$work/report"

@@ -5,8 +5,8 @@
  * `bezglami_handle ledger = BEZGLAMI_NOTHING;`. A handle isn't copied: one place holds it.
  *
  * What is looked at, so that a mistake is answered and nothing is lost by it:
- *   - an address that is null is BEZGLAMI_NULL, or 0 where the answer is a count, and `bezglami_free` does nothing then. `book`, `targets`
- *     and `bytes` may be null where their number is 0, and `line` and `why` always;
+ *   - an address that is null is BEZGLAMI_NULL, or 0 where the answer is a count, and `bezglami_free` does nothing then. `book`, `targets`,
+ *     `bytes` and `balances` may be null where their number is 0, and `line` and `why` always;
  *   - a handle is for one call at a time. A second one meanwhile, of another thread or of a signal handler, is BEZGLAMI_IN_CALL, or 0
  *     where the answer is a count, and `bezglami_free` does nothing then.
  *
@@ -14,8 +14,8 @@
  *   - a handle is BEZGLAMI_NOTHING or as an export left it;
  *   - from one call to the next a handle may go to another thread, where a lock, a thread's start or join, or a sequentially
  *     consistent atomic orders the two. Different handles may be used at once, in any threads;
- *   - `answer`, `line` and `why` point to their types, and `bytes` to `room` bytes, that no other thread reads or writes
- *     meanwhile; `book` points to `length` bytes and `targets` to `count` targets that no other thread writes meanwhile; what one
+ *   - `answer`, `line` and `why` point to their types, `bytes` to `room` bytes and `balances` to `room` numbers, that no other thread
+ *     reads or writes meanwhile; `book` points to `length` bytes and `targets` to `count` targets that no other thread writes meanwhile; what one
  *     call is given doesn't overlap;
  *   - malloc, realloc and free are one allocator's, which aligns a block to each power of two up to 16 that divides its
  *     size; from a signal handler no export is called that takes or frees memory (open, caller, close, return, free), and in the child of a
@@ -24,7 +24,8 @@
  *     call for good: its process is stopped there, all others go on, and a ledger of which a caller is so lost can't be closed.
  *
  * Costs: `bezglami_read`, `bezglami_transfer` and `bezglami_pay` take no memory, and no more steps than a bound that the book
- * alone sets, and seven for each payment of another process that they count for the first time. Each answer tells its steps. `bezglami_open`, `bezglami_caller` and `bezglami_close` take memory, in proportion to
+ * alone sets, and seven for each payment of another process that they count for the first time. Each answer tells its steps. `bezglami_balances` takes
+ * no memory, at most the steps of a read, and a write for each account. `bezglami_open`, `bezglami_caller` and `bezglami_close` take memory, in proportion to
  * the book, the calls that a caller has room for, and the calls that were made; `bezglami_report` copies. All others are constant,
  * but that `bezglami_free` and `bezglami_return` free the board with the last that shares it. 80 KiB of stack are enough for each. */
 #ifndef BEZGLAMI_H
@@ -38,7 +39,7 @@ extern "C" {
 #endif
 
 /* The version of this header. `bezglami_version` answers that of the library. */
-#define BEZGLAMI_VERSION 4
+#define BEZGLAMI_VERSION 5
 
 uint32_t bezglami_version(void);
 
@@ -60,7 +61,8 @@ enum bezglami_outcome {
     BEZGLAMI_BAD_BOOK = 4,     /* the bytes spell no book: `line` is that of the first fault, from 1, and `why` its cause */
     BEZGLAMI_NO_CALLER = 5,    /* all callers of the ledger were handed out */
     BEZGLAMI_NO_ACCOUNT = 6,   /* the call names an account that isn't there */
-    BEZGLAMI_NO_ROOM = 7,      /* the caller has made as many calls as it has room for; one that is refused takes a receipt too */
+    BEZGLAMI_NO_ROOM = 7,      /* the caller has made as many calls as it has room for; one that is refused takes a receipt too. Of
+                                * `bezglami_balances`: the accounts are more */
     BEZGLAMI_NO_PAY_OUT = 8,   /* a pay-out has 1 to BEZGLAMI_TARGETS_MOST targets */
     BEZGLAMI_CALLERS_OUT = 9,  /* a caller of the ledger wasn't given back */
     BEZGLAMI_NO_PROCESS = 10,  /* the book has no process of this number */
@@ -82,7 +84,7 @@ static inline const char *bezglami_outcome_text(uint32_t outcome) {
     case BEZGLAMI_BAD_BOOK: return "bad book";
     case BEZGLAMI_NO_CALLER: return "no caller left";
     case BEZGLAMI_NO_ACCOUNT: return "no such account";
-    case BEZGLAMI_NO_ROOM: return "no room for a receipt";
+    case BEZGLAMI_NO_ROOM: return "no room";
     case BEZGLAMI_NO_PAY_OUT: return "no pay-out";
     case BEZGLAMI_CALLERS_OUT: return "a caller is out";
     case BEZGLAMI_NO_PROCESS: return "no such process";
@@ -207,7 +209,16 @@ uint32_t bezglami_pay(bezglami_handle *caller, uint32_t from, const bezglami_tar
 /* Tells the balance of an account. */
 uint32_t bezglami_read(bezglami_handle *caller, uint32_t account, bezglami_answer *answer);
 
-/* How many steps all calls and notes of the caller have made, and how many of them were exchanges. 0 of a handle that holds no
+/* How many accounts the book has, and 0 of a handle that holds neither a ledger nor a caller. */
+uint32_t bezglami_accounts(bezglami_handle *handle);
+
+/* Writes the balance of each account into the first of `room` numbers, in the book's order. All are those at one point, so they sum to what
+ * the book opens with, whatever other callers do meanwhile; those of single reads, one after another, needn't. It is no call: it takes no
+ * receipt, and the report doesn't have it. It makes at most the steps of a read. Other outcomes: BEZGLAMI_WRONG_HANDLE, and BEZGLAMI_NO_ROOM where
+ * the accounts are more; then nothing is written. */
+uint32_t bezglami_balances(bezglami_handle *caller, uint64_t *balances, size_t room);
+
+/* How many steps all calls, looks at balances and notes of the caller have made, and how many of them were exchanges. 0 of a handle that holds no
  * caller. */
 uint64_t bezglami_steps(bezglami_handle *caller);
 uint64_t bezglami_exchanges(bezglami_handle *caller);

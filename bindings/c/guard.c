@@ -11,6 +11,8 @@ uint32_t proved_bezglami_caller(bezglami_handle *ledger, uint32_t calls, bezglam
 uint32_t proved_bezglami_transfer(bezglami_handle *caller, uint32_t from, uint32_t to, uint64_t amount, bezglami_answer *answer);
 uint32_t proved_bezglami_pay(bezglami_handle *caller, uint32_t from, const bezglami_target *targets, size_t count, bezglami_answer *answer);
 uint32_t proved_bezglami_read(bezglami_handle *caller, uint32_t account, bezglami_answer *answer);
+uint32_t proved_bezglami_accounts(bezglami_handle *handle);
+uint32_t proved_bezglami_balances(bezglami_handle *caller, uint64_t *balances, size_t room);
 uint64_t proved_bezglami_steps(bezglami_handle *caller);
 uint64_t proved_bezglami_exchanges(bezglami_handle *caller);
 uint32_t proved_bezglami_note(bezglami_handle *caller, uint32_t process);
@@ -93,6 +95,22 @@ uint32_t bezglami_read(bezglami_handle *caller, uint32_t account, bezglami_answe
     if (answer == NULL)
         return BEZGLAMI_NULL;
     WITH(caller, proved_bezglami_read(caller, account, answer));
+}
+
+uint32_t bezglami_accounts(bezglami_handle *handle) {
+    uint32_t accounts = 0;
+    if (take(handle) == BEZGLAMI_DONE) {
+        accounts = proved_bezglami_accounts(handle);
+        leave(handle);
+    }
+    return accounts;
+}
+
+uint32_t bezglami_balances(bezglami_handle *caller, uint64_t *balances, size_t room) {
+    uint64_t none[1];
+    if (balances == NULL && room != 0)
+        return BEZGLAMI_NULL;
+    WITH(caller, proved_bezglami_balances(caller, balances == NULL ? none : balances, room));
 }
 
 /* A count of a handle: 0 where it is null or in a call. */

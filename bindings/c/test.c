@@ -149,6 +149,26 @@ static void test_replies(void) {
     bezglami_free(&carl);
 }
 
+/* All balances at one point: by a caller alone, into the first numbers, without a receipt. */
+static void test_balances(void) {
+    bezglami_handle ledger = BEZGLAMI_NOTHING, ann = BEZGLAMI_NOTHING, bob = BEZGLAMI_NOTHING;
+    uint64_t balances[6] = { 7, 7, 7, 7, 7, 7 };
+    open_new(BOOK, &ledger);
+    EXPECT(bezglami_accounts(&ann) == 0 && bezglami_accounts(&ledger) == 4);
+    EXPECT(bezglami_balances(&ann, balances, 6) == BEZGLAMI_WRONG_HANDLE && bezglami_balances(&ledger, balances, 6) == BEZGLAMI_WRONG_HANDLE);
+    EXPECT(bezglami_caller(&ledger, 2, &ann) == BEZGLAMI_DONE && bezglami_caller(&ledger, 0, &bob) == BEZGLAMI_DONE);
+    EXPECT(bezglami_accounts(&ann) == 4 && replied(&ann, 0, 1, 200) == BEZGLAMI_REPLY_DONE && replied(&ann, 2, 3, 50) == BEZGLAMI_REPLY_DONE);
+    EXPECT(bezglami_balances(&bob, balances, 3) == BEZGLAMI_NO_ROOM && bezglami_steps(&bob) == 0 && balances[0] == 7);
+    EXPECT(bezglami_balances(&bob, balances, 6) == BEZGLAMI_DONE);
+    EXPECT(balances[0] == 300 && balances[1] == 300 && balances[2] == 250 && balances[3] == 50 && balances[4] == 7 && balances[5] == 7);
+    EXPECT(bezglami_steps(&bob) > 0 && bezglami_exchanges(&bob) == 0);
+    EXPECT(bezglami_balances(&ann, balances, 4) == BEZGLAMI_DONE && balances[0] == 300 && balances[3] == 50);
+    EXPECT(bezglami_return(&ann) == BEZGLAMI_DONE && bezglami_return(&bob) == BEZGLAMI_DONE && bezglami_close(&ledger) == BEZGLAMI_DONE);
+    EXPECT(bezglami_accounts(&ledger) == 0 && bezglami_balances(&ledger, balances, 4) == BEZGLAMI_WRONG_HANDLE);
+    EXPECT(has_report(&ledger, "journal 2\n0 1 transfer 0 1 200 done\n0 2 transfer 2 3 50 done\nbalances 4\n0 300\n1 300\n2 250\n3 50\ntotal 900\n", true));
+    bezglami_free(&ledger);
+}
+
 static void test_misuse(void) {
     bezglami_handle ledger = BEZGLAMI_NOTHING, ann = BEZGLAMI_NOTHING, spare = BEZGLAMI_NOTHING;
     bezglami_target targets[5] = { { 1, 1 }, { 1, 1 }, { 1, 1 }, { 1, 1 }, { 1, 1 } };
@@ -541,7 +561,7 @@ static void test_words_of_replies(void) {
 
 /* The words of each outcome and of each cause are the header's. */
 static void test_words(void) {
-    static const char *const outcomes[] = { "done", "wrong handle", "handle in use", "no memory", "bad book", "no caller left", "no such account", "no room for a receipt",
+    static const char *const outcomes[] = { "done", "wrong handle", "handle in use", "no memory", "bad book", "no caller left", "no such account", "no room",
         "no pay-out", "a caller is out", "no such process", "no note", "busy", "null address", "handle in a call",
         "other processor" };
     static const char *const causes[] = { "version", "shape", "number", "account order", "name", "name twice", "unknown owner", "no process",
@@ -673,7 +693,8 @@ static void refuse_all(bezglami_handle *ledger, bezglami_handle *caller, uint32_
     EXPECT(bezglami_read(caller, 0, &answer) == outcome && answer.reply == 7 && answer.steps == 7);
     EXPECT(bezglami_note(caller, 0) == outcome && bezglami_learn(caller, 0) == outcome && bezglami_return(caller) == outcome);
     EXPECT(bezglami_close(ledger) == outcome && bezglami_report(ledger, (uint8_t *)&answer, sizeof answer) == 0 && answer.reply == 7);
-    EXPECT(bezglami_steps(caller) == 0 && bezglami_exchanges(caller) == 0);
+    EXPECT(bezglami_steps(caller) == 0 && bezglami_exchanges(caller) == 0 && bezglami_accounts(caller) == 0);
+    EXPECT(bezglami_balances(caller, &answer.balance, 1) == outcome && answer.balance == 7);
     bezglami_free(ledger);
     bezglami_free(caller);
 }
@@ -690,6 +711,7 @@ static void test_refused(void) {
     EXPECT(bezglami_read(&ann, 0, NULL) == BEZGLAMI_NULL && bezglami_transfer(&ann, 0, 1, 1, NULL) == BEZGLAMI_NULL);
     EXPECT(bezglami_pay(&ann, 0, NULL, 1, &answer) == BEZGLAMI_NULL && bezglami_pay(&ann, 0, NULL, 0, &answer) == BEZGLAMI_NO_PAY_OUT);
     EXPECT(bezglami_pay(&ann, 0, &(bezglami_target){ 1, 1 }, 1, NULL) == BEZGLAMI_NULL && bezglami_steps(&ann) == 0);
+    EXPECT(bezglami_balances(&ann, NULL, 4) == BEZGLAMI_NULL && bezglami_balances(&ann, NULL, 0) == BEZGLAMI_NO_ROOM);
     ledger.in_call = ann.in_call = 1;
     refuse_all(&ledger, &ann, BEZGLAMI_IN_CALL);
     EXPECT(bezglami_caller(&ledger, 9, &spare) == BEZGLAMI_IN_CALL && ledger.in_call == 1 && ann.in_call == 1);
@@ -766,6 +788,8 @@ static void call_without_memory(bezglami_handle *ann) {
     const bezglami_target targets[] = { { 1, 3 }, { 3, 2 } };
     long taken = allocations;
     EXPECT(replied(ann, 0, 1, 5) == BEZGLAMI_REPLY_DONE && paid(ann, 0, targets, 2) == BEZGLAMI_REPLY_DONE);
+    uint64_t balances[4];
+    EXPECT(bezglami_balances(ann, balances, 4) == BEZGLAMI_DONE && balances[1] == 108);
     EXPECT(answered(ann, 0, 490) && bezglami_note(ann, 1) == BEZGLAMI_DONE && bezglami_learn(ann, 1) == BEZGLAMI_NO_NOTE);
     EXPECT(bezglami_return(ann) == BEZGLAMI_DONE && allocations == taken);
 }
@@ -816,6 +840,7 @@ int main(void) {
     long before = blocks;
     test_replies();
     test_pay_outs();
+    test_balances();
     test_misuse();
     test_bad_books();
     test_limits();

@@ -62,6 +62,7 @@ class Calls(unittest.TestCase):
         self.assertEqual((paid.reply, paid.exchanges), (Reply.DONE, 1))
         self.assertIs(bob.pay(2, [(3, 2**64 - 1)] * 4).reply, Reply.SHORT)
         self.assertEqual([carl.read(account).balance for account in (2, 3, 1)], [100, 160, 340])
+        self.assertEqual(carl.balances(), [300, 340, 100, 160])
         for _ in range(99):
             ann.transfer(0, 0, 0)
         self.assertEqual(ann.transfer(0, 0, 0), (Reply.FULL, None, 0, 0))

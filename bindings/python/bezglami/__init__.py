@@ -29,7 +29,7 @@ __all__ = [
 TARGETS_MOST = 4
 """The most targets that a pay-out has."""
 
-_VERSION = 4
+_VERSION = 5
 """The version of the header that this module was written by."""
 
 
@@ -173,6 +173,8 @@ def _load() -> ctypes.CDLL:
         "transfer": (u32, [handle, u32, u32, u64, answer]),
         "pay": (u32, [handle, u32, ctypes.POINTER(_Target), size, answer]),
         "read": (u32, [handle, u32, answer]),
+        "accounts": (u32, [handle]),
+        "balances": (u32, [handle, ctypes.POINTER(u64), size]),
         "steps": (u64, [handle]),
         "exchanges": (u64, [handle]),
         "note": (u32, [handle, u32]),
@@ -330,6 +332,16 @@ class Caller(_Holder):
         """Tells the balance of an account. Raises NoAccount and NoRoom."""
         return self._call(f"read of account {account}", "read", _number(account))
 
+    def balances(self) -> list[int]:
+        """Tells the balance of each account, in the book's order.
+
+        All are those at one point, so they sum to what the book opens with, whatever other callers do meanwhile. It is no call: it takes no
+        receipt, and the report doesn't have it.
+        """
+        balances = (ctypes.c_uint64 * self._alone(lambda: _library.bezglami_accounts(self._held())))()
+        self._ask(f"balances for process {self.process}", "balances", balances, len(balances))
+        return list(balances)
+
     def note(self, process: int) -> None:
         """Leaves a note of all that the caller has seen, for the caller of another process, in place of one that it left there before.
 
@@ -346,7 +358,7 @@ class Caller(_Holder):
         self._ask(f"note of process {process} for process {self.process}", "learn", _number(process))
 
     def steps(self) -> int:
-        """How many steps all its calls and notes have made."""
+        """How many steps all its calls, looks at balances and notes have made."""
         return self._alone(lambda: _library.bezglami_steps(self._held()))
 
     def exchanges(self) -> int:

@@ -119,6 +119,23 @@ impl Caller {
         self.handle().read(account)
     }
 
+    /// How many accounts the book has.
+    #[must_use]
+    pub fn accounts(&mut self) -> u32 {
+        self.handle().accounts()
+    }
+
+    /// Writes the balance of each account into the first of these numbers, in the book's order. All are those at one point, so they sum to
+    /// what the book opens with, whatever other callers do meanwhile. It is no call: it takes no receipt, and the report doesn't have it. It
+    /// makes at most the steps of a read.
+    ///
+    /// # Errors
+    ///
+    /// [`Error::NoRoom`] where the [accounts](Caller::accounts) are more.
+    pub fn balances(&mut self, balances: &mut [u64]) -> Result<(), Error> {
+        self.handle().balances(balances)
+    }
+
     /// Leaves a note of all that the caller has seen, for the caller of another process, in place of one that it left there before. It counts
     /// as one step and one exchange.
     ///
@@ -139,7 +156,7 @@ impl Caller {
         self.handle().learn(process)
     }
 
-    /// How many steps all its calls and notes have made.
+    /// How many steps all its calls, looks at balances and notes have made.
     #[must_use]
     pub fn steps(&mut self) -> u64 {
         self.handle().steps()

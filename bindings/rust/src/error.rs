@@ -17,7 +17,7 @@ pub enum Error {
     NoCaller,
     /// The call names an account that isn't there.
     NoAccount,
-    /// The caller has no room for the receipt of one more call.
+    /// The caller has no room for the receipt of one more call, or there are fewer numbers than accounts.
     NoRoom,
     /// A pay-out has from 1 to [`TARGETS_MOST`](crate::TARGETS_MOST) targets.
     NoPayOut,
@@ -47,7 +47,7 @@ impl fmt::Display for Error {
             Error::NoMemory => f.write_str("no memory"),
             Error::NoCaller => f.write_str("the caller of each process was handed out"),
             Error::NoAccount => f.write_str("no such account"),
-            Error::NoRoom => f.write_str("no room for one more receipt"),
+            Error::NoRoom => f.write_str("no room for one more receipt, or for all balances"),
             Error::NoPayOut => f.write_str("a pay-out has from 1 to 4 targets"),
             Error::CallersOut => f.write_str("a caller of the ledger wasn't given back"),
             Error::NoProcess => f.write_str("no such process"),

@@ -7,7 +7,7 @@ use std::ptr;
 use std::sync::atomic::{AtomicPtr, Ordering};
 
 /// The version of the header that this module was written by.
-const VERSION: u32 = 4;
+const VERSION: u32 = 5;
 
 const DONE: u32 = 0;
 const WRONG_HANDLE: u32 = 1;
@@ -61,6 +61,8 @@ extern "C" {
         answer: *mut Answer,
     ) -> u32;
     fn bezglami_read(caller: *mut Handle, account: u32, answer: *mut Answer) -> u32;
+    fn bezglami_accounts(handle: *mut Handle) -> u32;
+    fn bezglami_balances(caller: *mut Handle, balances: *mut u64, room: usize) -> u32;
     fn bezglami_steps(caller: *mut Handle) -> u64;
     fn bezglami_exchanges(caller: *mut Handle) -> u64;
     fn bezglami_note(caller: *mut Handle, process: u32) -> u32;
@@ -242,6 +244,18 @@ impl Handle {
         // SAFETY: as in `transfer`.
         done(unsafe { bezglami_read(self, account, &mut answer) })?;
         Ok(answer.receipt())
+    }
+
+    /// How many accounts the book of a ledger or a caller has.
+    pub(crate) fn accounts(&mut self) -> u32 {
+        // SAFETY: the handle is lent to this call alone.
+        unsafe { bezglami_accounts(self) }
+    }
+
+    /// The balances of all accounts, by a caller.
+    pub(crate) fn balances(&mut self, balances: &mut [u64]) -> Result<(), Error> {
+        // SAFETY: the handle is lent to this call alone. So are the numbers, whose pointer isn't null, also where there are none.
+        done(unsafe { bezglami_balances(self, balances.as_mut_ptr(), balances.len()) })
     }
 
     /// Leaves a note of a caller.

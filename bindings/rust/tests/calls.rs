@@ -49,6 +49,14 @@ fn replies() {
     assert_eq!(callers[2].read(2).unwrap().reply.balance(), Some(100));
     assert_eq!(callers[2].read(3).unwrap().reply.balance(), Some(160));
     assert_eq!(callers[2].read(1).unwrap().reply.balance(), Some(340));
+    let mut balances = [7; 5];
+    assert_eq!(callers[2].accounts(), 4);
+    assert_eq!(
+        callers[2].balances(&mut balances[..3]),
+        Err(Error::NoRoom)
+    );
+    callers[2].balances(&mut balances).unwrap();
+    assert_eq!(balances, [300, 340, 100, 160, 7]);
     for _ in 1..100 {
         assert!(callers[0].transfer(0, 0, 0).unwrap().reply.is_done());
     }
@@ -96,7 +104,7 @@ fn words_of_errors() {
         (Error::NoMemory, "no memory"),
         (Error::NoCaller, "the caller of each process was handed out"),
         (Error::NoAccount, "no such account"),
-        (Error::NoRoom, "no room for one more receipt"),
+        (Error::NoRoom, "no room for one more receipt, or for all balances"),
         (Error::NoPayOut, "a pay-out has from 1 to 4 targets"),
         (
             Error::CallersOut,

@@ -1,6 +1,6 @@
 -- What the types of callers and of ledgers keep.
 use Rattle.std.proofs.Common.{◌≡◌, append_assoc, append-nil, ℕ, ◌+◌, ◌<◌, ◌≤◌, suc, List, [], ◌∷◌, ◌++◌, length, map, sym, ap, subst, ◌∙◌, arith, length-append, replicate, All, inl, inr, ◌-◌}
-use Rattle.at_c.proofs.Prelude.{get_or-append, get_or-append_right, get_or-append_seam, cases_lt, get_or-replicate, length-replicate, map-append, All-append, All-nil, All-push, All-replicate, BoardTerms, IsCallOn, Call, calls_of, Receipt, stands-CallMade, CallMade, AreAccountedFor, IsAccountedFor, AreNewPasses, IsNewPass, IsPassOf, PassTerms, Stands, past_call, past_receipts-more, PastCall, OwnCallerTerms, IsCaller, IsOpened, IsStillOpen, OpenedTerms, LearnsNote, SharedTerms, Outcome}
+use Rattle.at_c.proofs.Prelude.{get_or-append, get_or-append_right, get_or-append_seam, cases_lt, get_or-replicate, length-replicate, map-append, All-append, All-nil, All-push, All-replicate, BoardTerms, IsCallOn, Call, calls_of, Receipt, stands-CallMade, CallMade, AreAccountedFor, IsAccountedFor, AreNewPasses, IsNewPass, IsPassOf, PassTerms, Stands, past_call, past_receipts-more, PastCall, OwnCallerTerms, HasSeenBalances, IsCaller, IsOpened, IsStillOpen, OpenedTerms, LearnsNote, SharedTerms, Outcome}
 use Rattle.std.specs.Prelude.{slice_index_or}
 use Rattle.at_c.specs.Given.{AreReceipts}
 
@@ -137,6 +137,22 @@ IsCaller-learned shared held from before after receipts room Outcome.NoAccount k
 IsCaller-learned shared held from before after receipts room Outcome.NoRoom kept same learns = absurd learns
 IsCaller-learned shared held from before after receipts room Outcome.NoPayOut kept same learns = absurd learns
 IsCaller-learned shared held from before after receipts room Outcome.CallersOut kept same learns = absurd learns
+
+-- so does what it has looked at
+pub IsCaller-looked : (shared held : SharedTerms) (before after : PassTerms) (balances : List ℕ) (receipts : List Receipt) (room : ℕ)
+    → IsCaller (caller_of shared before receipts room) → held ≡ shared → HasSeenBalances held.ledger.book before after balances
+    → IsPassOf after held.ledger → after.past ≡ before.past → IsCaller (caller_of shared after receipts room)
+IsCaller-looked shared held before after balances receipts room kept same seen of past = record {
+  account = record {
+    of_ledger = subst (λ (s : SharedTerms). IsPassOf after s.ledger) same of;
+    stands = seen.stands receipts kept.account.stands;
+    past = ap (λ (calls : List PastCall). map (λ (c : PastCall). c.receipt) calls) past ∙ kept.account.past;
+    are = kept.account.are;
+  };
+  process = subst (λ n. n < shared.ledger.book.processes) (sym seen.process_is) kept.process;
+  within = kept.within;
+  few = kept.few;
+}
 
 -- the next pass that comes back keeps a ledger
 pub IsOpened-back : (shared : SharedTerms) (given : ℕ) (waiting passes passes_now : List PassTerms) (receipts receipts_now : List (List Receipt))

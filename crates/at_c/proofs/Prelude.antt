@@ -85,6 +85,7 @@ pub use Rattle.at_object.proofs.Laws.Calls.{past_receipts-more, stands-CallMade}
 pub use Rattle.at_object.proofs.Sharing.{pass_send}
 pub use Rattle.at_object.specs.Calls.{CallMade}
 pub use Rattle.at_object.specs.Closings.{AreAccountedFor, IsAccountedFor}
+pub use Rattle.at_object.specs.Looks.{HasSeenBalances}
 pub use Rattle.at_object.specs.Passes.{AreNewPasses, IsNewPass, IsPassOf, PassTerms, Stands, past_call}
 pub use Rattle.at_object.specs.PastCalls.{PastCall}
 pub use Rattle.atomic_table.proofs.Rights.{right_send}

@@ -1,6 +1,6 @@
 -- Callers as exports see them, what the type of a caller keeps, and what a call leaves.
-use Rattle.std.specs.Prelude.{◌≡◌, ℕ, ◌-◌, ◌^◌, ◌<◌, ◌≤◌, ◌++◌, List, [], ◌∷◌, length}
-use Rattle.at_c.specs.Prelude.{Call, Reply, Receipt, CallMade, StaysWithin, PassTerms}
+use Rattle.std.specs.Prelude.{◌≡◌, ℕ, ◌-◌, ◌^◌, ◌<◌, ◌≤◌, ◌++◌, List, [], ◌∷◌, drop, length}
+use Rattle.at_c.specs.Prelude.{Call, Reply, Receipt, CallMade, StaysWithin, HasSeenBalances, TakesLook, PassTerms}
 use Rattle.at_c.specs.Given.{IsGivenBack}
 use Rattle.at_c.specs.Notes.{LearnsNote, LeavesNote}
 use Rattle.at_c.specs.declared.outcome.Outcome.{Outcome}
@@ -40,3 +40,19 @@ CallerNotes process before after outcome =
 abbrev pub CallerLearns : ℕ → OwnCallerTerms → OwnCallerTerms → Outcome → Type 0
 CallerLearns process before after outcome =
     LearnsNote before.shared.ledger process before.pass after.pass outcome × (after ≡ record before { pass = after.pass })
+
+-- the caller has looked at all balances, which are these. Nothing of it has changed but what its pass has seen and counted
+pub record LooksAtBalances (before after : OwnCallerTerms) (balances : List ℕ) : Type 0 where
+  pub seen : HasSeenBalances before.shared.ledger.book before.pass after.pass balances
+  pub within : TakesLook before.shared.ledger.book before.pass after.pass
+  pub calls_are : after.pass.calls ≡ before.pass.calls
+  pub past_is : after.pass.past ≡ before.pass.past
+  pub after_is : after ≡ record before { pass = after.pass }
+
+-- the caller was asked for all balances: they stand over the first numbers. Where there are fewer places than accounts, nothing has changed
+abbrev pub CallerTellsBalances : OwnCallerTerms → OwnCallerTerms → List ℕ → List ℕ → Outcome → Type 0
+CallerTellsBalances before after was now Outcome.Done =
+    (balances : List ℕ) × (now ≡ balances ++ drop (length balances) was) × LooksAtBalances before after balances
+CallerTellsBalances before after was now Outcome.NoRoom =
+    (length was < length before.shared.ledger.book.accounts) × (after ≡ before) × (now ≡ was)
+CallerTellsBalances before after was now other = ⊥

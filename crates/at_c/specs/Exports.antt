@@ -2,7 +2,7 @@
 use Rattle.std.specs.Prelude.{◌≡◌, ℕ, ◌<◌, ◌≤◌, ◌++◌, true, drop, is_some, length, map, Err, List, [], None, Option, Some, ⊤}
 use Rattle.at_c.specs.Prelude.{book_of_records, file_records, BadBook, IsCallOn, TargetPair, most_targets, Call, Reply}
 use Rattle.at_ledger.specs.declared.call.Reply.TheVariants as reply
-use Rattle.at_c.specs.Callers.{CallerLearns, CallerNotes, OwnCallerTerms, MakesCall}
+use Rattle.at_c.specs.Callers.{CallerLearns, CallerNotes, CallerTellsBalances, OwnCallerTerms, MakesCall}
 use Rattle.at_c.specs.Endings.{EndsAs, GatheredTerms, IsReportOfClosed}
 use Rattle.at_c.specs.Ledgers.{GathersPasses, HandsOut, IsNewLedger, IsStillOpen, OpenedTerms}
 use Rattle.at_c.specs.Why.{why_number}
@@ -173,6 +173,18 @@ abbrev pub exchanges_by_handle : Option Held → ℕ
 exchanges_by_handle None = 0
 exchanges_by_handle (Some held) = exchanges_of_held held
 
+-- how many accounts the book of a ledger or of a caller has
+abbrev pub accounts_of_held : Held → ℕ
+accounts_of_held Held.Nothing = 0
+accounts_of_held (Held.Ledger l) = length l.shared.ledger.book.accounts
+accounts_of_held (Held.Caller c) = length c.shared.ledger.book.accounts
+accounts_of_held (Held.Ending e) = 0
+
+-- the same of what a handle holds, and 0 where it holds neither
+abbrev pub accounts_by_handle : Option Held → ℕ
+accounts_by_handle None = 0
+accounts_by_handle (Some held) = accounts_of_held held
+
 -- a handle was given to leave a note for a process, or to learn what one has left: the caller that it holds does. Where it holds none,
 -- nothing has changed
 abbrev pub HandleNotes : ℕ → Option Held → Option Held → Outcome → Type 0
@@ -184,6 +196,12 @@ abbrev pub HandleLearns : ℕ → Option Held → Option Held → Outcome → Ty
 HandleLearns process (Some (Held.Caller c)) after outcome =
     (c' : OwnCallerTerms) × (after ≡ Some (Held.Caller c')) × CallerLearns process c c' outcome
 HandleLearns process before after outcome = (outcome ≡ Outcome.WrongHandle) × (after ≡ before)
+
+-- a handle was given to tell all balances: the caller that it holds does. Where it holds none, nothing has changed
+abbrev pub HandleTellsBalances : Option Held → Option Held → List ℕ → List ℕ → Outcome → Type 0
+HandleTellsBalances (Some (Held.Caller c)) after was now outcome =
+    (c' : OwnCallerTerms) × (after ≡ Some (Held.Caller c')) × CallerTellsBalances c c' was now outcome
+HandleTellsBalances before after was now outcome = (outcome ≡ Outcome.WrongHandle) × (after ≡ before) × (now ≡ was)
 
 -- this is no caller
 abbrev pub IsNoCaller : Held → Type 0

@@ -35,5 +35,6 @@ pub use Rattle.at_log.specs.Receipts.{calls_of}
 pub use Rattle.at_log.specs.declared.receipt.Receipt.{Receipt}
 pub use Rattle.at_object.specs.Calls.{CallMade, StaysWithin}
 pub use Rattle.at_object.specs.Closings.{AreAccountedFor, ClosedTerms, HasAllLogs, IsAccountedFor, KeepsNotes}
+pub use Rattle.at_object.specs.Looks.{HasSeenBalances, TakesLook}
 pub use Rattle.at_object.specs.Passes.{AreNewPasses, IsNewPass, IsPassOf, PassTerms, Stands, asked_by, past_receipts, sent_by}
 pub use Rattle.at_report.specs.Report.{IsPrinted, report_text}

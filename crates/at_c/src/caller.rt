@@ -2,7 +2,7 @@
 
 ghost use Rattle.std.specs.Prelude.{◌≡◌, ℕ, ◌<◌, ◌≤◌, ◌^◌, [], length, IfErr};
 ghost use Rattle.at_c.specs.Prelude.{arc_value, vec_capacity, IsCallOn, most_accounts, IsNewPass};
-ghost use Rattle.at_c.specs.Callers.{CallerLearns, CallerNotes, MakesCall};
+ghost use Rattle.at_c.specs.Callers.{CallerLearns, CallerNotes, CallerTellsBalances, LooksAtBalances, MakesCall};
 
 use crate::given::Given;
 use crate::outcome::Outcome;
@@ -116,7 +116,7 @@ impl Caller {
         }
     }
 
-    /// How many steps the caller's calls have made.
+    /// How many steps the caller has made.
     pub(crate) fn steps(&self) -> u64
         ensures { result ≡ self.now.pass.steps }
     {
@@ -128,6 +128,26 @@ impl Caller {
         ensures { result ≡ self.now.pass.exchanges }
     {
         self.pass.exchanges()
+    }
+
+    /// Looks at all balances. Takes no memory.
+    fn look(&mut self, balances: &mut [u64])
+        requires { length balances.old ≡ length self.old.shared.ledger.book.accounts }
+        ensures { LooksAtBalances self.old self.new balances.new }
+    {
+        self.shared.ledger.balances(&mut self.pass, balances);
+    }
+
+    /// Writes the balance of each account over the first numbers, if there are so many. Takes no memory.
+    pub(crate) fn balances(&mut self, balances: &mut [u64]) -> Outcome
+        ensures { CallerTellsBalances self.old self.new balances.old balances.new result }
+    {
+        let count = self.accounts() as usize;
+        if balances.len() < count {
+            return Outcome::NoRoom;
+        }
+        self.look(&mut balances[..count]);
+        Outcome::Done
     }
 
     /// Leaves a note of what the caller has seen for the caller of a process. Takes no memory.

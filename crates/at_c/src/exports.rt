@@ -2,7 +2,7 @@
 
 ghost use Rattle.std.specs.Prelude.{◌≡◌, length, None};
 ghost use Rattle.at_c.specs.Prelude.{Call};
-ghost use Rattle.at_c.specs.Exports.{Closes, GivesBack, HandleAnswers, HandleLearns, HandleNotes, HandlePays, HandsOutTo, WritesOver, Opens, exchanges_by_handle, outcome_number, report_by_handle, steps_by_handle};
+ghost use Rattle.at_c.specs.Exports.{Closes, GivesBack, HandleAnswers, HandleLearns, HandleNotes, HandlePays, HandleTellsBalances, HandsOutTo, WritesOver, Opens, accounts_by_handle, exchanges_by_handle, outcome_number, report_by_handle, steps_by_handle};
 ghost use Rattle.at_c.specs.declared.outcome.Outcome.{Outcome};
 
 use crate::handle::Handle;
@@ -12,12 +12,12 @@ use at_ledger::Call;
 use std::alloc::Global;
 
 /// The version of the exports, as the header of C numbers it.
-const VERSION: u32 = 3;
+const VERSION: u32 = 5;
 
 /// The version of the exports.
 #[unsafe(no_mangle)]
 pub extern "C" fn bezglami_version() -> u32
-    ensures { result ≡ 3 }
+    ensures { result ≡ 5 }
 {
     VERSION
 }
@@ -98,6 +98,25 @@ pub extern "C" fn bezglami_read(
     caller.call(alloc, Call::Read { account }, answer).number()
 }
 
+/// How many accounts the book has, and 0 where the handle holds neither a ledger nor a caller.
+#[unsafe(no_mangle)]
+pub extern "C" fn bezglami_accounts(alloc: Global, handle: &mut Handle) -> u32
+    ensures accounts { result ≡ accounts_by_handle handle.old.held }
+    ensures same { handle.new.held ≡ handle.old.held }
+{
+    handle.accounts(alloc)
+}
+
+/// Writes the balance of each account over the first of these numbers, if there are so many: all are those at one point, so they sum to
+/// what the book opens with, whatever is under way. It is no call, and has no line in the report. Takes no memory and waits for no thread.
+#[unsafe(no_mangle)]
+pub extern "C" fn bezglami_balances(alloc: Global, caller: &mut Handle, balances: &mut [u64]) -> u32
+    ensures { (outcome : Outcome) × (result ≡ outcome_number outcome)
+        × HandleTellsBalances caller.old.held caller.new.held balances.old balances.new outcome }
+{
+    caller.balances(alloc, balances).number()
+}
+
 /// Leaves a note of what the caller has seen for the caller of a process. Takes no memory and waits for no thread.
 #[unsafe(no_mangle)]
 pub extern "C" fn bezglami_note(alloc: Global, caller: &mut Handle, process: u32) -> u32
@@ -117,7 +136,7 @@ pub extern "C" fn bezglami_learn(alloc: Global, caller: &mut Handle, process: u3
     caller.learn(alloc, process).number()
 }
 
-/// How many steps the calls of this caller have made, and 0 where the handle holds none.
+/// How many steps the calls, looks and notes of this caller have made, and 0 where the handle holds none.
 #[unsafe(no_mangle)]
 pub extern "C" fn bezglami_steps(alloc: Global, caller: &mut Handle) -> u64
     ensures steps { result ≡ steps_by_handle caller.old.held }

@@ -6,6 +6,7 @@
 //! stands for a handle that holds nothing.
 #![tactic(auto)]
 
+mod balances;
 mod caller;
 mod calls;
 mod closing;

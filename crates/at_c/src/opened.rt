@@ -120,6 +120,13 @@ impl Opened {
         }
     }
 
+    /// How many accounts the book has.
+    pub(crate) fn accounts(&self) -> u32
+        ensures { result ≡ length self.now.shared.ledger.book.accounts }
+    {
+        self.shared.ledger.book().accounts()
+    }
+
     /// How many processes the book has.
     pub(crate) fn processes(&self) -> u32
         ensures { result ≡ self.now.shared.ledger.book.processes }
