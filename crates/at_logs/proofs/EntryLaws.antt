@@ -4,10 +4,10 @@ use Rattle.at_logs.proofs.Prelude.{All, All-from_recursion, get_or-map-range_wit
 use Rattle.at_logs.proofs.ReaderLaws.{AreListed, AreSoMany, IsBytes, Reads, Reads-after, Reads-below, Reads-items, Reads-listed, Reads-made, Reads-pair, Reads-raw, Reads-u32, Reads-u64, reads_whole}
 
 -- a target that has bytes
-abbrev IsTarget : ℕ → TargetPair → Type 0
+abbrev pub IsTarget : ℕ → TargetPair → Type 0
 IsTarget accounts t = (t.0 < accounts) × (t.1 < 2 ^ 64)
 
-Reads-target : (accounts : ℕ) → accounts ≤ 2 ^ 32 → Reads (IsTarget accounts) target_bytes (read_target accounts)
+pub Reads-target : (accounts : ℕ) → accounts ≤ 2 ^ 32 → Reads (IsTarget accounts) target_bytes (read_target accounts)
 unfolding read_target
 Reads-target accounts small = Reads-pair (Reads-below accounts small) Reads-u64
 

@@ -3,6 +3,8 @@ pub mod ReadingLaws
 pub mod ReaderLoops
 pub mod ReaderLaws
 pub mod EntryLaws
+pub mod SavedLaws
+pub mod SavingLaws
 pub mod AnswerLaws
 pub mod DraftLaws
 pub mod TotalLaws
@@ -16,3 +18,5 @@ pub mod RoomLaws
 pub mod StateLaws
 pub mod HistoryLaws
 pub mod CallLaws
+pub mod RestoreLaws
+pub mod CheckingLaws

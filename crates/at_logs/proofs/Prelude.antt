@@ -3,9 +3,9 @@ pub use Rattle.std.proofs.Math.Bridge.{le_prop}
 pub use Rattle.std.proofs.Math.Logic.{∥∥₁_elim, ∥∥₁_map}
 pub use Rattle.std.proofs.lemmas.Bool.{cases_eq, cases_lt, eq-eqb, eqb-false, eqb-true, le-ltb, lt-ltb, ltb-false, ltb-true}
 pub use Rattle.std.proofs.lemmas.Bool.Decides.{eqb_tells, leb_tells, nat_tests}
-pub use Rattle.std.proofs.lemmas.List.{append-nil, drop-append-le, drop-drop, drop_at, ext_get_or, get_or-append-add, get_or-drop, get_or-replicate, get_or-take, get_or_default, get_or_past, get_or_read, length-append, length-map, length-replicate, length-set, length-take, map-set, nil_from_length, set-get_or, set-set, take-append-drop, take_all, take_at, take_more, take_more_set}
+pub use Rattle.std.proofs.lemmas.List.{append-nil, drop-append-le, drop-drop, drop_at, ext_get_or, get_or-append-add, get_or-drop, get_or-replicate, get_or-take, get_or_default, get_or_past, get_or_read, length-append, length-map, length-replicate, length-set, length-take, map-append, map-set, nil_from_length, set-get_or, set-set, take-append-drop, take_all, take_at, take_more, take_more_set}
 pub use Rattle.std.proofs.lemmas.List.FromFn.{get_or-map-range_with_len, length-map-range_with_len, length-range_with_len, map-range_with_len_more, sum_by-map-range_with_len_more}
-pub use Rattle.std.proofs.lemmas.List.Sums.{get_or-le-sum_by, sum_by-append, sum_by-cons, sum_by-drop_more, sum-map, sum_by_more, sum_by_more_le_part}
+pub use Rattle.std.proofs.lemmas.List.Sums.{get_or-le-sum_by, sum_by-append, sum_by-cons, sum_by-drop_more, sum-map, sum_by_more, sum_by_more_le, sum_by_more_le_part}
 pub use Rattle.std.proofs.lemmas.List.Elements.{All-append, All-from_recursion, All-head, All-tail, recursion_from_All}
 pub use Rattle.std.proofs.lemmas.Nat.{be_bytes_4, be_bytes_8, from_be_bytes-to_be_bytes_4, from_be_bytes-to_be_bytes_8}
 pub use Rattle.std.proofs.Math.Nat.{ℕ_set}
@@ -61,3 +61,6 @@ pub use Rattle.at_logs.specs.declared.reading.Head.{Head}
 pub use Rattle.at_ledger.specs.Limits.{most_processes, most_targets}
 pub use Rattle.sha2.specs.Sha256.{sha256}
 pub use Rattle.at_logs.specs.declared.node.Told.{Told}
+unfoldable pub use Rattle.at_logs.specs.Saved.{read_kept_message, read_credit, read_backlog, read_tail, read_core, read_front, read_saved}
+pub use Rattle.at_logs.specs.Saved.{IsSaved, IsSavedCore, NamesSaved, SavedTerms, read_many, saved_bytes}
+pub use Rattle.at_logs.specs.declared.restoring.Front.{Front}

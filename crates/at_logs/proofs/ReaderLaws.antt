@@ -1,7 +1,8 @@
 -- A reader reads what is spelled, and nothing else: laws of the readers, whatever is read.
 use Rattle.std.proofs.Common.{◌≡◌, ◌↔◌, ℕ, zero, suc, ◌+◌, ◌^◌, ◌<◌, ◌≤◌, Bool, true, false, cond, eqb, ltb, List, [], ◌∷◌, ◌++◌, length, get_or, take, drop, Option, Some, None, refl, sym, ap, subst, ◌∙◌, append_assoc, arith, inl, inr}
 use Rattle.std.specs.Int.{Width, w32, w64, byte_len, from_be_bytes, to_be_bytes}
-use Rattle.at_logs.proofs.Prelude.{All, AllByRecursion, AreBytes, append-nil, be_bytes_4, be_bytes_8, cases_lt, cond_some, drop_at, eq-eqb, eqb-false, eqb-true, eqb_tells, flat_map, from_be_bytes-to_be_bytes_4, from_be_bytes-to_be_bytes_8, get_or-drop, get_or-take, get_or_default, get_or_past, le-ltb, length-append, length-take, lt-ltb, ltb-false, ltb-true, nil_from_length, same_Some, take-append-drop, take_at, Reader, ◌>>=◌, listed_bytes, read_after, read_below, read_items, read_listed, read_made, read_number, read_pair, read_raw, read_whole}
+use Rattle.at_logs.specs.Snapshot.{many_bytes}
+use Rattle.at_logs.proofs.Prelude.{All, AllByRecursion, AreBytes, append-nil, be_bytes_4, be_bytes_8, cases_lt, cond_some, drop_at, eq-eqb, eqb-false, eqb-true, eqb_tells, flat_map, from_be_bytes-to_be_bytes_4, from_be_bytes-to_be_bytes_8, get_or-drop, get_or-take, get_or_default, get_or_past, le-ltb, length-append, length-take, lt-ltb, ltb-false, ltb-true, nil_from_length, same_Some, take-append-drop, take_at, Reader, ◌>>=◌, listed_bytes, read_after, read_below, read_items, read_listed, read_made, read_many, read_number, read_pair, read_raw, read_whole}
 
 abbrev pub IsBytes : List ℕ → Type 0
 IsBytes bytes = (i : ℕ) → get_or bytes i 0 < 256
@@ -143,10 +144,11 @@ Reads-pair {A} {B} {P} {Q} {s} {t} {first} {second} p q = record { takes = takes
   again : (x : A × B) (rest : List ℕ) → P x.0 × Q x.1 → read_pair first second ((s x.0 ++ t x.1) ++ rest) ≡ Some (x, rest)
   again x rest is = rw (append_assoc (s x.0) (t x.1) rest, p.again x.0 (t x.1 ++ rest) is.0, q.again x.1 rest is.1) refl
 
--- what is made of a value is one to one
-pub Reads-made : {A B : Type 0} {P : A → Type 0} {Q : B → Type 0} {s : A → List ℕ} {t : B → List ℕ} {one : Reader A} (make : A → B) (back : B → A) → ((x : B) → make (back x) ≡ x)
-    → ((x : A) → t (make x) ≡ s x) → ((x : A) → P x → Q (make x)) → ((x : B) → Q x → P (back x)) → Reads P s one → Reads Q t (read_made make one)
-Reads-made {A} {B} {P} {Q} {s} {t} {one} make back same spelled is_made is_back p = record { takes = takes; again = again } where
+-- what is made of a value is one to one, for the values that are so
+pub Reads-made_on : {A B : Type 0} {P : A → Type 0} {Q : B → Type 0} {s : A → List ℕ} {t : B → List ℕ} {one : Reader A} (make : A → B) (back : B → A)
+    → ((x : B) → Q x → make (back x) ≡ x) → ((x : A) → t (make x) ≡ s x) → ((x : A) → P x → Q (make x)) → ((x : B) → Q x → P (back x)) → Reads P s one
+    → Reads Q t (read_made make one)
+Reads-made_on {A} {B} {P} {Q} {s} {t} {one} make back same spelled is_made is_back p = record { takes = takes; again = again } where
   takes : (bytes : List ℕ) (x : B × List ℕ) → IsBytes bytes → read_made make one bytes ≡ Some x → Takes bytes (t x.0) x.1 × Q x.0
   takes bytes x fits e =
       let a = bind_some (one bytes) (λ a. Some (make a.0, a.1)) x e in
@@ -156,8 +158,13 @@ Reads-made {A} {B} {P} {Q} {s} {t} {one} make back same spelled is_made is_back 
 
   again : (x : B) (rest : List ℕ) → Q x → read_made make one (t x ++ rest) ≡ Some (x, rest)
   again x rest is =
-      let text : t x ≡ s (back x) = ap t (sym (same x)) ∙ spelled (back x) in
-      rw (text, p.again (back x) rest (is_back x is)) (ap (λ (y : B). Some (y, rest)) (same x))
+      let text : t x ≡ s (back x) = ap t (sym (same x is)) ∙ spelled (back x) in
+      rw (text, p.again (back x) rest (is_back x is)) (ap (λ (y : B). Some (y, rest)) (same x is))
+
+-- and for all values
+pub Reads-made : {A B : Type 0} {P : A → Type 0} {Q : B → Type 0} {s : A → List ℕ} {t : B → List ℕ} {one : Reader A} (make : A → B) (back : B → A) → ((x : B) → make (back x) ≡ x)
+    → ((x : A) → t (make x) ≡ s x) → ((x : A) → P x → Q (make x)) → ((x : B) → Q x → P (back x)) → Reads P s one → Reads Q t (read_made make one)
+Reads-made make back same spelled is_made is_back p = Reads-made_on make back (λ x _. same x) spelled is_made is_back p
 
 -- so many values, each of them so
 pub record AreSoMany {A : Type 0} (P : A → Type 0) (n : ℕ) (xs : List A) : Type 0 where
@@ -220,6 +227,28 @@ Reads-listed {A} {P} {s} {one} most p = record { takes = takes; again = again } 
   again xs rest is =
       let none : eqb (length xs) 0 ≡ false = elim (eqb_tells (length xs) 0) [ inl t ↦ absurd (omega (arith, is.some, t.1)) | inr t ↦ t.0 ] in
       rw (none, le-ltb _ _ is.few) ((Reads-items p (length xs)).again xs rest (record { long = refl; each = is.each }))
+
+-- as many values as eight bytes can say, each of them so
+pub record AreMany {A : Type 0} (P : A → Type 0) (xs : List A) : Type 0 where
+  pub few : length xs < 2 ^ 64
+  pub each : AllByRecursion P xs
+
+pub Reads-many : {A : Type 0} {P : A → Type 0} {s : A → List ℕ} {one : Reader A} → Reads P s one → Reads (AreMany P) (many_bytes s) (read_many one)
+Reads-many {A} {P} {s} {one} p = record { takes = takes; again = again } where
+  takes : (bytes : List ℕ) (x : List A × List ℕ) → IsBytes bytes → read_many one bytes ≡ Some x → Takes bytes (many_bytes s x.0) x.1 × AreMany P x.0
+  takes bytes x fits e =
+      let n = bind_some (read_number w64 bytes) (λ n. read_items one n.0 n.1) x e in
+      let u = Reads-u64.takes bytes n.0 fits n.1 in
+      let v = (Reads-items p n.0.0).takes n.0.1 x u.0.rest_fits n.2 in
+      let long : n.0.0 ≡ length x.0 = sym v.1.long in (
+        Takes-then bytes (to_be_bytes w64 (length x.0)) n.0.1 (flat_map s x.0) x.1 (subst (λ k. Takes bytes (to_be_bytes w64 k) n.0.1) long u.0) v.0,
+        record { few = subst (λ k. k < 2 ^ 64) long u.1; each = v.1.each },
+      )
+
+  again : (xs : List A) (rest : List ℕ) → AreMany P xs → read_many one (many_bytes s xs ++ rest) ≡ Some (xs, rest)
+  again xs rest is =
+      rw (append_assoc (to_be_bytes w64 (length xs)) (flat_map s xs) rest, Reads-u64.again (length xs) (flat_map s xs ++ rest) is.few)
+      ((Reads-items p (length xs)).again xs rest (record { long = refl; each = is.each }))
 
 -- behind a byte
 pub Reads-after : {A : Type 0} {P : A → Type 0} {s : A → List ℕ} {one : Reader A} (byte : ℕ) → Reads P s one → Reads P (λ x. byte ∷ s x) (read_after byte one)

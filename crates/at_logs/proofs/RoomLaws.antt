@@ -1,7 +1,7 @@
 -- Backlogs with their room.
-use Rattle.std.proofs.Common.{◌≡◌, ◌≢◌, ℕ, ◌+◌, ◌<◌, Bool, true, false, cond, eqb, List, [], ◌∷◌, ◌++◌, length, get_or, set, take, append_assoc, Some, Result, Ok, Err, ap, sym, subst, ◌∙◌, inl, inr, get_or-set_same, get_or-set_other}
+use Rattle.std.proofs.Common.{◌≡◌, ◌≢◌, ℕ, ◌+◌, ◌<◌, ◌≤◌, Bool, true, false, cond, eqb, List, [], ◌∷◌, ◌++◌, length, map, get_or, set, take, drop, sum_by, append_assoc, Some, Result, Ok, Err, refl, ap, sym, subst, ◌∙◌, inl, inr, arith, get_or-set_same, get_or-set_other}
 use Rattle.std.proofs.Math.ListN.{get_or-map as plain-get_or-map}
-use Rattle.at_logs.proofs.Prelude.{append-nil, cases_eq, eqb_tells, map-set, map-set_same, BacklogState, Credit, LogTerms, OnErr, OnOk, RoomyBacklog, TargetPair, take_more, account_on_logs, backlog_credited, backlog_of, credits_of, is_log, kept_of, no_backlog}
+use Rattle.at_logs.proofs.Prelude.{append-nil, cases_eq, eqb_tells, get_or_default, get_or_read, map-set, map-set_same, BacklogState, Credit, LogTerms, Message, OnErr, OnOk, RoomyBacklog, TargetPair, range_with_len, sum_by-cons, sum_by-drop_more, sum_by-map-range_with_len_more, take_more, account_on_logs, backlog_credited, backlog_of, credits_of, is_log, kept_of, no_backlog}
 use Rattle.at_logs.proofs.CreditLaws.{credits_of-append, is_log-same}
 
 abbrev pub no_roomy : RoomyBacklog
@@ -15,6 +15,34 @@ kept_of-same all i new same = map-set_same (λ (l : RoomyBacklog). l.kept) all i
 
 pub backlog_of-kept_of : (all : List RoomyBacklog) (p : ℕ) → backlog_of (kept_of all) p ≡ (get_or all p no_roomy).kept
 backlog_of-kept_of all p = plain-get_or-map (λ (l : RoomyBacklog). l.kept) all p no_roomy
+
+-- the backlog that is read at a position
+pub kept_read : (all : List RoomyBacklog) (p : ℕ) (l : RoomyBacklog) → p < length all → l ≡ get_or all p l → l.kept ≡ backlog_of (kept_of all) p
+kept_read all p l within here = ap (λ (l : RoomyBacklog). l.kept) (get_or_read all p l within here no_roomy) ∙ sym (backlog_of-kept_of all p)
+
+pub kept_at : (all : List RoomyBacklog) (p : ℕ) (d : RoomyBacklog) → p < length all → (get_or all p d).kept ≡ backlog_of (kept_of all) p
+kept_at all p d within = ap (λ (l : RoomyBacklog). l.kept) (get_or_default all p d no_roomy within) ∙ sym (backlog_of-kept_of all p)
+
+-- one message more has room for its credits
+pub room_step : (f : Message → ℕ) (xs : List Message) (i : ℕ) (m : Message) (start now next more : ℕ) → i < length xs → start ≤ now + sum_by f (drop i xs) → now + more ≤ next
+    → more ≡ f (get_or xs i m) → start ≤ next + sum_by f (drop (i + 1) xs)
+room_step f xs i m start now next more within so_far made is = omega (arith, so_far, made, is, sum_by-drop_more f xs i m within)
+
+sum_by-map : (f : ℕ → ℕ) (xs : List ℕ) → sum_by (λ x. x) (map f xs) ≡ sum_by f xs
+sum_by-map f [] = refl
+sum_by-map f (x ∷ xs) = omega (arith, sum_by-cons (λ (n : ℕ). n) (f x) (map f xs), sum_by-cons f x xs, sum_by-map f xs)
+
+-- and one log more
+pub waiting_step : (f : ℕ → ℕ) (p now next more : ℕ) → sum_by f (range_with_len 0 p) ≤ now → now + more ≤ next → more ≡ f p → sum_by f (range_with_len 0 (p + 1)) ≤ next
+waiting_step f p now next more so_far made is = omega (
+  arith,
+  so_far,
+  made,
+  is,
+  sum_by-map f (range_with_len 0 (p + 1)),
+  sum_by-map f (range_with_len 0 p),
+  sum_by-map-range_with_len_more (λ (n : ℕ). n) f 0 p p (omega arith),
+)
 
 -- whether or not there was memory for more room
 pub kept_either : {A E : Type 0} (r : Result A E) (old more new : RoomyBacklog) → more.kept ≡ old.kept → OnOk r (new ≡ more) → OnErr r (new ≡ old) → new.kept ≡ old.kept

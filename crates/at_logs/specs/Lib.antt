@@ -10,3 +10,4 @@ pub mod Entry
 pub mod Readers
 pub mod Calls
 pub mod Snapshot
+pub mod Saved

@@ -1,14 +1,15 @@
 //! What a node keeps of one log.
 
-ghost use Rattle.std.specs.Prelude.{◌≡◌, ℕ, ◌+◌, ◌-◌, ◌<◌, ◌≤◌, ◌^◌, ◌++◌, ◌∷◌, [], All, IfOk, OnErr, OnOk, drop, length, option_copied, slice_get, slice_index, sum_by, IsTrue, ◌↔◌};
-ghost use Rattle.at_logs.specs.Prelude.{Covers, most_logs};
-ghost use Rattle.at_logs.specs.Snapshot.{backlog_bytes};
+ghost use Rattle.std.specs.Prelude.{◌≡◌, ℕ, ◌+◌, ◌-◌, ◌<◌, ◌≤◌, ◌^◌, ◌++◌, ◌∷◌, [], All, IfOk, OnErr, OnOk, drop, length, option_copied, slice_get, slice_index, slice_index_or, sum_by, IsTrue, ◌↔◌};
+ghost use Rattle.at_logs.specs.Prelude.{Covers, Message, most_logs};
+ghost use Rattle.at_logs.specs.Snapshot.{HasBacklogBytes, backlog_bytes};
 ghost use Rattle.at_logs.specs.Compact.{backlog_settled, backlog_told, backlog_with, credit_below, credit_to, new_backlog};
 
 use crate::credits::{Credit, add_below, is_below};
 use crate::saving::{put_credits, put_messages};
 use crate::spelling::put_counts;
 use at_broadcast::{LogCounts, Message};
+use at_ledger::Targets;
 use std::alloc::{AllocError, Global};
 use std::collections::VecDeque;
 use std::marker::Model;
@@ -52,6 +53,47 @@ impl Backlog {
             room: 0,
             settled_at: LogCounts::zeros(logs),
         }
+    }
+
+    /// One that keeps these, with no room for more credits.
+    pub(crate) fn of(
+        messages: VecDeque<Message>,
+        credits: Vec<Credit>,
+        settled_at: LogCounts,
+    ) -> Backlog
+        ensures { result ≡ record {
+          kept = record { messages = messages.items; credits = credits.items; settled_at = settled_at };
+          room = 0;
+        } }
+    {
+        Backlog {
+            messages,
+            credits,
+            room: 0,
+            settled_at,
+        }
+    }
+
+    /// How many messages weren't told.
+    pub(crate) fn len(&self) -> usize
+        ensures { result ≡ length self.now.kept.messages }
+    {
+        self.messages.len()
+    }
+
+    /// The targets of the message at a position among those that weren't told.
+    pub(crate) fn targets(&self, i: usize) -> Targets
+        requires { i < length self.now.kept.messages }
+        ensures { (m : Message) → result ≡ (slice_index_or self.now.kept.messages i m).targets }
+    {
+        self.messages[i].targets.copy()
+    }
+
+    /// The credits that are kept.
+    pub(crate) fn credits(&self) -> &[Credit]
+        ensures { result.now ≡ self.now.kept.credits }
+    {
+        self.credits.as_slice()
     }
 
     /// The message at a position among those that weren't told.
@@ -124,9 +166,11 @@ impl Backlog {
         self.credits.retain(|credit| !is_below(deps, credit));
         self.settled_at = deps.copy();
     }
+
     /// Writes what is kept of the log.
     pub(crate) fn put(&self, out: &mut Vec<u8>) -> Result<(), AllocError>
-        ensures { OnOk result (out.new.items ≡ out.old.items ++ backlog_bytes self.now.kept) }
+        ensures spelled { OnOk result (out.new.items ≡ out.old.items ++ backlog_bytes self.now.kept) }
+        ensures fits { OnOk result (HasBacklogBytes self.now.kept) }
     {
         put_messages(out, &self.messages)?;
         put_credits(out, self.credits.as_slice())?;

@@ -3,11 +3,13 @@
 ghost use Rattle.std.specs.Prelude.{◌≡◌, ℕ, ◌+◌, ◌-◌, ◌<◌, ◌≤◌, All, IfNone, IfOk, IfSome, OnErr, OnOk, length, option_copied, replicate, slice_get, slice_index, slice_set, sum_by, map, if◌then◌else◌, IsTrue, ◌↔◌, Some, ◌∷◌, [], ◌++◌};
 ghost use Rattle.at_logs.specs.Prelude.{AreTargetsOn, Covers, flat_map, IsMessageOn, Payout, MESSAGES_MAX, account_on_logs, most_logs, one_more_of};
 ghost use Rattle.at_logs.specs.Compact.{IsCreditOf, RoomyBacklog, backlog_credited, backlog_of, backlog_told, backlog_with, is_log, kept_of, named_among, new_backlog, new_state, next_message, room_of};
-ghost use Rattle.at_logs.specs.Snapshot.{backlog_bytes, core_bytes};
+ghost use Rattle.at_logs.specs.Snapshot.{HasBacklogBytes, HasCoreBytes, backlog_bytes, core_bytes};
 ghost use Rattle.at_logs.specs.declared.credits.Credit.{Credit};
 
 use crate::backlog::Backlog;
 use crate::credits::Credit;
+use crate::restoring::SavedCore;
+use crate::rooms::make_room_waiting;
 use crate::saving::put_amounts;
 use crate::spelling::put_counts;
 use at_broadcast::{LogBook, LogCounts, Message, Payout, credit};
@@ -56,6 +58,23 @@ impl Compact {
             told: LogCounts::zeros(logs),
             settled,
             balances,
+            backlogs,
+        })
+    }
+
+    /// What a snapshot kept, with room for the credits that messages will bring.
+    pub(crate) fn restore(saved: SavedCore) -> Result<Compact, AllocError>
+        requires { IsCompact saved }
+        ensures { IfOk result (λ c. c ≡ saved) }
+    {
+        let mut backlogs = saved.backlogs;
+        make_room_waiting(&mut backlogs, &saved.book, &saved.validated, &saved.told)?;
+        Ok(Compact {
+            book: saved.book,
+            validated: saved.validated,
+            told: saved.told,
+            settled: saved.settled,
+            balances: saved.balances,
             backlogs,
         })
     }
@@ -295,7 +314,8 @@ impl Compact {
 
     /// Writes what is kept of all logs.
     pub(crate) fn put(&self, out: &mut Vec<u8>) -> Result<(), AllocError>
-        ensures { OnOk result (out.new.items ≡ out.old.items ++ core_bytes self.now) }
+        ensures spelled { OnOk result (out.new.items ≡ out.old.items ++ core_bytes self.now) }
+        ensures fits { OnOk result (HasCoreBytes self.now) }
     {
         put_counts(out, &self.validated)?;
         put_counts(out, &self.told)?;
@@ -320,7 +340,8 @@ fn new_backlogs(alloc: Global, logs: u32) -> Result<Vec<Backlog>, AllocError>
 
 /// Writes what is kept of each log.
 fn put_backlogs(out: &mut Vec<u8>, backlogs: &[Backlog]) -> Result<(), AllocError>
-    ensures { OnOk result (out.new.items ≡ out.old.items ++ flat_map backlog_bytes (kept_of backlogs.now)) }
+    ensures spelled { OnOk result (out.new.items ≡ out.old.items ++ flat_map backlog_bytes (kept_of backlogs.now)) }
+    ensures fits { OnOk result (All HasBacklogBytes (kept_of backlogs.now)) }
 {
     for backlog in backlogs {
         backlog.put(out)?;
@@ -347,7 +368,7 @@ fn make_room(backlogs: &mut [Backlog], book: &LogBook, account: u32) -> Result<(
 }
 
 /// Makes room for a credit to each target. Where memory runs out some of it is made.
-fn make_room_to(
+pub(crate) fn make_room_to(
     backlogs: &mut [Backlog],
     book: &LogBook,
     targets: &Targets,

@@ -4,12 +4,15 @@
 #![tactic(auto)]
 
 mod backlog;
+mod checking;
 mod compact;
 mod credits;
 mod entry;
 mod logs;
 mod node;
 mod reading;
+mod restoring;
+mod rooms;
 mod saving;
 mod spelling;
 mod tail;

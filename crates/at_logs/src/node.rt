@@ -12,6 +12,7 @@ use crate::compact::Compact;
 use crate::entry::{Entry, EntryMessage};
 use crate::logs::logs_of;
 use crate::reading::read_entry;
+use crate::restoring::read_saved;
 use crate::saving::{SNAPSHOT_VERSION, put_tails};
 use crate::spelling::{entry_bytes, hash_of, put_raw};
 use crate::tail::{ENTRIES_MAX, Tail, is_same};
@@ -81,7 +82,8 @@ impl Node {
     ghost use Rattle.at_logs.specs.Draft.{CanPay, IsDraft};
     ghost use Rattle.at_logs.specs.Prelude.{Covers, IsValid, Message, Reached, left};
     ghost use Rattle.at_logs.specs.SameLogs.{HasReadLogs, LogBytes};
-    ghost use Rattle.at_logs.specs.Snapshot.{snapshot_bytes};
+    ghost use Rattle.at_logs.specs.Reading.{NodeTerms};
+    ghost use Rattle.at_logs.specs.Snapshot.{WritesSnapshot, snapshot_bytes};
     ghost use Rattle.at_logs.specs.Telling.{IsFirstUntold, IsNextWithin, IsUntold};
     ghost use Rattle.at_logs.specs.declared.node.Answer.{Answer};
 
@@ -104,6 +106,37 @@ impl Node {
             hash: *hash,
             core,
             tails,
+        }))
+    }
+
+    /// The node that wrote these bytes as its snapshot, of a book with this hash: with the rest of the logs it is the node that stopped. None
+    /// comes where no node of the book and hash writes them. It takes memory in proportion to the book and the bytes that are there, whatever
+    /// lengths these tell.
+    pub fn restore(
+        alloc: Global,
+        book: &Book,
+        hash: &[u8; 32],
+        bytes: &[u8],
+    ) -> Result<Option<Node>, AllocError>
+        ensures { IfOk result (λ found. (n : NodeTerms) → (found ≡ Some n) ↔ WritesSnapshot book.now hash.now bytes.now n) }
+    {
+        let Some(logs) = logs_of(alloc, book)? else {
+            return Ok(None);
+        };
+        book.known();
+        let Some(saved) = read_saved(alloc, logs, bytes)? else {
+            return Ok(None);
+        };
+        if !saved.is_node_of(alloc, hash)? {
+            return Ok(None);
+        }
+        let copy = book.copy(alloc)?;
+        let core = Compact::restore(saved.core)?;
+        Ok(Some(Node {
+            book: copy,
+            hash: *hash,
+            core,
+            tails: saved.tails,
         }))
     }
 
@@ -471,10 +504,12 @@ impl Node {
         }
     }
 
-    /// All that the node keeps, as bytes. They name its book by its hash.
+    /// All that the node keeps, as bytes. They name its book by its hash. `restore` gives just this node of them.
     pub fn snapshot(&self, alloc: Global) -> Result<Vec<u8>, AllocError>
-        ensures { IfOk result (λ bytes. bytes.items ≡ snapshot_bytes self.now) }
+        ensures spelled { IfOk result (λ bytes. bytes.items ≡ snapshot_bytes self.now) }
+        ensures writes { IfOk result (λ bytes. WritesSnapshot self.now.book self.now.hash bytes.items self.now) }
     {
+        self.core.known();
         let mut out = Vec::new(alloc);
         out.push(SNAPSHOT_VERSION)?;
         put_raw(&mut out, &self.hash)?;

@@ -21,7 +21,7 @@ struct Head {
     before: [u8; 32],
 }
 
-fn byte_of(bytes: &[u8]) -> Option<(u8, &[u8])>
+pub(crate) fn byte_of(bytes: &[u8]) -> Option<(u8, &[u8])>
     ensures { option_map (λ x. (x.0, x.1.now)) result ≡ read_byte bytes.now }
 {
     match bytes {
@@ -30,7 +30,7 @@ fn byte_of(bytes: &[u8]) -> Option<(u8, &[u8])>
     }
 }
 
-fn raw_of<const N: usize>(bytes: &[u8]) -> Option<([u8; N], &[u8])>
+pub(crate) fn raw_of<const N: usize>(bytes: &[u8]) -> Option<([u8; N], &[u8])>
     ensures { option_map (λ x. (x.0, x.1.now)) result ≡ read_raw N bytes.now }
 {
     if bytes.len() < N {
@@ -42,21 +42,21 @@ fn raw_of<const N: usize>(bytes: &[u8]) -> Option<([u8; N], &[u8])>
     Some((raw, rest))
 }
 
-fn u32_of(bytes: &[u8]) -> Option<(u32, &[u8])>
+pub(crate) fn u32_of(bytes: &[u8]) -> Option<(u32, &[u8])>
     ensures { option_map (λ x. (x.0, x.1.now)) result ≡ read_number w32 bytes.now }
 {
     let (number, rest) = raw_of::<4>(bytes)?;
     Some((u32::from_be_bytes(number), rest))
 }
 
-fn u64_of(bytes: &[u8]) -> Option<(u64, &[u8])>
+pub(crate) fn u64_of(bytes: &[u8]) -> Option<(u64, &[u8])>
     ensures { option_map (λ x. (x.0, x.1.now)) result ≡ read_number w64 bytes.now }
 {
     let (number, rest) = raw_of::<8>(bytes)?;
     Some((u64::from_be_bytes(number), rest))
 }
 
-fn below(limit: u32, bytes: &[u8]) -> Option<(u32, &[u8])>
+pub(crate) fn below(limit: u32, bytes: &[u8]) -> Option<(u32, &[u8])>
     ensures read { option_map (λ x. (x.0, x.1.now)) result ≡ read_below limit bytes.now }
     ensures below { IfSome result (λ x. x.0 < limit) }
 {
@@ -78,7 +78,7 @@ fn target_of(accounts: u32, bytes: &[u8]) -> Option<((u32, u64), &[u8])>
 }
 
 /// So many counts.
-fn counts_of(logs: u32, bytes: &[u8]) -> Option<(LogCounts, &[u8])>
+pub(crate) fn counts_of(logs: u32, bytes: &[u8]) -> Option<(LogCounts, &[u8])>
     requires some { 1 ≤ logs }
     requires few { logs ≤ most_logs }
     ensures { option_map (λ x. (x.0, x.1.now)) result ≡ read_items (read_number w32) logs bytes.now }
@@ -111,7 +111,7 @@ fn so_many_targets(accounts: u32, count: u8, bytes: &[u8]) -> Option<(Targets, &
     Some((targets, rest))
 }
 
-fn targets_of(accounts: u32, bytes: &[u8]) -> Option<(Targets, &[u8])>
+pub(crate) fn targets_of(accounts: u32, bytes: &[u8]) -> Option<(Targets, &[u8])>
     requires { accounts ≤ 2 ^ 16 }
     ensures { option_map (λ x. (x.0, x.1.now)) result ≡ read_listed most_targets (read_target accounts) bytes.now }
 {
