@@ -44,6 +44,7 @@ PATHS = [
     (["at_files", "at_orders"], paths("indexmap::IndexSet indexmap::IndexSet::new")),
     (["at_orders"], paths("indexmap::IndexMap indexmap::IndexMap::new std::slice::from_ref")),
     (["at_logs"], paths("sha2::Digest sha2::Sha256 sha2::Sha256::digest")),
+    (["at_follow"], paths("hex::FromHexError hex::FromHexError::OutOfMemory hex::decode hex::encode")),
     (["at_files"], paths("""
         csv::ByteRecord csv::ByteRecord::new csv::Reader csv::ReaderBuilder csv::ReaderBuilder::new memchr::memchr2
     """)),
@@ -76,7 +77,7 @@ METHODS = set("""
     all alloc any as_bytes as_mut_slice as_ref as_str capacity checked_add checked_mul checked_sub clear contains copied copy_from_slice
     enumerate extend_from_slice filter flexible flush fold format free from_reader get get_index_of get_mut has_headers insert into_iter
     is_ascii_digit is_ascii_lowercase is_empty is_err is_none is_null is_ok is_some iter iter_mut len map map_err max min new next
-    partition_point pop pop_first pop_front push push_back_reserved push_reserved read_byte_record reserve resize retain saturating_add saturating_mul saturating_sub
+    partition_point pop pop_first pop_front push push_back push_back_reserved push_reserved read_byte_record reserve resize retain saturating_add saturating_mul saturating_sub
     skip split_at split_first stderr stdout strip_prefix take to_be_bytes to_vec truncate try_extend_from_slice unwrap unwrap_or wrapping_add wrapping_mul zip
 """.split())
 
@@ -255,6 +256,7 @@ PLACES = """
     at_logs/compact.rt settle: while
     at_logs/node.rt reaches: while
     at_logs/node.rt tell_to: while
+    at_follow/following.rt tell_all: while
     at_commands/commanding.rt answer_by: FnOnce
     at_commands/commanding.rt command_text: FnOnce load
     at_commands/given.rt words_given: AllocGlobal

@@ -1,0 +1,5 @@
+pub mod Prelude
+pub mod LogFileLaws
+pub mod GivingLaws
+pub mod TellingEach
+pub mod TextLaws

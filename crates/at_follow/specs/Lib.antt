@@ -1,0 +1,4 @@
+pub mod Prelude
+pub mod LogFile
+pub mod Following
+pub mod FollowText
